@@ -1,0 +1,14 @@
+pub mod Automaton
+pub mod ContextRun
+pub mod Accessible
+pub mod Coaccessible
+pub mod Acyclic
+pub mod Distinguishable
+pub mod Order
+pub mod Numbered
+pub mod Canonical
+pub mod Renumber
+pub mod Minimal
+pub mod Product
+pub mod Change
+pub mod Valid

@@ -1,0 +1,38 @@
+-- The position of a key in a list, the numbers of an interval, and pairs of numbers.
+use mathlib.Core.Bool.{Bool, _&&_, cond}
+use mathlib.Core.List.{List, [], _++_, _∷_}
+use Prim.Native.Nat.{suc, zero, ℕ}
+use lib.Dec.{eqb}
+
+-- one further from the start; 0, which means "not there", stays 0
+abbrev pub shift : ℕ → ℕ
+shift zero = zero
+shift (suc k) = suc (suc k)
+
+-- the position of a key in a list, from 1; 0 where it is not there
+abbrev pub position : {K : Type 0} → (K → K → Bool) → List K → K → ℕ
+position eq [] k = 0
+position eq (x ∷ xs) k = cond (eq k x) 1 (shift (position eq xs k))
+
+-- the n numbers k, k + 1, .. in order
+abbrev pub upFrom : ℕ → ℕ → List ℕ
+upFrom k zero = []
+upFrom k (suc n) = k ∷ upFrom (suc k) n
+
+-- a pair of numbers
+abbrev pub Pair : Type 0
+Pair = ℕ × ℕ
+
+-- two pairs are equal
+abbrev pub eqPair : Pair → Pair → Bool
+eqPair j k = eqb (j .0) (k .0) && eqb (j .1) (k .1)
+
+-- p with each of a list
+abbrev pub row : ℕ → List ℕ → List Pair
+row p [] = []
+row p (q ∷ qs) = (p, q) ∷ row p qs
+
+-- each of one list with each of another
+abbrev pub grid : List ℕ → List ℕ → List Pair
+grid [] qs = []
+grid (p ∷ ps) qs = row p qs ++ grid ps qs

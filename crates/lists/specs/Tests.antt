@@ -1,0 +1,36 @@
+-- Membership in a list, and tests over lists that compute.
+use mathlib.Core.Bool.{Bool, _&&_, _||_, cond, false, true}
+use mathlib.Core.List.{List, [], _∷_}
+use mathlib.Core.Logic.{_⊎_}
+use mathlib.Core.Path.{_≡_}
+use Prim.Native.Nat.{ℕ}
+use lib.Dec.{eqb}
+
+module _ {A : Type 0} where
+  -- x stands in the list
+  infix 4 _∈_
+  abbrev pub _∈_ : A → List A → Type 0
+  x ∈ [] = ⊥
+  x ∈ (y ∷ ys) = (x ≡ y) ⊎ (x ∈ ys)
+
+  -- every element passes the test
+  abbrev pub every : (A → Bool) → List A → Bool
+  every p [] = true
+  every p (x ∷ xs) = p x && every p xs
+
+  -- some element passes the test
+  abbrev pub any : (A → Bool) → List A → Bool
+  any p [] = false
+  any p (x ∷ xs) = p x || any p xs
+
+  -- the elements that pass the test, in their order
+  abbrev pub filter : (A → Bool) → List A → List A
+  filter p [] = []
+  filter p (x ∷ xs) = let r = filter p xs in cond (p x) (x ∷ r) r
+
+-- two lists of numbers are equal
+abbrev pub sameList : List ℕ → List ℕ → Bool
+sameList [] [] = true
+sameList [] (y ∷ ys) = false
+sameList (x ∷ xs) [] = false
+sameList (x ∷ xs) (y ∷ ys) = eqb x y && sameList xs ys

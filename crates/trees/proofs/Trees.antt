@@ -1,0 +1,58 @@
+-- Laws of equality, of forests and of contexts.
+use mathlib.Core.Bool.{false≢true, true}
+use mathlib.Core.List.{[], _∷_}
+use mathlib.Core.Path.{_≡_, refl}
+use Prim.Native.Nat.{_+_, _≤_}
+use native.Mathlib.Omega.{arith}
+use lib.Dec.{eqb}
+use lib.ListN.{length}
+use borrow.Author.Tests.{eq-eqb, eqb-true}
+use Rattle.trees.specs.Context.{Context, fill, plug}
+use Rattle.trees.specs.Tree.{Forest, Tree, _⧺_, cons, depth, depths, eqForest, eqTree, nil, node}
+use Rattle.lists.proofs.Tests.{and-both, and-left, and-right}
+
+mutual
+  pub eqTree-true : (t u : Tree) → eqTree t u ≡ true → t ≡ u
+  eqTree-true (node a f) (node b g) e =
+      cc (
+        eqb-true a b (and-left (eqb a b) (eqForest f g) e),
+        eqForest-true f g
+            (and-right (eqb a b) (eqForest f g) e),
+      )
+
+  pub eqForest-true : (f g : Forest) → eqForest f g ≡ true → f ≡ g
+  eqForest-true nil nil e = refl
+  eqForest-true nil (cons u g) e = absurd (false≢true e)
+  eqForest-true (cons t f) nil e = absurd (false≢true e)
+  eqForest-true (cons t f) (cons u g) e =
+      cc (
+        eqTree-true t u (and-left (eqTree t u) (eqForest f g) e),
+        eqForest-true f g
+            (and-right (eqTree t u) (eqForest f g) e),
+      )
+
+mutual
+  pub eqTree-same : (t : Tree) → eqTree t t ≡ true
+  eqTree-same (node a f) = and-both (eq-eqb a a refl) (eqForest-same f)
+
+  eqForest-same : (f : Forest) → eqForest f f ≡ true
+  eqForest-same nil = refl
+  eqForest-same (cons t f) = and-both (eqTree-same t) (eqForest-same f)
+
+pub append-assoc : (b : Forest) (t : Tree) (f : Forest) → (b ⧺ cons t nil) ⧺ f ≡ b ⧺ cons t f
+append-assoc nil t f = refl
+append-assoc (cons u b) t f = rw (append-assoc b t f)
+
+-- every tree of the forest
+abbrev pub AllTrees : (Tree → Type 0) → Forest → Type 0
+AllTrees P nil = Unit {0}
+AllTrees P (cons t f) = P t × AllTrees P f
+
+-- the other way: a way back can be gone any number of times
+pub depths-here : (b : Forest) (t : Tree) (c : Forest) → depth t ≤ depths (b ⧺ cons t c)
+depths-here nil t c = omega arith
+depths-here (cons u b) t c = omega (arith, depths-here b t c)
+
+pub depth-plug : (c : Context) (t : Tree) → depth t + length c ≤ depth (plug c t)
+depth-plug [] t = omega arith
+depth-plug (f ∷ c) t = omega (arith, depth-plug c (fill f t), depths-here (f .before) t (f .after))
