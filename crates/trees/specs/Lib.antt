@@ -1,2 +1,4 @@
 pub mod Tree
 pub mod Context
+pub mod Listing
+pub mod Legal

@@ -1,0 +1,63 @@
+-- The widths and limits of document 01, each stated once. The constants of src/lib.rt are the same numbers.
+use Prim.Native.Nat.{_*_, _+_, _<_, ℕ}
+use mathlib.Core.List.{List}
+use lib.ListN.{getD}
+
+-- a label is 1 to 255
+abbrev pub maxLabel : ℕ
+maxLabel = 255
+
+-- the children of a node, and the arguments of a transition
+abbrev pub maxArity : ℕ
+maxArity = 8
+
+-- a listing has one byte of label and one of child count a node, for at most 48 nodes
+abbrev pub labelBytes : ℕ
+labelBytes = 1
+
+abbrev pub nodeBytes : ℕ
+nodeBytes = labelBytes + 1
+
+abbrev pub maxNodes : ℕ
+maxNodes = 48
+
+abbrev pub maxListing : ℕ
+maxListing = nodeBytes * maxNodes
+
+-- a table has a byte for the number of states, one for each state's class, and two for the number of
+-- transitions, high byte first
+abbrev pub maxStates : ℕ
+maxStates = 200
+
+abbrev pub maxTransitions : ℕ
+maxTransitions = 1024
+
+abbrev pub countAt : ℕ
+countAt = maxStates + 1
+
+abbrev pub headBytes : ℕ
+headBytes = maxStates + 3
+
+-- a transition has its label, the number of its arguments, the arguments and its output
+abbrev pub argsAt : ℕ
+argsAt = labelBytes + 1
+
+abbrev pub outAt : ℕ
+outAt = argsAt + maxArity
+
+abbrev pub transitionBytes : ℕ
+transitionBytes = outAt + 1
+
+abbrev pub tableBytes : ℕ
+tableBytes = headBytes + transitionBytes * maxTransitions
+
+-- the scratch has room for the transitions of a product
+abbrev pub maxProduct : ℕ
+maxProduct = 3072
+
+abbrev pub scratchBytes : ℕ
+scratchBytes = transitionBytes * maxProduct
+
+-- what a slice of bytes holds
+abbrev pub AllBytes : List ℕ → Type 0
+AllBytes s = (i : ℕ) → getD s i 0 < 256

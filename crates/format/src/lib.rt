@@ -1,0 +1,29 @@
+// The widths and limits of document 01 for code. specs/Format.antt has the same numbers, and says what each is.
+
+pub const MAX_ARITY: usize = 8;
+
+pub const NODE_BYTES: usize = 2;
+
+pub const MAX_NODES: usize = 48;
+
+pub const MAX_LISTING: usize = 96;
+
+pub const MAX_STATES: usize = 200;
+
+pub const MAX_TRANSITIONS: usize = 1024;
+
+pub const COUNT_AT: usize = 201;
+
+pub const HEAD_BYTES: usize = 203;
+
+pub const ARGS_AT: usize = 2;
+
+pub const OUT_AT: usize = 10;
+
+pub const TRANSITION_BYTES: usize = 11;
+
+pub const TABLE_BYTES: usize = 11467;
+
+pub const MAX_PRODUCT: usize = 3072;
+
+pub const SCRATCH_BYTES: usize = 33792;

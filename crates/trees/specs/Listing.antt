@@ -1,0 +1,92 @@
+-- The listing of a tree: label and child count of each node, node first, then its children's listings.
+use mathlib.Core.Bool.{Bool, _&&_, false, not, true}
+use mathlib.Core.List.{List, [], _++_, _∷_}
+use Prim.Native.Nat.{_%_, _*_, _+_, _/_, suc, zero, ℕ}
+use lib.Dec.{eqb, leb}
+use lib.ListN.{getD, length}
+use Rattle.format.specs.Format.{labelBytes, maxArity, maxListing, nodeBytes}
+use Rattle.lists.specs.Conditions.{Condition, condition, firstBroken}
+use Rattle.lists.specs.Positions.{upFrom}
+use Rattle.lists.specs.Tests.{every}
+use Rattle.trees.specs.Tree.{Forest, Tree, cons, count, nil, node}
+
+abbrev mutual
+  pub listing : Tree → List ℕ
+  listing (node a f) = a ∷ count f ∷ listings f
+
+  pub listings : Forest → List ℕ
+  listings nil = []
+  listings (cons t f) = listing t ++ listings f
+
+-- the bytes list exactly k trees: each node takes one of the trees still to come and adds its children
+abbrev pub listsTrees : List ℕ → ℕ → Bool
+listsTrees [] zero = true
+listsTrees [] (suc k) = false
+listsTrees (a ∷ []) zero = false
+listsTrees (a ∷ []) (suc k) = false
+listsTrees (a ∷ c ∷ s) zero = false
+listsTrees (a ∷ c ∷ s) (suc k) = listsTrees s (c + k)
+
+-- the first k trees of a list of trees, and those after them
+abbrev pub firstTrees : ℕ → Forest → Forest
+firstTrees zero f = nil
+firstTrees (suc k) nil = nil
+firstTrees (suc k) (cons t f) = cons t (firstTrees k f)
+
+abbrev pub laterTrees : ℕ → Forest → Forest
+laterTrees zero f = f
+laterTrees (suc k) nil = nil
+laterTrees (suc k) (cons t f) = laterTrees k f
+
+-- the trees that the bytes list, read from the end: a node takes its children off the trees behind it
+abbrev pub readTrees : List ℕ → Forest
+readTrees [] = nil
+readTrees (a ∷ []) = nil
+readTrees (a ∷ c ∷ s) = let f = readTrees s in cons (node a (firstTrees c f)) (laterTrees c f)
+
+-- the first tree of a list of trees; any tree where there is none
+abbrev pub firstTree : Forest → Tree
+firstTree nil = node 0 nil
+firstTree (cons t f) = t
+
+-- the tree that the bytes list, where they list one
+abbrev pub readTree : List ℕ → Tree
+readTree s = firstTree (readTrees s)
+
+-- the fields of node i, and the number of nodes
+abbrev pub labelAt : List ℕ → ℕ → ℕ
+labelAt s i = getD s (nodeBytes * i) 0
+
+abbrev pub childrenAt : List ℕ → ℕ → ℕ
+childrenAt s i = getD s (nodeBytes * i + labelBytes) 0
+
+abbrev pub nodesIn : List ℕ → ℕ
+nodesIn s = length s / nodeBytes
+
+-- node i has a label, and no more children than a node may have
+abbrev pub labelled : List ℕ → ℕ → Bool
+labelled s i = not (eqb (labelAt s i) 0)
+
+abbrev pub narrow : List ℕ → ℕ → Bool
+narrow s i = leb (childrenAt s i) maxArity
+
+-- 01's conditions on a listing; 2 and 3 look at every node, also behind the first tree
+unfoldable pub wholeNodes : List ℕ → Bool
+wholeNodes s = leb nodeBytes (length s) && leb (length s) maxListing && eqb (length s % nodeBytes) 0
+
+unfoldable pub allLabelled : List ℕ → Bool
+allLabelled s = every (labelled s) (upFrom 0 (nodesIn s))
+
+unfoldable pub allNarrow : List ℕ → Bool
+allNarrow s = every (narrow s) (upFrom 0 (nodesIn s))
+
+unfoldable pub oneTree : List ℕ → Bool
+oneTree s = listsTrees s 1
+
+unfoldable pub listingConditions : List ℕ → List Condition
+listingConditions s =
+    condition 1 (wholeNodes s) ∷ condition 2 (allLabelled s) ∷ condition 3 (allNarrow s) ∷ condition 4 (oneTree s) ∷ []
+
+-- refusals 1 to 4: the number of the first condition broken, or 0
+unfoldable pub listingRefusal : List ℕ → ℕ
+listingRefusal s = firstBroken (listingConditions s)
