@@ -1,0 +1,62 @@
+-- No condition is broken exactly when all hold; of two lists, the first decides where it is broken.
+use mathlib.Core.Bool.{Bool, cond, false, true}
+use mathlib.Core.List.{List, [], _++_, _∷_}
+use mathlib.Core.Logic.{_≢_}
+use mathlib.Core.Path.{_≡_, refl}
+use Prim.Native.Nat.{_≤_}
+use native.Mathlib.Omega.{arith}
+use lib.Dec.{eqb}
+use borrow.Author.Tests.{ne-eqb}
+use Rattle.lists.specs.Conditions.{Condition, firstBroken}
+
+-- every condition holds
+abbrev pub AllHold : List Condition → Type 0
+AllHold [] = Unit {0}
+AllHold (c ∷ cs) = (c .holds ≡ true) × AllHold cs
+
+-- refusals are numbered from 1
+abbrev pub FromOne : List Condition → Type 0
+FromOne [] = Unit {0}
+FromOne (c ∷ cs) = (1 ≤ c .refusal) × FromOne cs
+
+pub hold-unbroken : (cs : List Condition) → AllHold cs → firstBroken cs ≡ 0
+hold-unbroken [] h = refl
+hold-unbroken (c ∷ cs) h = rw (h .0) (hold-unbroken cs (h .1))
+
+pub unbroken-hold : (cs : List Condition) → FromOne cs → firstBroken cs ≡ 0 → AllHold cs
+unbroken-hold [] n e = tt
+unbroken-hold (c ∷ cs) n e = go (c .holds) refl (unbroken-hold cs (n .1)) e
+  where
+    go : (b : Bool) → c .holds ≡ b → (firstBroken cs ≡ 0 → AllHold cs) →
+        cond b (firstBroken cs) (c .refusal) ≡ 0 → (c .holds ≡ true) × AllHold cs
+    go true h ih e = (h, ih e)
+    go false h ih e = absurd (omega (arith, n .0))
+
+-- conditions that hold may be left out
+pub hold-first : (cs ds : List Condition) → AllHold cs → firstBroken (cs ++ ds) ≡ firstBroken ds
+hold-first [] ds h = refl
+hold-first (c ∷ cs) ds h = rw (h .0) (hold-first cs ds (h .1))
+
+-- where the first list is broken, what follows does not matter
+pub broken-first : (cs ds es : List Condition) → FromOne cs → firstBroken cs ≢ 0 →
+    firstBroken (cs ++ ds) ≡ firstBroken (cs ++ es)
+broken-first [] ds es n h = absurd (h refl)
+broken-first (c ∷ cs) ds es n h = go (c .holds) refl (broken-first cs ds es (n .1)) h
+  where
+    go : (b : Bool) → c .holds ≡ b → (firstBroken cs ≢ 0 → firstBroken (cs ++ ds) ≡ firstBroken (cs ++ es)) →
+        cond b (firstBroken cs) (c .refusal) ≢ 0 →
+        cond b (firstBroken (cs ++ ds)) (c .refusal) ≡ cond b (firstBroken (cs ++ es)) (c .refusal)
+    go true e ih k = ih k
+    go false e ih k = refl
+
+-- a list and what follows it: the first decides where it is broken
+pub firstBroken-append : (cs ds : List Condition) → FromOne cs →
+    firstBroken (cs ++ ds) ≡ cond (eqb (firstBroken cs) 0) (firstBroken ds) (firstBroken cs)
+firstBroken-append [] ds n = refl
+firstBroken-append (c ∷ cs) ds n = go (c .holds) (firstBroken-append cs ds (n .1))
+  where
+    go : (b : Bool) → firstBroken (cs ++ ds) ≡ cond (eqb (firstBroken cs) 0) (firstBroken ds) (firstBroken cs) →
+        cond b (firstBroken (cs ++ ds)) (c .refusal) ≡
+        cond (eqb (cond b (firstBroken cs) (c .refusal)) 0) (firstBroken ds) (cond b (firstBroken cs) (c .refusal))
+    go true ih = ih
+    go false ih = rw (ne-eqb (c .refusal) 0 (λ e. omega (arith, n .0)))
