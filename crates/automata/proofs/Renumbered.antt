@@ -25,7 +25,7 @@ use Rattle.automata.proofs.Sorting.{OneTransition, in-sort, sort-in, so
 use Rattle.automata.proofs.Unique.{children}
 use Rattle.lists.proofs.Positions.{upFrom-in}
 use Rattle.lists.proofs.Tests.{and-both, and-left, and-right, in-every, in-map, map-in}
-use Rattle.trees.proofs.Trees.{AllTrees, append-assoc}
+use Rattle.trees.proofs.Trees.{AllTrees, snoc-append}
 
 and-not : (a b : Bool) → a ≡ true → (a && not b) ≡ false → b ≡ true
 and-not true true e s = refl
@@ -105,7 +105,7 @@ module _ (S : Tree → Bool) (g : Tree → ℕ) (Q : List Transition) (G : Group
   equivalent-after a b (cons t f) (cons u h) p q e c =
       G .separates t u (p .0) (q .0) (head-same (g t) (g u) (eachTree g f) (eachTree g h) e)
       (record { label = a; before = b; after = f } ∷ c)
-      ∙ rw (append-assoc b u f, append-assoc b u h) at
+      ∙ rw (snoc-append b u f, snoc-append b u h) at
       (equivalent-after a (b ⧺ cons u nil) f h (p .1) (q .1)
       (tail-same (g t) (g u) (eachTree g f) (eachTree g h) e) c)
 

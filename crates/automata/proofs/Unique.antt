@@ -19,7 +19,7 @@ use Rattle.trees.specs.Tree.{Forest, Tree, _⧺_, cons, nil, node}
 use Rattle.automata.proofs.Order.{Opening, first-opening, lex-irrefl, lex-trans, rising-unique}
 use Rattle.lists.proofs.Positions.{in-upFrom}
 use Rattle.lists.proofs.Tests.{and-both, and-left, and-right, every-in}
-use Rattle.trees.proofs.Trees.{AllTrees, append-assoc}
+use Rattle.trees.proofs.Trees.{AllTrees, snoc-append}
 
 -- the children of a part are parts
 module _ (S : Tree → Bool) (a : ℕ) where
@@ -28,7 +28,7 @@ module _ (S : Tree → Bool) (a : ℕ) where
   children-after b (cons t f) p = (
     (record { label = a; before = b; after = f } ∷ p .0, p .1),
     children-after (b ⧺ cons t nil) f
-        (rw (append-assoc b t f) p),
+        (rw (snoc-append b t f) p),
   )
 
   pub children : (f : Forest) → Subtree S (node a f) → AllTrees (Subtree S) f

@@ -1,1 +1,3 @@
 pub mod Trees
+pub mod Listing
+pub mod ListingRefusal

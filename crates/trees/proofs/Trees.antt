@@ -39,9 +39,9 @@ mutual
   eqForest-same nil = refl
   eqForest-same (cons t f) = and-both (eqTree-same t) (eqForest-same f)
 
-pub append-assoc : (b : Forest) (t : Tree) (f : Forest) → (b ⧺ cons t nil) ⧺ f ≡ b ⧺ cons t f
-append-assoc nil t f = refl
-append-assoc (cons u b) t f = rw (append-assoc b t f)
+pub snoc-append : (b : Forest) (t : Tree) (f : Forest) → (b ⧺ cons t nil) ⧺ f ≡ b ⧺ cons t f
+snoc-append nil t f = refl
+snoc-append (cons u b) t f = rw (snoc-append b t f)
 
 -- every tree of the forest
 abbrev pub AllTrees : (Tree → Type 0) → Forest → Type 0

@@ -1,0 +1,179 @@
+-- Reading undoes listing, listing undoes reading, and what passes 1 to 4 is the listing of a legal tree.
+use mathlib.Core.Bool.{false≢true, true}
+use mathlib.Core.List.{List, [], _++_, _∷_, append-assoc}
+use mathlib.Core.Path.{_∙_, _≡_, ap, refl, subst, subst₂, sym}
+use Prim.Native.Nat.{_*_, _+_, _<_, _≤_, suc, zero, ℕ}
+use native.Mathlib.Nat.{suc-add, zero-add}
+use native.Mathlib.Omega.{arith}
+use Rattle.format.specs.Format.{labelBytes, nodeBytes}
+use Rattle.trees.specs.Legal.{AllLegal, Legal, LegalNode}
+use Rattle.trees.specs.Listing.{childrenAt, firstTree, firstTrees, labelAt, laterTrees, listing, listings}
+use Rattle.trees.specs.Listing.{listsTrees, nodesIn, oneTree, readTree, readTrees}
+use Rattle.trees.specs.Tree.{Forest, Tree, _⧺_, cons, count, nil, node}
+
+-- ---- reading undoes listing
+
+first-append : (f g : Forest) → firstTrees (count f) (f ⧺ g) ≡ f
+first-append nil g = refl
+first-append (cons t f) g = rw (first-append f g)
+
+later-append : (f g : Forest) → laterTrees (count f) (f ⧺ g) ≡ g
+later-append nil g = refl
+later-append (cons t f) g = later-append f g
+
+mutual
+  read-tree : (t : Tree) (s : List ℕ) → readTrees (listing t ++ s) ≡ cons t (readTrees s)
+  read-tree (node a f) s = go (read-trees f s)
+    where
+      go : readTrees (listings f ++ s) ≡ f ⧺ readTrees s →
+          cons (node a (firstTrees (count f) (readTrees (listings f ++ s)))) (laterTrees (count f) (readTrees (listings f ++ s))) ≡
+          cons (node a f) (readTrees s)
+      go e = rw (e, first-append f (readTrees s), later-append f (readTrees s))
+
+  pub read-trees : (f : Forest) (s : List ℕ) → readTrees (listings f ++ s) ≡ f ⧺ readTrees s
+  read-trees nil s = refl
+  read-trees (cons t f) s = go (read-tree t (listings f ++ s)) (read-trees f s)
+    where
+      go : readTrees (listing t ++ (listings f ++ s)) ≡ cons t (readTrees (listings f ++ s)) →
+          readTrees (listings f ++ s) ≡ f ⧺ readTrees s →
+          readTrees ((listing t ++ listings f) ++ s) ≡ cons t (f ⧺ readTrees s)
+      go d e = rw append-assoc (d ∙ ap (cons t) e)
+
+pub append-none : (s : List ℕ) → s ++ [] ≡ s
+append-none [] = refl
+append-none (x ∷ s) = rw (append-none s)
+
+-- the reader gives back the tree that was listed
+pub read-listing : (t : Tree) → readTree (listing t) ≡ t
+read-listing t = ap (λ (s : List ℕ). readTree s) (sym (append-none (listing t))) ∙ ap firstTree (read-tree t [])
+
+mutual
+  tree-lists : (t : Tree) (s : List ℕ) (k : ℕ) → listsTrees (listing t ++ s) (suc k) ≡ listsTrees s k
+  tree-lists (node a f) s k = trees-list f s k
+
+  pub trees-list : (f : Forest) (s : List ℕ) (k : ℕ) → listsTrees (listings f ++ s) (count f + k) ≡ listsTrees s k
+  trees-list nil s k = rw (zero-add k)
+  trees-list (cons t f) s k = go (tree-lists t (listings f ++ s) (count f + k)) (trees-list f s k)
+    where
+      go : listsTrees (listing t ++ (listings f ++ s)) (suc (count f + k)) ≡ listsTrees (listings f ++ s) (count f + k) →
+          listsTrees (listings f ++ s) (count f + k) ≡ listsTrees s k →
+          listsTrees ((listing t ++ listings f) ++ s) (suc (count f) + k) ≡ listsTrees s k
+      go d e = rw (append-assoc (listing t) (listings f) s, suc-add (count f) k) (d ∙ e)
+
+-- the listing of a tree lists exactly one tree
+pub listing-one : (t : Tree) → oneTree (listing t) ≡ true
+unfolding oneTree
+listing-one t = ap (λ (s : List ℕ). listsTrees s 1) (sym (append-none (listing t))) ∙ tree-lists t [] 0
+
+-- ---- listing undoes reading
+
+first-count : (c : ℕ) (f : Forest) → c ≤ count f → count (firstTrees c f) ≡ c
+first-count zero f h = refl
+first-count (suc c) nil h = absurd (omega arith)
+first-count (suc c) (cons t f) h = ap suc (first-count c f (omega arith))
+
+later-count : (c k : ℕ) (f : Forest) → count f ≡ c + k → count (laterTrees c f) ≡ k
+later-count zero k f h = omega arith
+later-count (suc c) k nil h = absurd (omega arith)
+later-count (suc c) k (cons t f) h = later-count c k f (omega arith)
+
+first-later : (c : ℕ) (f : Forest) → listings (firstTrees c f) ++ listings (laterTrees c f) ≡ listings f
+first-later zero f = refl
+first-later (suc c) nil = refl
+first-later (suc c) (cons t f) =
+    append-assoc (listing t) (listings (firstTrees c f)) (listings (laterTrees c f)) ∙ ap (λ s. listing t ++ s) (first-later c f)
+
+-- bytes that list k trees are their listing
+pub listings-read : (s : List ℕ) (k : ℕ) → listsTrees s k ≡ true → (listings (readTrees s) ≡ s) × (count (readTrees s) ≡ k)
+listings-read [] zero e = (refl, refl)
+listings-read [] (suc k) e = absurd (false≢true e)
+listings-read (a ∷ []) zero e = absurd (false≢true e)
+listings-read (a ∷ []) (suc k) e = absurd (false≢true e)
+listings-read (a ∷ c ∷ s) zero e = absurd (false≢true e)
+listings-read (a ∷ c ∷ s) (suc k) e = go (listings-read s (c + k) e)
+  where
+    go : (listings (readTrees s) ≡ s) × (count (readTrees s) ≡ c + k) →
+        (_≡_ {A = List ℕ} (a ∷ count (firstTrees c (readTrees s)) ∷
+        (listings (firstTrees c (readTrees s)) ++ listings (laterTrees c (readTrees s)))) (a ∷ c ∷ s)) ×
+        (suc (count (laterTrees c (readTrees s))) ≡ suc k)
+    go (l, n) =
+        let p = first-count c (readTrees s) (omega arith) in
+        let q = first-later c (readTrees s) ∙ l in
+        (λ i. a ∷ p i ∷ q i, ap suc (later-count c k (readTrees s) n))
+
+one-listing : (f : Forest) → count f ≡ 1 → listing (firstTree f) ≡ listings f
+one-listing nil e = absurd (omega arith)
+one-listing (cons t nil) e = sym (append-none (listing t))
+one-listing (cons t (cons u f)) e = absurd (omega arith)
+
+-- the tree that is read has the bytes as its listing
+pub listing-read : (s : List ℕ) → oneTree s ≡ true → listing (readTree s) ≡ s
+unfolding oneTree
+listing-read s e = let r = listings-read s 1 e in one-listing (readTrees s) (r .1) ∙ r .0
+
+-- ---- legal trees
+
+-- every node of the bytes is legal
+abbrev pub LegalNodes : List ℕ → Type 0
+LegalNodes [] = Unit {0}
+LegalNodes (a ∷ []) = Unit {0}
+LegalNodes (a ∷ c ∷ s) = LegalNode a c × LegalNodes s
+
+two-more : (i : ℕ) → nodeBytes * suc i ≡ suc (suc (nodeBytes * i))
+two-more i = omega arith
+
+label-more : (a c : ℕ) (s : List ℕ) (i : ℕ) → labelAt (a ∷ c ∷ s) (suc i) ≡ labelAt s i
+label-more a c s i = rw (two-more i)
+
+children-more : (a c : ℕ) (s : List ℕ) (i : ℕ) → childrenAt (a ∷ c ∷ s) (suc i) ≡ childrenAt s i
+children-more a c s i =
+    let e : nodeBytes * suc i + labelBytes ≡ suc (suc (nodeBytes * i + labelBytes)) = omega arith in rw e
+
+-- node i, by its two bytes
+abbrev pub LegalAt : List ℕ → ℕ → Type 0
+LegalAt s i = LegalNode (labelAt s i) (childrenAt s i)
+
+pub index-nodes : (s : List ℕ) → ((i : ℕ) → i < nodesIn s → LegalAt s i) → LegalNodes s
+index-nodes [] h = tt
+index-nodes (a ∷ []) h = tt
+index-nodes (a ∷ c ∷ s) h = (
+  h 0 (omega arith),
+  index-nodes s (λ i l. subst₂ LegalNode (label-more a c s i) (children-more a c s i) (h (suc i) (omega arith))),
+)
+
+pub nodes-index : (s : List ℕ) → LegalNodes s → (i : ℕ) → i < nodesIn s → LegalAt s i
+nodes-index [] h i l = absurd (omega arith)
+nodes-index (a ∷ []) h i l = absurd (omega arith)
+nodes-index (a ∷ c ∷ s) h zero l = h .0
+nodes-index (a ∷ c ∷ s) h (suc i) l =
+    subst₂ LegalNode (sym (label-more a c s i)) (sym (children-more a c s i)) (nodes-index s (h .1) i (omega arith))
+
+first-legal : (c : ℕ) (f : Forest) → AllLegal f → AllLegal (firstTrees c f) × AllLegal (laterTrees c f)
+first-legal zero f h = (tt, h)
+first-legal (suc c) nil h = (tt, tt)
+first-legal (suc c) (cons t f) h = let r = first-legal c f (h .1) in ((h .0, r .0), r .1)
+
+pub read-legal : (s : List ℕ) (k : ℕ) → listsTrees s k ≡ true → LegalNodes s → AllLegal (readTrees s)
+read-legal [] k e h = tt
+read-legal (a ∷ []) k e h = tt
+read-legal (a ∷ c ∷ s) zero e h = absurd (false≢true e)
+read-legal (a ∷ c ∷ s) (suc k) e h = go (read-legal s (c + k) e (h .1)) (listings-read s (c + k) e .1)
+  where
+    go : AllLegal (readTrees s) → count (readTrees s) ≡ c + k →
+        (LegalNode a (count (firstTrees c (readTrees s))) × AllLegal (firstTrees c (readTrees s))) ×
+        AllLegal (laterTrees c (readTrees s))
+    go l n =
+        let r = first-legal c (readTrees s) l in
+        ((subst (LegalNode a) (sym (first-count c (readTrees s) (omega arith))) (h .0), r .0), r .1)
+
+mutual
+  pub tree-nodes : (t : Tree) (s : List ℕ) → Legal t → LegalNodes s → LegalNodes (listing t ++ s)
+  tree-nodes (node a f) s h k = (h .0, trees-nodes f s (h .1) k)
+
+  trees-nodes : (f : Forest) (s : List ℕ) → AllLegal f → LegalNodes s → LegalNodes (listings f ++ s)
+  trees-nodes nil s h k = k
+  trees-nodes (cons t f) s h k = go (trees-nodes f s (h .1) k) (λ r m. tree-nodes t r (h .0) m)
+    where
+      go : LegalNodes (listings f ++ s) → ((r : List ℕ) → LegalNodes r → LegalNodes (listing t ++ r)) →
+          LegalNodes ((listing t ++ listings f) ++ s)
+      go m ih = subst LegalNodes (sym (append-assoc (listing t) (listings f) s)) (ih (listings f ++ s) m)
