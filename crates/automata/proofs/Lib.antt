@@ -1,3 +1,4 @@
+pub mod Example
 pub mod Steps
 pub mod Order
 pub mod Accessible
@@ -17,3 +18,5 @@ pub mod Change
 pub mod Valid
 pub mod Kept
 pub mod Bounded
+pub mod BoundedChange
+pub mod Legal

@@ -6,7 +6,6 @@ use mathlib.Core.Path.{_∙_, _≡_, ap, refl, subst, sym}
 use Prim.Native.Nat.{suc, ℕ}
 use native.Mathlib.Omega.{arith}
 use lib.Dec.{eqb, ltb}
-use lib.ListN.{length}
 use borrow.Author.Tests.{eq-eqb, eqb-false, eqb-true, lt-ltb, ltb-false, ltb-true}
 use Rattle.automata.specs.Automaton.{Transition, lookup}
 use Rattle.automata.specs.Numbered.{firstOpen, opens}
@@ -182,6 +181,10 @@ rising-one (x ∷ ls) r l m (inr i) (inl q) e =
     (subst (λ (y : List ℕ). lex y (key l) ≡ true) (ap key (sym q) ∙ sym e) (rising-head x ls r l i)))
 rising-one (x ∷ ls) r l m (inr i) (inr j) e = rising-one ls (rising-tail x ls r) l m i j e
 
+-- label and arguments decide the key
+pub key-equal : (l m : Transition) → l .label ≡ m .label → l .args ≡ m .args → key l ≡ key m
+key-equal l m p q = λ i. key (record { label = p i; args = q i; out = 0 })
+
 pub lookup-transition : (ls : List Transition) → rising ls ≡ true → (l : Transition) → l ∈ ls →
     lookup (l .label) (l .args) ls ≡ l .out
 lookup-transition ls r l i = go (lookup-in ls l i)
@@ -189,4 +192,4 @@ lookup-transition ls r l i = go (lookup-in ls l i)
     go : (m : Transition) × (m ∈ ls) × (m .label ≡ l .label) × (m .args ≡ l .args) ×
         (lookup (l .label) (l .args) ls ≡ m .out) → lookup (l .label) (l .args) ls ≡ l .out
     go (m, j, p, q, e) =
-        e ∙ ap (λ (x : Transition). x .out) (rising-one ls r m l j i (λ k. length (q k) ∷ p k ∷ q k))
+        e ∙ ap (λ (x : Transition). x .out) (rising-one ls r m l j i (key-equal m l p q))

@@ -20,7 +20,7 @@ use Rattle.trees.specs.Tree.{Forest, Tree, _⧺_, cons, nil, node}
 use Rattle.automata.proofs.Numbering.{Opened, numbering-opened}
 use Rattle.automata.proofs.Numbers.{getD-number, le-number, number-at, number-inj, number-le, number-length}
 use Rattle.automata.proofs.Numbers.{number-pos, number-prefix}
-use Rattle.automata.proofs.Order.{first-open}
+use Rattle.automata.proofs.Order.{first-open, key-equal}
 use Rattle.automata.proofs.Sorting.{OneTransition, in-sort, sort-in, sort-rising}
 use Rattle.automata.proofs.Unique.{children}
 use Rattle.lists.proofs.Positions.{upFrom-in}
@@ -57,7 +57,7 @@ args-same O k (q ∷ qs) e =
 key-same : (O : List ℕ) (k : ℕ) (l : Transition) → ready (take k O) l ≡ true →
     key (renumber (take k O) l) ≡ key (renumber O l)
 key-same O k l r =
-    ap (λ (x : List ℕ). length x ∷ l .label ∷ x)
+    key-equal (renumber (take k O) l) (renumber O l) refl
     (args-same O k (l .args)
     (and-left (every (λ q. elem eqb q (take k O)) (l .args)) (not (elem eqb (l .out) (take k O))) r))
 

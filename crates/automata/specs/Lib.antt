@@ -12,3 +12,4 @@ pub mod Minimal
 pub mod Product
 pub mod Change
 pub mod Valid
+pub mod Example

@@ -60,3 +60,19 @@ firstBroken-append (c ∷ cs) ds n = go (c .holds) (firstBroken-append cs ds (n 
         cond (eqb (cond b (firstBroken cs) (c .refusal)) 0) (firstBroken ds) (cond b (firstBroken cs) (c .refusal))
     go true ih = ih
     go false ih = rw (ne-eqb (c .refusal) 0 (λ e. omega (arith, n .0)))
+
+-- conditions that hold may follow
+pub hold-last : (cs ds : List Condition) → AllHold ds → firstBroken (cs ++ ds) ≡ firstBroken cs
+hold-last [] ds h = hold-unbroken ds h
+hold-last (c ∷ cs) ds h = rw (hold-last cs ds h)
+
+-- only what is first broken of the second list matters
+pub append-same : (cs ds es : List Condition) → firstBroken ds ≡ firstBroken es →
+    firstBroken (cs ++ ds) ≡ firstBroken (cs ++ es)
+append-same [] ds es e = e
+append-same (c ∷ cs) ds es e = rw (append-same cs ds es e)
+
+-- the first of two lists that hold together holds
+pub hold-append : (cs ds : List Condition) → AllHold (cs ++ ds) → AllHold cs × AllHold ds
+hold-append [] ds h = (tt, h)
+hold-append (c ∷ cs) ds h = let r = hold-append cs ds (h .1) in ((h .0, r .0), r .1)

@@ -1,3 +1,4 @@
 pub mod Trees
+pub mod Legal
 pub mod Listing
 pub mod ListingRefusal
