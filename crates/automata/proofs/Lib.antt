@@ -17,3 +17,5 @@ pub mod Change
 pub mod Valid
 pub mod Kept
 pub mod Bounded
+pub mod ProductLaws
+pub mod ProductBound
