@@ -1,17 +1,21 @@
 -- The product of an automaton and a tree has at most as many pairs as there are states and distinct
 -- subtrees: a pair with no subtree has a state, and each subtree stands in one pair.
-use mathlib.Core.Bool.{false≢true, true}
-use mathlib.Core.List.{map}
+use mathlib.Core.Bool.{Bool, cond, false, false≢true, true}
+use mathlib.Core.List.{List, [], _∷_, map}
 use mathlib.Core.Path.{_∙_, _≡_, ap, refl, subst, sym}
-use Prim.Native.Nat.{_+_, _<_, _≤_, suc, zero, ℕ}
+use Prim.Native.Nat.{_*_, _+_, _<_, _≤_, suc, zero, ℕ}
 use native.Mathlib.Omega.{arith}
-use lib.ListN.{length, length-map}
+use lib.ListN.{length, length-append, length-map}
 use Rattle.automata.specs.Automaton.{Automaton, run, runs, states}
-use Rattle.automata.specs.Change.{productPairs, subtreeAutomaton, subtreeNumber, subtrees}
+use Rattle.automata.specs.Change.{addNew, collect, collects, productPairs, subtreeAutomaton, subtreeNumber}
+use Rattle.automata.specs.Change.{subtrees}
 use Rattle.automata.specs.Product.{accessiblePairs, live, livePairs, pairRule}
+use Rattle.format.specs.Format.{maxListing, maxStates, nodeBytes}
+use Rattle.lists.specs.Closure.{elem}
 use Rattle.lists.specs.Positions.{Pair, eqPair, grid, upFrom}
 use Rattle.lists.specs.Tests.{_∈_}
-use Rattle.trees.specs.Tree.{Tree, eqTree, node}
+use Rattle.trees.specs.Listing.{listing, listings}
+use Rattle.trees.specs.Tree.{Forest, Tree, cons, eqTree, nil, node}
 use Rattle.automata.proofs.Change.{subtrees-closed}
 use Rattle.automata.proofs.Distinguishable.{step-fits}
 use Rattle.automata.proofs.ProductLaws.{pairs-exact, pairsWith}
@@ -96,3 +100,35 @@ module _ (A : Automaton) (fit : Fits A) (t : Tree) where
           let (k, j, e) = map-in placeOf (pairsWith A t) n i in
           let r = place-range k j in
           in-upFrom 1 (states A + length (subtrees t)) n (omega arith) (omega arith)
+
+addNew-length : (t : Tree) (P : List Tree) → length (addNew t P) ≤ suc (length P)
+addNew-length t P = go (elem eqTree t P)
+  where
+    go : (b : Bool) → length (cond b P (t ∷ P)) ≤ suc (length P)
+    go true = omega arith
+    go false = omega arith
+
+-- a node of the listing gives at most one subtree
+mutual
+  collect-count : (t : Tree) (P : List Tree) →
+      nodeBytes * length (collect t P) ≤ length (listing t) + nodeBytes * length P
+  collect-count (node a f) P = omega (arith, addNew-length (node a f) (collects f P), collects-count f P)
+
+  collects-count : (f : Forest) (P : List Tree) →
+      nodeBytes * length (collects f P) ≤ length (listings f) + nodeBytes * length P
+  collects-count nil P = omega arith
+  collects-count (cons t f) P =
+      omega (
+        arith,
+        collect-count t (collects f P),
+        collects-count f P,
+        length-append (listing t) (listings f),
+      )
+
+pub subtrees-count : (t : Tree) → nodeBytes * length (subtrees t) ≤ length (listing t)
+subtrees-count t = omega (arith, collect-count t [])
+
+-- 01: there are at most 248 pairs
+pub productPairs-legal : (A : Automaton) → Fits A → (t : Tree) → states A ≤ maxStates →
+    length (listing t) ≤ maxListing → productPairs A t ≤ 248
+productPairs-legal A fit t n l = omega (arith, productPairs-bound A fit t, subtrees-count t)

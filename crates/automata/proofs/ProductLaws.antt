@@ -43,6 +43,23 @@ rising-distinct [] r = tt
 rising-distinct (τ ∷ τs) r =
     (λ i. lex-irrefl (key τ) (rising-head τ τs r τ i), rising-distinct τs (rising-tail τ τs r))
 
+module _ (cls : Pair → Bool) (A : Automaton) (t : Tree) where
+  pub product-rising : rising (productWith cls A t .transitions) ≡ true
+  unfolding productWith product productTransitionsOver
+  product-rising =
+      sort-rising
+      (map (productTransition A (subtreeAutomaton (subtrees t)) (pairsWith A t))
+      (filter (λ c. live (outPair A (subtreeAutomaton (subtrees t)) c))
+      (nodes A (subtreeAutomaton (subtrees t)) (pairsWith A t))))
+
+  -- each is counted once, and the classes make no difference
+  pub product-distinct : Distinct (productWith cls A t .transitions)
+  product-distinct = rising-distinct (productWith cls A t .transitions) product-rising
+
+  pub product-count : length (productWith cls A t .transitions) ≡ productTransitions A t
+  unfolding productTransitions productWith product
+  product-count = refl
+
 module _ (A : Automaton) (fit : Fits A) (t : Tree) where
   abbrev B : Automaton
   B = subtreeAutomaton (subtrees t)
@@ -150,16 +167,3 @@ module _ (A : Automaton) (fit : Fits A) (t : Tree) where
     -- 01: its transitions are those whose arguments are such pairs and whose output is such a pair
     pub product-exact : (τ : Transition) → (τ ∈ productWith cls A t .transitions) ↔ PairTransition A t τ
     product-exact τ = (product-in τ, in-product τ)
-
-    pub product-rising : rising (productWith cls A t .transitions) ≡ true
-    unfolding productWith product productTransitionsOver
-    product-rising = sort-rising
-        (map (productTransition A B R) (filter (λ c. live (outPair A B c)) (nodes A B R)))
-
-    -- each is counted once, and the classes make no difference
-    pub product-distinct : Distinct (productWith cls A t .transitions)
-    product-distinct = rising-distinct (productWith cls A t .transitions) product-rising
-
-    pub product-count : length (productWith cls A t .transitions) ≡ productTransitions A t
-    unfolding productTransitions productWith product
-    product-count = refl
