@@ -19,3 +19,4 @@ pub mod Kept
 pub mod Bounded
 pub mod ProductLaws
 pub mod ProductBound
+pub mod Leads
