@@ -20,3 +20,4 @@ pub mod Bounded
 pub mod ProductLaws
 pub mod ProductBound
 pub mod Leads
+pub mod Useless
