@@ -15,7 +15,7 @@ use Rattle.lists.specs.Positions.{Pair, eqPair}
 use Rattle.lists.specs.Tests.{_∈_, filter}
 use Rattle.trees.specs.Tree.{Forest, Tree, cons, nil, node}
 use Rattle.automata.proofs.Change.{subtrees-closed, subtrees-fit}
-use Rattle.automata.proofs.Nodes.{AllIn, nodes-in}
+use Rattle.automata.proofs.Nodes.{AllIn, nodes-in, pairNumbers-inj}
 use Rattle.automata.proofs.Order.{lex-irrefl, rising-head, rising-tail}
 use Rattle.automata.proofs.Product.{accessible-pair-tree, no-none, paired, run-product}
 use Rattle.automata.proofs.Sorting.{sort-in, sort-rising}
@@ -42,6 +42,15 @@ pub rising-distinct : (τs : List Transition) → rising τs ≡ true → Distin
 rising-distinct [] r = tt
 rising-distinct (τ ∷ τs) r =
     (λ i. lex-irrefl (key τ) (rising-head τ τs r τ i), rising-distinct τs (rising-tail τ τs r))
+
+-- different nodes have different transitions
+pub productTransition-inj : (A B : Automaton) (R : List Pair) (c d : Node) → AllIn R (c .1) →
+    productTransition A B R c ≡ productTransition A B R d → c ≡ d
+unfolding productTransition
+productTransition-inj A B R c d h e =
+    let p = ap (λ (τ : Transition). τ .label) e in
+    let q = pairNumbers-inj R (c .1) (d .1) h (ap (λ (τ : Transition). τ .args) e) in
+    λ i. (p i, q i)
 
 module _ (cls : Pair → Bool) (A : Automaton) (t : Tree) where
   pub product-rising : rising (productWith cls A t .transitions) ≡ true
