@@ -7,7 +7,7 @@ use Prim.Native.Nat.{_≤_, suc, ℕ}
 use native.Mathlib.Omega.{arith}
 use lib.Dec.{leb}
 use borrow.Author.Tests.{leb-true}
-use Rattle.automata.specs.Automaton.{Automaton, Transition, accepting, runs, states, step}
+use Rattle.automata.specs.Automaton.{Automaton, Transition, accepting, run, runs, states, step}
 use Rattle.automata.specs.ContextRun.{runContext, stepFrame}
 use Rattle.automata.specs.Distinguishable.{Slot, distinguishable, distinguishablePairs, distinguishableRule}
 use Rattle.automata.specs.Distinguishable.{pairs, push, slots, slotsOf, stepSlot}
@@ -15,6 +15,7 @@ use Rattle.lists.specs.Closure.{elem}
 use Rattle.lists.specs.Positions.{Pair, eqPair, upFrom}
 use Rattle.lists.specs.Tests.{_∈_, any}
 use Rattle.trees.specs.Context.{Context, Frame}
+use Rattle.trees.specs.Tree.{Tree, node}
 use Rattle.automata.proofs.Accessible.{forest}
 use Rattle.automata.proofs.Steps.{ArgsAccessible, Fits, Taken, step-view}
 use Rattle.lists.proofs.Closure.{closed, closure-all}
@@ -131,6 +132,9 @@ module _ (A : Automaton) where
         go (inr (n, (l, i, p, q, r))) = let le =
             leb-true (l .out) (states A)
             (every-in (λ l. leb (l .out) (states A)) (A .transitions) fit l i) in omega arith
+
+    pub run-fits : (t : Tree) → run A t ≤ states A
+    run-fits (node a f) = step-fits a (runs A f)
 
     pub separated-distinguishable : (c : Context) (p q : ℕ) → p ≤ states A → q ≤ states A →
         accepting A (runContext A c p) ≢ accepting A (runContext A c q) → distinguishable A p q ≡ true

@@ -20,3 +20,7 @@ pub mod Kept
 pub mod Bounded
 pub mod BoundedChange
 pub mod Legal
+pub mod ProductLaws
+pub mod ProductBound
+pub mod Leads
+pub mod Useless

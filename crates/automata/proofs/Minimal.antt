@@ -18,7 +18,7 @@ use Rattle.lists.specs.Tests.{_∈_, filter}
 use Rattle.trees.specs.Context.{Context}
 use Rattle.trees.specs.Tree.{Forest, Tree, cons, nil, node}
 use Rattle.automata.proofs.Accessible.{forest}
-use Rattle.automata.proofs.Distinguishable.{distinguishable-separated, separated-distinguishable, step-fits}
+use Rattle.automata.proofs.Distinguishable.{distinguishable-separated, run-fits, separated-distinguishable}
 use Rattle.automata.proofs.Renumbered.{Grouping, renumbered-canonical}
 use Rattle.automata.proofs.Steps.{ArgsAccessible, Fits, Taken, run-plug, runContext-zero, step-view}
 use Rattle.lists.proofs.Positions.{in-upFrom, upFrom-in}
@@ -66,9 +66,6 @@ module _ (A : Automaton) (fit : Fits A)
 
   r : ℕ → ℕ
   r = representative (distinguishablePairs A) (states A)
-
-  pub run-fits : (t : Tree) → run A t ≤ states A
-  run-fits (node a f) = step-fits A fit a (runs A f)
 
   representative-equivalent : (p : ℕ) → p ≤ states A → EquivalentStates p (r p)
   unfolding EquivalentStates r representative
@@ -128,7 +125,7 @@ module _ (A : Automaton) (fit : Fits A)
   subtree-used : (t : Tree) → Subtree S t → r (run A t) ≡ 0 → ⊥
   unfolding EquivalentStates
   subtree-used t (c, e) z =
-      let d = representative-same (run A t) 0 (run-fits t) (omega arith) (z ∙ sym representative-zero) c in
+      let d = representative-same (run A t) 0 (run-fits A fit t) (omega arith) (z ∙ sym representative-zero) c in
       let w : accepting A (runContext A c (run A t)) ≡ true = rw (run-plug A c t) at e in
       true≢false (sym w ∙ d ∙ ap (accepting A) (runContext-zero A c))
 
@@ -146,8 +143,8 @@ module _ (A : Automaton) (fit : Fits A)
           pick true c d e = refl
           pick false c d e = absurd (d (e ∙ sym (ap (accepting A) (runContext-zero A c))))
       go false e =
-          absurd (h (equivalent-representative (run A t) 0 (run-fits t) (omega arith)
-          (indistinguishable-equivalent (run A t) 0 (run-fits t) (omega arith) e) ∙ representative-zero))
+          absurd (h (equivalent-representative (run A t) 0 (run-fits A fit t) (omega arith)
+          (indistinguishable-equivalent (run A t) 0 (run-fits A fit t) (omega arith) e) ∙ representative-zero))
 
   g : Tree → ℕ
   g t = r (run A t)
@@ -166,10 +163,10 @@ module _ (A : Automaton) (fit : Fits A)
   grouped : Grouping S g (quotient A (distinguishablePairs A))
   unfolding g quotient
   grouped = record {
-    joins = λ t u p q e. equivalent-representative (run A t) (run A u) (run-fits t) (run-fits u)
+    joins = λ t u p q e. equivalent-representative (run A t) (run A u) (run-fits A fit t) (run-fits A fit u)
         (equivalent-states t u e);
     separates = λ t u p q e. states-equivalent t u
-        (representative-same (run A t) (run A u) (run-fits t) (run-fits u) e);
+        (representative-same (run A t) (run A u) (run-fits A fit t) (run-fits A fit u) e);
     occurs = occurs;
     only = only;
   }
@@ -221,4 +218,4 @@ module _ (A : Automaton) (fit : Fits A)
       renumbered-canonical S g (quotient A (distinguishablePairs A)) grouped (accepting A) right
     where
       right : (t : Tree) → Subtree S t → accepting A (g t) ≡ S t
-      right t p = sym (representative-equivalent (run A t) (run-fits t) [])
+      right t p = sym (representative-equivalent (run A t) (run-fits A fit t) [])

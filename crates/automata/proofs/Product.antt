@@ -63,7 +63,7 @@ module _ (A B : Automaton) where
           (in-nodes R snd (B .transitions) l ks i h v))
       go (inl y) (inl z) = absurd (live-not (outPair A B (a, ks)) e (λ i. (y i, z i)))
 
-  node-all : (R : List Pair) (a : ℕ) (ks : List Pair) → _∈_ {A = Node} (a, ks) (nodes A B R) → AllIn R ks
+  pub node-all : (R : List Pair) (a : ℕ) (ks : List Pair) → _∈_ {A = Node} (a, ks) (nodes A B R) → AllIn R ks
   unfolding nodes
   node-all R a ks i =
       go (append-in (nodesOf R fst (A .transitions)) (nodesOf R snd (B .transitions)) (a, ks) i)

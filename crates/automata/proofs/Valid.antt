@@ -18,8 +18,9 @@ use Rattle.lists.specs.Tests.{_∈_, every}
 use Rattle.trees.specs.Tree.{Forest, Tree, cons, nil, node}
 use Rattle.automata.proofs.Accessible.{accessible-tree, forest}
 use Rattle.automata.proofs.Coaccessible.{coaccessible-useful}
+use Rattle.automata.proofs.Distinguishable.{run-fits}
 use Rattle.automata.proofs.Minimal.{EquivalentStates, equivalent-indistinguishable, equivalent-states}
-use Rattle.automata.proofs.Minimal.{run-fits, states-equivalent}
+use Rattle.automata.proofs.Minimal.{states-equivalent}
 use Rattle.automata.proofs.Order.{lookup-transition}
 use Rattle.automata.proofs.Steps.{ArgsAccessible, Fits, Taken, run-plug, runContext-zero, step-view}
 use Rattle.lists.proofs.Positions.{in-upFrom}
@@ -81,7 +82,7 @@ module _ (A : Automaton) (X : Valid A) where
       go (suc n) z = omega arith
 
   in-states : (t : Tree) → 1 ≤ run A t → run A t ∈ upFrom 1 (states A)
-  in-states t h = in-upFrom 1 (states A) (run A t) h (omega (arith, run-fits A fit all t))
+  in-states t h = in-upFrom 1 (states A) (run A t) h (omega (arith, run-fits A fit t))
 
   run-subtree : (t : Tree) → 1 ≤ run A t → Subtree S t
   run-subtree t h =
@@ -132,7 +133,7 @@ module _ (A : Automaton) (X : Valid A) where
     group = run A;
     joins = joined;
     separates = λ t u p q e. states-equivalent A fit all t u (λ c. ap (λ (x : ℕ). accepting A (runContext A c x)) e);
-    range = λ t p. (subtree-run t p, run-fits A fit all t);
+    range = λ t p. (subtree-run t p, run-fits A fit t);
     onto = λ q h l. let (t, e) = tree q h l in (t, run-subtree t (omega arith), e);
     classed = λ t p. refl;
     occurs = occurs;

@@ -1,0 +1,127 @@
+-- Going from arguments to outputs, in the words of 01: the tests of refusal 11 say what they should.
+use mathlib.Core.Bool.{Bool, _&&_, _||_, false, not, true, true≢false}
+use mathlib.Core.List.{List}
+use mathlib.Core.Logic.{_↔_, _⊎_, inl, inr}
+use mathlib.Core.Path.{_∙_, _≡_, refl, subst, sym}
+use Prim.Native.Nat.{_≤_, ℕ}
+use native.Mathlib.Omega.{arith}
+use lib.Dec.{eqb, leb}
+use borrow.Author.Tests.{eq-eqb, eqb-true, leb-true, not-true}
+use Rattle.automata.specs.Acyclic.{acyclic, feeds, leads, leadsRule}
+use Rattle.automata.specs.Automaton.{Automaton, Transition, states}
+use Rattle.automata.specs.Valid.{inRange, statesInRange}
+use Rattle.lists.specs.Closure.{elem}
+use Rattle.lists.specs.Positions.{Pair, eqPair, grid, upFrom}
+use Rattle.lists.specs.Tests.{_∈_, any, every}
+use Rattle.lists.proofs.Closure.{closed, closure-all, elem-in, in-elem}
+use Rattle.lists.proofs.Positions.{eqPair-same, eqPair-true, in-grid, in-upFrom}
+use Rattle.lists.proofs.Tests.{and-both, and-left, and-right, any-in, eqb-same, every-in, in-any, in-every}
+use Rattle.lists.proofs.Tests.{or-cases, or-left, or-right}
+
+-- p is an argument of a transition whose output is q
+abbrev pub Feeds : Automaton → ℕ → ℕ → Type 0
+Feeds A p q = (τ : Transition) × (τ ∈ A .transitions) × (p ∈ τ .args) × (τ .out ≡ q)
+
+-- one or more such steps come from p to q
+pub data Leads (A : Automaton) : ℕ → ℕ → Type 0 where
+  once : {p q : ℕ} → Feeds A p q → Leads A p q
+  more : {p x q : ℕ} → Leads A p x → Feeds A x q → Leads A p q
+
+pub feeds-iff : (A : Automaton) (p q : ℕ) → (feeds A p q ≡ true) ↔ Feeds A p q
+unfolding feeds
+feeds-iff A p q = (to, from)
+  where
+    to : any (λ τ. eqb q (τ .out) && elem eqb p (τ .args)) (A .transitions) ≡ true → Feeds A p q
+    to e =
+        let (τ, i, h) = any-in (λ τ. eqb q (τ .out) && elem eqb p (τ .args)) (A .transitions) e in (
+          τ,
+          i,
+          elem-in eqb eqb-true eqb-same p (τ .args) (and-right (eqb q (τ .out)) _ h),
+          sym (eqb-true q (τ .out) (and-left _ _ h)),
+        )
+
+    from : Feeds A p q → any (λ τ. eqb q (τ .out) && elem eqb p (τ .args)) (A .transitions) ≡ true
+    from (τ, i, j, e) =
+        in-any (λ τ. eqb q (τ .out) && elem eqb p (τ .args)) (A .transitions) τ i
+        (and-both (eq-eqb q (τ .out) (sym e)) (in-elem eqb eqb-true eqb-same p (τ .args) j))
+
+module _ (A : Automaton) (ranged : statesInRange A ≡ true) where
+  -- q is one of 1 to n
+  abbrev State : ℕ → Type 0
+  State q = (1 ≤ q) × (q ≤ states A)
+
+  in-range : (q : ℕ) → inRange (states A) q ≡ true → State q
+  in-range q e = (leb-true 1 q (and-left _ _ e), leb-true q (states A) (and-right (leb 1 q) _ e))
+
+  feeds-range : {p q : ℕ} → Feeds A p q → State p × State q
+  feeds-range {p = p} (τ, i, j, e) =
+      let h = every-in (λ τ. every (inRange (states A)) (τ .args) && inRange (states A) (τ .out)) (A .transitions)
+      ranged τ i in (
+        in-range p (every-in (inRange (states A)) (τ .args) (and-left _ _ h) p j),
+        subst State e (in-range (τ .out) (and-right (every (inRange (states A)) (τ .args)) _ h)),
+      )
+
+  leads-range : {p q : ℕ} → Leads A p q → State p × State q
+  leads-range (once f) = feeds-range f
+  leads-range (more l f) = (leads-range l .0, feeds-range f .1)
+
+  abbrev ns : List ℕ
+  ns = upFrom 1 (states A)
+
+  in-states : (q : ℕ) → State q → q ∈ ns
+  in-states q h = in-upFrom 1 (states A) q (h .0) (omega arith)
+
+  -- whatever the rule makes of the marks is marked
+  leads-closed : (p q : ℕ) → State p → State q →
+      (feeds A p q || any (λ x. leads A p x && feeds A x q) ns) ≡ true → leads A p q ≡ true
+  unfolding leads leadsRule
+  leads-closed p q h k e =
+      closed eqPair eqPair-true eqPair-same (leadsRule A) (grid ns ns) (p, q)
+      (in-grid ns ns p q (in-states p h) (in-states q k)) e
+
+  leads-marked : {p q : ℕ} → Leads A p q → leads A p q ≡ true
+  leads-marked {p = p} {q = q} (once f) =
+      let (h, k) = feeds-range f in leads-closed p q h k (or-left (feeds A p q) _ (feeds-iff A p q .1 f))
+  leads-marked {p = p} {q = q} (more {x = x} l f) =
+      leads-closed p q (leads-range l .0) (feeds-range f .1)
+      (or-right (feeds A p q) _
+      (in-any (λ x. leads A p x && feeds A x q) ns x (in-states x (leads-range l .1))
+      (and-both (leads-marked l) (feeds-iff A x q .1 f))))
+
+  marked-leads : (p q : ℕ) → leads A p q ≡ true → Leads A p q
+  unfolding leads leadsRule
+  marked-leads p q e =
+      closure-all eqPair eqPair-true eqPair-same (leadsRule A) (grid ns ns) (λ k. Leads A (k .0) (k .1)) made (p, q) e
+    where
+      made : (m : Pair → Bool) → ((j : Pair) → m j ≡ true → Leads A (j .0) (j .1)) → (k : Pair) →
+          k ∈ grid ns ns → leadsRule A m k ≡ true → Leads A (k .0) (k .1)
+      made m ih k i e = go (or-cases (feeds A (k .0) (k .1)) _ e)
+        where
+          go : (feeds A (k .0) (k .1) ≡ true) ⊎ (any (λ x. m (k .0, x) && feeds A x (k .1)) ns ≡ true) →
+              Leads A (k .0) (k .1)
+          go (inl h) = once (feeds-iff A (k .0) (k .1) .0 h)
+          go (inr h) =
+              let (x, j, n) = any-in (λ x. m (k .0, x) && feeds A x (k .1)) ns h in
+              more (ih (k .0, x) (and-left _ _ n)) (feeds-iff A x (k .1) .0 (and-right (m (k .0, x)) _ n))
+
+  pub leads-iff : (p q : ℕ) → (leads A p q ≡ true) ↔ Leads A p q
+  leads-iff p q = (marked-leads p q, λ l. leads-marked l)
+
+  -- 01, refusal 11: no state comes back to itself going from arguments to outputs
+  pub acyclic-iff : (acyclic A ≡ true) ↔ ((q : ℕ) → Leads A q q → ⊥)
+  unfolding acyclic
+  acyclic-iff = (to, from)
+    where
+      to : every (λ q. not (leads A q q)) ns ≡ true → (q : ℕ) → Leads A q q → ⊥
+      to e q l =
+          true≢false
+          (sym (leads-marked l)
+          ∙ not-true (leads A q q)
+          (every-in (λ q. not (leads A q q)) ns e q (in-states q (leads-range l .0))))
+
+      from : ((q : ℕ) → Leads A q q → ⊥) → every (λ q. not (leads A q q)) ns ≡ true
+      from h = in-every (λ q. not (leads A q q)) ns (λ q i. go q (leads A q q) refl)
+        where
+          go : (q : ℕ) (b : Bool) → leads A q q ≡ b → not b ≡ true
+          go q true e = absurd (h q (marked-leads q q e))
+          go q false e = refl
