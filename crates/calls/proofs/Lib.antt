@@ -1,1 +1,4 @@
 pub mod Samples
+pub mod Conditions
+pub mod Model
+pub mod Series

@@ -4,8 +4,8 @@ use mathlib.Core.Path.{_≡_, refl}
 use Rattle.automata.specs.Change.{deleteTree, insertTree, productPairs, productTransitions, productWith}
 use Rattle.automata.specs.Change.{subtreeAutomaton}
 use Rattle.automata.specs.Minimal.{merge, minimal, quotient, representative}
-use Rattle.automata.specs.Product.{accessiblePairs, livePairs, nodes, nodesOf, pairRule, product}
-use Rattle.automata.specs.Product.{productTransition, productTransitionsOver}
+use Rattle.automata.specs.Product.{accessiblePairs, livePairs, nodes, nodesOf, pairRule, product, productTransition}
+use Rattle.automata.specs.Product.{productTransitionsOver}
 use Rattle.automata.specs.Renumber.{numbering, renumbered}
 use Rattle.calls.specs.Samples.{holds, samples}
 use Rattle.lists.specs.Closure.{closure}

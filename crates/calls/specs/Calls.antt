@@ -94,8 +94,8 @@ outcome r B b w = record {
 -- 1 to 17 in 01's order
 unfoldable pub changeRefusal : Change → List ℕ → List ℕ → List ℕ → ℕ
 changeRefusal c s b w =
-    firstBroken (listingConditions s ++ (lengthCondition b ∷ scratchCondition w ∷ contentConditions b) ++
-    changeConditions c (accepts (decode b) (changedTree c)) (decode b))
+    firstBroken (listingConditions s ++ (lengthCondition b ∷ scratchCondition w ∷ (contentConditions b ++
+    changeConditions c (accepts (decode b) (changedTree c)) (decode b))))
 
 unfoldable pub changeResult : Change → List ℕ → List ℕ → List ℕ → Result
 changeResult c s b w = outcome (changeRefusal c s b w) (changed c (decode b)) b w

@@ -76,3 +76,7 @@ append-same (c ∷ cs) ds es e = rw (append-same cs ds es e)
 pub hold-append : (cs ds : List Condition) → AllHold (cs ++ ds) → AllHold cs × AllHold ds
 hold-append [] ds h = (tt, h)
 hold-append (c ∷ cs) ds h = let r = hold-append cs ds (h .1) in ((h .0, r .0), r .1)
+
+pub from-one-append : (cs ds : List Condition) → FromOne cs → FromOne ds → FromOne (cs ++ ds)
+from-one-append [] ds m n = n
+from-one-append (c ∷ cs) ds m n = (m .0, from-one-append cs ds (m .1) n)

@@ -24,7 +24,7 @@ use Rattle.lists.proofs.Tests.{and-both, and-left, and-right, every-in, in-ever
 use Rattle.trees.proofs.Listing.{LegalAt, LegalNodes, append-none, index-nodes, listing-one, listing-read}
 use Rattle.trees.proofs.Listing.{listings-read, nodes-index, read-legal, tree-nodes}
 
-listing-from-one : (s : List ℕ) → FromOne (listingConditions s)
+pub listing-from-one : (s : List ℕ) → FromOne (listingConditions s)
 unfolding listingConditions
 listing-from-one s = omega arith
 
