@@ -1,6 +1,7 @@
 -- The bytes of an encoded automaton, field by field. `encode` stays shut beyond this file.
+use mathlib.Core.Bool.{Bool, cond, false, true}
 use mathlib.Core.List.{List}
-use mathlib.Core.Path.{_∙_, _≡_, ap, ap₂}
+use mathlib.Core.Path.{_∙_, _≡_, ap, ap₂, refl}
 use Prim.Native.Nat.{_%_, _*_, _+_, _-_, _/_, _<_, _≤_, ℕ}
 use native.Mathlib.Omega.{arith}
 use lib.ListN.{List·getD-eq-default, getD, length}
@@ -12,6 +13,11 @@ use Rattle.format.specs.Format.{tableBytes, transitionBytes}
 use Rattle.table.specs.Layout.{argOf, arityOf, bit, blank, body, bodyByte, byteAt, encode, labelOf, outOf}
 use Rattle.table.specs.Layout.{stateCount, transitionByte, transitionCount}
 use Rattle.lists.proofs.Intervals.{getD-tabulated, length-tabulated}
+
+-- a choice is what each of its branches is, where it is taken
+pub cond-is : {X : Type 0} (t : Bool) {x y z : X} → (t ≡ true → x ≡ z) → (t ≡ false → y ≡ z) → cond t x y ≡ z
+cond-is true f g = f refl
+cond-is false f g = g refl
 
 pub encode-length : (A : Automaton) → length (encode A) ≡ tableBytes
 unfolding encode
