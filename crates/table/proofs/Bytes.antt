@@ -14,10 +14,14 @@ use Rattle.table.specs.Layout.{argOf, arityOf, bit, blank, body, bodyByt
 use Rattle.table.specs.Layout.{stateCount, transitionByte, transitionCount}
 use Rattle.lists.proofs.Intervals.{getD-tabulated, length-tabulated}
 
--- a choice is what each of its branches is, where it is taken
+-- what holds of each branch of a choice, where it is taken, holds of the choice
+pub cond-all : {X : Type 0} (P : X → Type 0) (t : Bool) {x y : X} → (t ≡ true → P x) → (t ≡ false → P y) →
+    P (cond t x y)
+cond-all P true f g = f refl
+cond-all P false f g = g refl
+
 pub cond-is : {X : Type 0} (t : Bool) {x y z : X} → (t ≡ true → x ≡ z) → (t ≡ false → y ≡ z) → cond t x y ≡ z
-cond-is true f g = f refl
-cond-is false f g = g refl
+cond-is t {z = z} f g = cond-all (λ w. w ≡ z) t f g
 
 pub encode-length : (A : Automaton) → length (encode A) ≡ tableBytes
 unfolding encode

@@ -17,6 +17,7 @@ use Rattle.table.specs.Intake.{WithinLimits}
 use Rattle.table.specs.Layout.{argOf, arityOf, bit, blank, body, bodyByte, byteAt, classAt, decode, encode}
 use Rattle.table.specs.Layout.{layoutFits, nthTransition, stateCount, transitionAt, transitionByte}
 use Rattle.table.specs.Layout.{transitionCount, transitionsIn}
+use Rattle.trees.specs.Legal.{LegalNode}
 use Rattle.lists.proofs.Intervals.{getD-in, getD-tabulated, getD-tabulated-beyond, length-tabulated, tabulated}
 use Rattle.table.proofs.Bytes.{cond-is, encode-arg, encode-arity, encode-byte, encode-class, encode-count}
 use Rattle.table.proofs.Bytes.{encode-label, encode-length, encode-out, encode-states}
@@ -27,10 +28,9 @@ use Rattle.table.proofs.Laid.{Laid, LaidTransition, layout-laid}
 -- ---- an encoded automaton, read back
 
 module _ (A : Automaton) (within : WithinLimits A) where
-  -- a transition has at most eight arguments; what stands beyond the last has none
-  nth-arity : (i : ℕ) → i < length (A .transitions) → length (getD (A .transitions) i blank .args) ≤ maxArity
-  nth-arity i h =
-      within .legal (getD (A .transitions) i blank) (getD-in (A .transitions) i blank h) .arity
+  pub nth-legal : (i : ℕ) → i < length (A .transitions) →
+      LegalNode (getD (A .transitions) i blank .label) (length (getD (A .transitions) i blank .args))
+  nth-legal i h = within .legal (getD (A .transitions) i blank) (getD-in (A .transitions) i blank h)
 
   pub encode-nth : (i : ℕ) → i < length (A .transitions) →
       nthTransition (body (encode A)) i ≡ getD (A .transitions) i blank
@@ -45,7 +45,7 @@ module _ (A : Automaton) (within : WithinLimits A) where
       (sym (encode-arity A i m))
       (λ k j.
       let e : 0 + k ≡ k = omega arith in
-      ap (argOf s (transitionBytes * i)) e ∙ encode-arg A i m k (omega (arith, encode-arity A i m, nth-arity i h))) in
+      ap (argOf s (transitionBytes * i)) e ∙ encode-arg A i m k (omega (arith, encode-arity A i m, nth-legal i h .arity))) in
       λ k. record { label = l k; args = a k; out = o k }
 
   bit-test : (t : Bool) → eqb (bit t) 1 ≡ t
@@ -78,7 +78,7 @@ bit-byte zero h = refl
 bit-byte (suc zero) h = refl
 bit-byte (suc (suc x)) h = absurd (omega arith)
 
-blank-byte : (r : ℕ) → transitionByte blank r ≡ 0
+pub blank-byte : (r : ℕ) → transitionByte blank r ≡ 0
 blank-byte r =
     cond-is (ltb r labelBytes) (λ _. refl) (λ _. cond-is (ltb r argsAt) (λ _. refl)
     (λ _. cond-is (ltb r outAt) (λ _. refl) (λ _. refl)))
