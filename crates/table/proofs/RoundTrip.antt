@@ -27,6 +27,10 @@ use Rattle.table.proofs.Laid.{Laid, LaidTransition, layout-laid}
 
 -- ---- an encoded automaton, read back
 
+bit-test : (t : Bool) → eqb (bit t) 1 ≡ t
+bit-test true = refl
+bit-test false = refl
+
 module _ (A : Automaton) (within : WithinLimits A) where
   pub nth-legal : (i : ℕ) → i < length (A .transitions) →
       LegalNode (getD (A .transitions) i blank .label) (length (getD (A .transitions) i blank .args))
@@ -47,10 +51,6 @@ module _ (A : Automaton) (within : WithinLimits A) where
       let e : 0 + k ≡ k = omega arith in
       ap (argOf s (transitionBytes * i)) e ∙ encode-arg A i m k (omega (arith, encode-arity A i m, nth-legal i h .arity))) in
       λ k. record { label = l k; args = a k; out = o k }
-
-  bit-test : (t : Bool) → eqb (bit t) 1 ≡ t
-  bit-test true = refl
-  bit-test false = refl
 
   encode-classes : map (classAt (encode A)) (upFrom 1 (stateCount (encode A))) ≡ A .classes
   encode-classes =
