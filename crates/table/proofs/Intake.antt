@@ -1,6 +1,6 @@
 -- INTAKE: a table passes 5 and 7 to 13 exactly where it is the table of a canonical automaton of a bounded set,
 -- within the limits.
-use mathlib.Core.Bool.{false, true}
+use mathlib.Core.Bool.{Bool, false, true}
 use mathlib.Core.List.{List, _∷_}
 use mathlib.Core.Logic.{_↔_}
 use mathlib.Core.Path.{_∙_, _≡_, ap, refl, subst, sym}
@@ -11,18 +11,19 @@ use lib.ListN.{getD-replicate, length, length-replicate, replicate}
 use lib.Seq.{ext-getD}
 use borrow.Author.Tests.{eq-eqb, eqb-true}
 use Rattle.automata.specs.Acyclic.{Bounded, acyclic}
-use Rattle.automata.specs.Automaton.{Automaton, accepting, accepts, emptyAutomaton, states}
+use Rattle.automata.specs.Automaton.{Automaton, accepting, accepts, emptyAutomaton}
 use Rattle.automata.specs.Canonical.{Canonical}
 use Rattle.automata.specs.Valid.{Valid}
 use Rattle.format.specs.Format.{AllBytes, countAt, headBytes, tableBytes, transitionBytes}
 use Rattle.table.specs.Intake.{WithinLimits, contentConditions, lengthCondition, tableRefusal}
 use Rattle.table.specs.Layout.{bit, byteAt, decode, encode, layoutFits}
+use Rattle.trees.specs.Tree.{Tree}
 use Rattle.automata.proofs.Bounded.{acyclic-bounded, bounded-acyclic}
-use Rattle.automata.proofs.Kept.{canonical-valid}
+use Rattle.automata.proofs.Kept.{canonical-ranged, canonical-valid}
 use Rattle.automata.proofs.Valid.{valid-canonical}
-use Rattle.lists.proofs.Conditions.{hold-unbroken, unbroken-hold}
+use Rattle.lists.proofs.Conditions.{unbroken-hold}
 use Rattle.table.proofs.Bytes.{cond-is, encode-byte, encode-length}
-use Rattle.table.proofs.Limits.{encode-layout, layout-in-range, layout-within}
+use Rattle.table.proofs.Limits.{encode-bytes, encode-layout, layout-in-range, layout-within}
 use Rattle.table.proofs.RoundTrip.{blank-byte, decode-encode, encode-decode}
 
 -- what the conditions say together
@@ -55,27 +56,15 @@ pub passes-unrefused : (b : List ℕ) → Passes b → tableRefusal b ≡ 0
 unfolding tableRefusal contentConditions
 passes-unrefused b p =
     let v = p .valid in
-    hold-unbroken (lengthCondition b ∷ contentConditions b) (
+    rw (
       eq-eqb (length b) tableBytes (p .length),
-      (
-        p .layout,
-        (
-          v .rises,
-          (
-            v .reached,
-            (
-              v .used,
-              (
-                p .acyclic,
-                (
-                  v .apart,
-                  (v .ruled, tt),
-                ),
-              ),
-            ),
-          ),
-        ),
-      ),
+      p .layout,
+      v .rises,
+      v .reached,
+      v .used,
+      p .acyclic,
+      v .apart,
+      v .ruled,
     )
 
 -- the table of a canonical automaton of a bounded set, within the limits
@@ -98,17 +87,24 @@ passes-canonical b bytes e =
       bytes = sym (encode-decode b bytes (p .length) (p .layout));
     }
 
+-- the table of the canonical automaton of a bounded set passes, and its bytes are bytes
+module _ (S : Tree → Bool) (A : Automaton) (within : WithinLimits A) (canonical : Canonical S A) where
+  pub set-bytes : AllBytes (encode A)
+  set-bytes = encode-bytes A within (canonical-ranged S A canonical)
+
+  pub set-passes : Bounded S → tableRefusal (encode A) ≡ 0
+  set-passes bounded =
+      let d = sym (decode-encode A within) in
+      passes-unrefused (encode A) record {
+        length = encode-length A;
+        layout = encode-layout A within (canonical-ranged S A canonical);
+        valid = subst Valid d (canonical-valid S A canonical);
+        acyclic = subst (λ (B : Automaton). acyclic B ≡ true) d (bounded-acyclic S A canonical bounded);
+      }
+
 pub canonical-passes : (A : Automaton) → WithinLimits A → Canonical (accepts A) A → Bounded (accepts A) →
     tableRefusal (encode A) ≡ 0
-canonical-passes A within canonical bounded =
-    let v = canonical-valid (accepts A) A canonical in
-    let d = sym (decode-encode A within) in
-    passes-unrefused (encode A) record {
-      length = encode-length A;
-      layout = encode-layout A within (v .ranged);
-      valid = subst Valid d v;
-      acyclic = subst (λ (B : Automaton). acyclic B ≡ true) d (bounded-acyclic (accepts A) A canonical bounded);
-    }
+canonical-passes A within canonical bounded = set-passes (accepts A) A within canonical bounded
 
 pub intake : (b : List ℕ) → AllBytes b → (tableRefusal b ≡ 0) ↔ CanonicalTable b
 intake b bytes = (

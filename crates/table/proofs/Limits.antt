@@ -20,7 +20,6 @@ use Rattle.table.specs.Layout.{argOf, arityOf, bit, blank, body, byteAt,
 use Rattle.table.specs.Layout.{nthTransition, outOf, stateCount, transitionAt, transitionByte}
 use Rattle.table.specs.Layout.{transitionCount}
 use Rattle.trees.specs.Legal.{LegalNode}
-use Rattle.trees.specs.Tree.{count}
 use Rattle.automata.proofs.Valid.{InRange, range-in, ranged-transition}
 use Rattle.lists.proofs.Intervals.{getD-in, length-tabulated, tabulated-in}
 use Rattle.lists.proofs.Tests.{and-both, in-every}
@@ -36,7 +35,7 @@ pub body-bytes : (b : List ℕ) → AllBytes b → AllBytes (body b)
 body-bytes b h i = rw (getD-drop headBytes b i 0) (h (headBytes + i))
 
 -- arguments and output of a transition are states, n being their number
-abbrev pub StatesBelow : ℕ → Transition → Type 0
+abbrev StatesBelow : ℕ → Transition → Type 0
 StatesBelow n τ = (every (inRange n) (τ .args) && inRange n (τ .out)) ≡ true
 
 laid-ranged : (s : List ℕ) (n at : ℕ) → LaidTransition s n at → StatesBelow n (transitionAt s at)

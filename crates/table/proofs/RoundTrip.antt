@@ -49,7 +49,8 @@ module _ (A : Automaton) (within : WithinLimits A) where
       (sym (encode-arity A i m))
       (λ k j.
       let e : 0 + k ≡ k = omega arith in
-      ap (argOf s (transitionBytes * i)) e ∙ encode-arg A i m k (omega (arith, encode-arity A i m, nth-legal i h .arity))) in
+      ap (argOf s (transitionBytes * i)) e
+      ∙ encode-arg A i m k (omega (arith, encode-arity A i m, nth-legal i h .arity))) in
       λ k. record { label = l k; args = a k; out = o k }
 
   encode-classes : map (classAt (encode A)) (upFrom 1 (stateCount (encode A))) ≡ A .classes
@@ -139,14 +140,15 @@ module _ (b : List ℕ) (bytes : AllBytes b) (long : length b ≡ tableBytes) (l
           (decoded-beyond b (j / transitionBytes) blank k) ∙ blank-byte (j % transitionBytes)
           ∙ sym (laid .zeros j (omega arith) h)
 
-  byte : (i : ℕ) → i < tableBytes → byteAt (decode b) i ≡ getD b i 0
-  byte i h =
+  byteAt-decoded : (i : ℕ) → i < tableBytes → byteAt (decode b) i ≡ getD b i 0
+  byteAt-decoded i h =
       cond-is (eqb i 0) (λ e. decoded-states b ∙ same 0 (sym (eqb-true i 0 e)))
       (λ e. cond-is (ltb i countAt)
       (λ f. byte-class i (omega (arith, eqb-false i 0 e)) (omega (arith, ltb-true i countAt f)))
       (λ f. cond-is (eqb i countAt) (λ g. high ∙ same countAt (sym (eqb-true i countAt g)))
       (λ g. cond-is (ltb i headBytes)
-      (λ k. low ∙ same (countAt + 1) (omega (arith, ltb-false i countAt f, eqb-false i countAt g, ltb-true i headBytes k)))
+      (λ k. low
+      ∙ same (countAt + 1) (omega (arith, ltb-false i countAt f, eqb-false i countAt g, ltb-true i headBytes k)))
       (λ k. byte-body (i - headBytes) (omega arith) ∙ getD-drop headBytes b (i - headBytes) 0
       ∙ same (headBytes + (i - headBytes)) (omega (arith, ltb-false i headBytes k))))))
     where
@@ -163,7 +165,7 @@ module _ (b : List ℕ) (bytes : AllBytes b) (long : length b ≡ tableBytes) (l
   laid-encode =
       ext-getD 0 (encode (decode b)) b (encode-length (decode b) ∙ sym long)
       (λ i h.
-      let k : i < tableBytes = omega (arith, encode-length (decode b)) in encode-byte (decode b) i k ∙ byte i k)
+      let k : i < tableBytes = omega (arith, encode-length (decode b)) in encode-byte (decode b) i k ∙ byteAt-decoded i k)
 
 pub encode-decode : (b : List ℕ) → AllBytes b → length b ≡ tableBytes → layoutFits b ≡ true → encode (decode b) ≡ b
 encode-decode b bytes long fits = laid-encode b bytes long (layout-laid b fits)
