@@ -54,9 +54,9 @@ pub byteAt-body : (A : Automaton) (j : ℕ) → byteAt A (headBytes + j) ≡ bod
 byteAt-body A j =
     let e : headBytes + j - headBytes ≡ j = omega arith in
     rw (
-      ne-eqb (headBytes + j) 0 (λ e. omega arith),
+      ne-eqb (headBytes + j) 0 (λ z. omega arith),
       le-ltb (headBytes + j) countAt (omega arith),
-      ne-eqb (headBytes + j) countAt (λ e. omega arith),
+      ne-eqb (headBytes + j) countAt (λ z. omega arith),
       le-ltb (headBytes + j) headBytes (omega arith),
     )
     (ap (bodyByte (A .transitions)) e)

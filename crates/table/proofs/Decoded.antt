@@ -1,12 +1,13 @@
 -- The automaton that a table holds, by index. `decode` and `transitionsIn` stay shut beyond this file.
 use mathlib.Core.Bool.{false}
-use mathlib.Core.List.{List}
+use mathlib.Core.List.{List, map}
 use mathlib.Core.Path.{_∙_, _≡_, ap, refl, subst, sym}
 use Prim.Native.Nat.{_+_, _<_, _≤_, suc, zero, ℕ}
 use native.Mathlib.Omega.{arith}
 use lib.ListN.{List·getD-eq-default, getD, length}
 use lib.Seq.{ext-getD}
 use Rattle.automata.specs.Automaton.{Transition, accepting, states}
+use Rattle.lists.specs.Positions.{upFrom}
 use Rattle.lists.specs.Tests.{_∈_}
 use Rattle.table.specs.Layout.{body, classAt, decode, nthTransition, stateCount, transitionCount}
 use Rattle.table.specs.Layout.{transitionsIn}
@@ -50,6 +51,10 @@ module _ (b : List ℕ) where
   pub decoded-states : states (decode b) ≡ stateCount b
   unfolding decode
   decoded-states = length-tabulated (classAt b) 1 (stateCount b)
+
+  pub decoded-classes : decode b .classes ≡ map (classAt b) (upFrom 1 (stateCount b))
+  unfolding decode
+  decoded-classes = refl
 
   pub decoded-transitions : decode b .transitions ≡ transitionsIn (body b) (transitionCount b)
   unfolding decode

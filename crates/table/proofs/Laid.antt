@@ -1,23 +1,22 @@
 -- Condition 7 by index: what it says of each byte.
-use mathlib.Core.Bool.{Bool, _&&_, cond, false, true}
+use mathlib.Core.Bool.{Bool, _&&_, true}
 use mathlib.Core.List.{List}
-use mathlib.Core.Path.{_≡_, refl}
-use Prim.Native.Nat.{_*_, _+_, _-_, _<_, _≤_, ℕ}
+use mathlib.Core.Path.{_≡_}
+use Prim.Native.Nat.{_*_, _-_, _<_, _≤_, ℕ}
 use native.Mathlib.Omega.{arith}
-use lib.Dec.{eqb, leb, ltb}
+use lib.Dec.{leb, ltb}
 use lib.ListN.{getD}
 use borrow.Author.Tests.{eq-eqb, eqb-true, le-leb, le-ltb, leb-false, leb-true, lt-leb, lt-ltb, ltb-false, ltb-true}
-use Rattle.automata.specs.Automaton.{states}
 use Rattle.automata.specs.Valid.{inRange}
 use Rattle.format.specs.Format.{maxArity, maxStates, maxTransitions, transitionBytes}
 use Rattle.lists.specs.Positions.{upFrom}
 use Rattle.lists.specs.Tests.{every}
 use Rattle.table.specs.Layout.{argFits, argOf, arityOf, body, classFits, labelOf, layoutFits, nthFits, outOf}
 use Rattle.table.specs.Layout.{stateCount, transitionCount, transitionFits, zeroAt}
-use Rattle.trees.specs.Tree.{count}
 use Rattle.automata.proofs.Valid.{range-in}
 use Rattle.lists.proofs.Intervals.{every-upFrom, upFrom-every}
 use Rattle.lists.proofs.Tests.{and-both, and-left, and-right}
+use Rattle.table.proofs.Bytes.{cond-is}
 
 -- the fields of the transition that starts at a byte, where there are n states
 pub record LaidTransition (s : List ℕ) (n at : ℕ) : Type 0 where
@@ -77,14 +76,10 @@ module _ (s : List ℕ) (n at : ℕ) where
   unfolding transitionFits
   laid-transition l =
       and-both (and-both (and-both (le-leb 1 (labelOf s at) (l .label)) (le-leb (arityOf s at) maxArity (l .arity)))
-      (upFrom-every (argFits s n at) 0 maxArity (λ k _ h. fits k h (ltb k (arityOf s at)) refl)))
+      (upFrom-every (argFits s n at) 0 maxArity (λ k _ h. cond-is (ltb k (arityOf s at))
+      (λ e. let r = l .args k (ltb-true k (arityOf s at) e) in range-in n (argOf s at k) (r .0) (r .1))
+      (λ e. eq-eqb (argOf s at k) 0 (l .rest k (ltb-false k (arityOf s at) e) (omega arith))))))
       (range-in n (outOf s at) (l .out .0) (l .out .1))
-    where
-      fits : (k : ℕ) → k < 0 + maxArity → (t : Bool) → ltb k (arityOf s at) ≡ t →
-          cond t (inRange n (argOf s at k)) (eqb (argOf s at k) 0) ≡ true
-      fits k h true e =
-          let r = l .args k (ltb-true k (arityOf s at) e) in range-in n (argOf s at k) (r .0) (r .1)
-      fits k h false e = eq-eqb (argOf s at k) 0 (l .rest k (ltb-false k (arityOf s at) e) (omega arith))
 
 -- ---- the bytes of a table
 
@@ -118,16 +113,12 @@ module _ (b : List ℕ) where
   laid-layout l =
       and-both (and-both (and-both (and-both
       (le-leb (stateCount b) maxStates (l .states))
-      (upFrom-every (classFits b) 1 maxStates (λ q h k. fits q h k (leb q (stateCount b)) refl)))
+      (upFrom-every (classFits b) 1 maxStates (λ q h k. cond-is (leb q (stateCount b))
+      (λ e. le-leb (getD b q 0) 1 (l .classes q h (leb-true q (stateCount b) e)))
+      (λ e. eq-eqb (getD b q 0) 0 (l .classes-rest q (leb-false q (stateCount b) e) (omega arith))))))
       (le-leb (transitionCount b) maxTransitions (l .count)))
       (upFrom-every (nthFits (body b) (stateCount b)) 0 (transitionCount b)
       (λ i _ h. laid-transition (body b) (stateCount b) (transitionBytes * i) (l .transitions i (omega arith)))))
       (upFrom-every (zeroAt (body b)) (transitionBytes * transitionCount b)
       (transitionBytes * (maxTransitions - transitionCount b))
       (λ j h k. eq-eqb (getD (body b) j 0) 0 (l .zeros j h (omega (arith, l .count)))))
-    where
-      fits : (q : ℕ) → 1 ≤ q → q < 1 + maxStates → (t : Bool) → leb q (stateCount b) ≡ t →
-          cond t (leb (getD b q 0) 1) (eqb (getD b q 0) 0) ≡ true
-      fits q h k true e = le-leb (getD b q 0) 1 (l .classes q h (leb-true q (stateCount b) e))
-      fits q h k false e =
-          eq-eqb (getD b q 0) 0 (l .classes-rest q (leb-false q (stateCount b) e) (omega arith))

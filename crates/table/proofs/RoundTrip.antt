@@ -21,8 +21,9 @@ use Rattle.trees.specs.Legal.{LegalNode}
 use Rattle.lists.proofs.Intervals.{getD-in, getD-tabulated, getD-tabulated-beyond, length-tabulated, tabulated}
 use Rattle.table.proofs.Bytes.{cond-is, encode-arg, encode-arity, encode-byte, encode-class, encode-count}
 use Rattle.table.proofs.Bytes.{encode-label, encode-length, encode-out, encode-states}
-use Rattle.table.proofs.Decoded.{decoded-beyond, decoded-class, decoded-class-beyond, decoded-count}
-use Rattle.table.proofs.Decoded.{decoded-nth, decoded-states, transitionsIn-is}
+use Rattle.table.proofs.Decoded.{decoded-beyond, decoded-class, decoded-class-beyond, decoded-classes}
+use Rattle.table.proofs.Decoded.{decoded-count, decoded-nth, decoded-states, decoded-transitions}
+use Rattle.table.proofs.Decoded.{transitionsIn-is}
 use Rattle.table.proofs.Laid.{Laid, LaidTransition, layout-laid}
 
 -- ---- an encoded automaton, read back
@@ -69,8 +70,10 @@ module _ (A : Automaton) (within : WithinLimits A) where
       (λ i h. encode-nth i (omega (arith, encode-count A)))
 
   pub decode-encode : decode (encode A) ≡ A
-  unfolding decode
-  decode-encode = λ i. record { classes = encode-classes i; transitions = encode-transitions i }
+  decode-encode =
+      let c = decoded-classes (encode A) ∙ encode-classes in
+      let t = decoded-transitions (encode A) ∙ encode-transitions in
+      λ i. record { classes = c i; transitions = t i }
 
 -- ---- a table in the layout, written back
 
@@ -164,8 +167,8 @@ module _ (b : List ℕ) (bytes : AllBytes b) (long : length b ≡ tableBytes) (l
   pub laid-encode : encode (decode b) ≡ b
   laid-encode =
       ext-getD 0 (encode (decode b)) b (encode-length (decode b) ∙ sym long)
-      (λ i h.
-      let k : i < tableBytes = omega (arith, encode-length (decode b)) in encode-byte (decode b) i k ∙ byteAt-decoded i k)
+      (λ i h. let k : i < tableBytes = omega (arith, encode-length (decode b)) in
+      encode-byte (decode b) i k ∙ byteAt-decoded i k)
 
 pub encode-decode : (b : List ℕ) → AllBytes b → length b ≡ tableBytes → layoutFits b ≡ true → encode (decode b) ≡ b
 encode-decode b bytes long fits = laid-encode b bytes long (layout-laid b fits)
