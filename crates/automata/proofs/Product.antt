@@ -3,10 +3,10 @@ use mathlib.Core.Bool.{Bool, cond, false, false≢true, true, true≢false}
 use mathlib.Core.List.{List, [], _++_, _∷_, map}
 use mathlib.Core.Logic.{_⊎_, inl, inr}
 use mathlib.Core.Path.{_∙_, _≡_, ap, refl, subst, sym}
-use Prim.Native.Nat.{_<_, suc, zero, ℕ}
+use Prim.Native.Nat.{suc, zero, ℕ}
 use native.Mathlib.Omega.{arith}
 use lib.Dec.{eqb, leb}
-use lib.ListN.{getD, length, length-map}
+use lib.ListN.{length, length-map}
 use borrow.Author.Tests.{eq-eqb, le-leb, ne-eqb, not-false}
 use Rattle.automata.specs.Automaton.{Automaton, Transition, accepting, accepts, lookup, run, runs, states}
 use Rattle.automata.specs.Automaton.{step}
@@ -23,16 +23,11 @@ use Rattle.automata.proofs.Order.{lookup-transition}
 use Rattle.automata.proofs.Sorting.{OneTransition, in-sort, sort-in, sort-rising}
 use Rattle.automata.proofs.Steps.{Fits, Has, lookup-view, step-view}
 use Rattle.lists.proofs.Closure.{closed, closure-all, elem-in, in-elem}
+use Rattle.lists.proofs.Intervals.{getD-map}
 use Rattle.lists.proofs.Positions.{eqPair-same, eqPair-true, in-grid, in-upFrom, position-at, position-length}
 use Rattle.lists.proofs.Positions.{position-none, position-pos}
 use Rattle.lists.proofs.Tests.{any-in, append-in, filter-in, in-any, in-append-left, in-append-right, in-every}
 use Rattle.lists.proofs.Tests.{in-filter, in-map, map-in, or-left, or-right}
-
-getD-map : (f : Pair → Bool) (xs : List Pair) (k : ℕ) → k < length xs →
-    getD (map f xs) k false ≡ f (getD xs k (0, 0))
-getD-map f [] k h = absurd (omega arith)
-getD-map f (x ∷ xs) zero h = refl
-getD-map f (x ∷ xs) (suc k) h = getD-map f xs k (omega arith)
 
 abbrev none : Pair
 none = (0, 0)
@@ -348,7 +343,7 @@ module _ (A B : Automaton) where
               ))
           go (inr i) (suc n) u = let r =
               position-at eqPair eqPair-true eqPair-same (accessiblePairs A B) (run A t, run B t) none n
-              u in getD-map cls (accessiblePairs A B) n (r .0) ∙ ap cls (r .1)
+              u in getD-map cls (accessiblePairs A B) n (0, 0) false (r .0) ∙ ap cls (r .1)
 
     -- some tree leads to each pair
     forest-of : (ks : List Pair) → ((k : Pair) → k ∈ ks → (t : Tree) × ((run A t, run B t) ≡ k)) →

@@ -23,6 +23,7 @@ use Rattle.automata.proofs.Numbers.{number-pos, number-prefix}
 use Rattle.automata.proofs.Order.{first-open, key-equal}
 use Rattle.automata.proofs.Sorting.{OneTransition, in-sort, sort-in, sort-rising}
 use Rattle.automata.proofs.Unique.{children}
+use Rattle.lists.proofs.Intervals.{getD-map}
 use Rattle.lists.proofs.Positions.{upFrom-in}
 use Rattle.lists.proofs.Tests.{and-both, and-left, and-right, in-every, in-map, map-in}
 use Rattle.trees.proofs.Trees.{AllTrees, snoc-append}
@@ -77,11 +78,6 @@ above-out O k q h = go (elem eqb q (take k O)) refl
     go : (b : Bool) → elem eqb q (take k O) ≡ b → not b ≡ true
     go true e = absurd (omega (arith, number-le k O q e, ltb-true k (numberOf O q) h))
     go false e = refl
-
-getD-map : (f : ℕ → Bool) (xs : List ℕ) (k : ℕ) → k < length xs → getD (map f xs) k false ≡ f (getD xs k 0)
-getD-map f [] k h = absurd (omega arith)
-getD-map f (x ∷ xs) zero h = refl
-getD-map f (x ∷ xs) (suc k) h = getD-map f xs k (omega arith)
 
 pub record Grouping (S : Tree → Bool) (g : Tree → ℕ) (Q : List Transition) : Type 0 where
   pub joins : (t u : Tree) → Subtree S t → Subtree S u → Equivalent S t u → g t ≡ g u
@@ -284,7 +280,7 @@ module _ (S : Tree → Bool) (g : Tree → ℕ) (Q : List Transition) (G : Group
     where
       go : (n : ℕ) → numberOf (numbering Q) (g t) ≡ n → 1 ≤ n → accepting (renumbered cls Q) n ≡ S t
       go zero e h = absurd (omega arith)
-      go (suc k) e h = getD-map cls (numbering Q) k (omega (arith, number-length (numbering Q) (g t)))
+      go (suc k) e h = getD-map cls (numbering Q) k 0 false (omega (arith, number-length (numbering Q) (g t)))
           ∙ ap cls (getD-number (numbering Q) (g t) k e) ∙ right t p
 
   pub renumbered-canonical : Canonical S (renumbered cls Q)

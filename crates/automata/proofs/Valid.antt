@@ -31,7 +31,7 @@ pub record InRange (A : Automaton) (τ : Transition) : Type 0 where
   pub args : (q : ℕ) → q ∈ τ .args → (1 ≤ q) × (q ≤ states A)
   pub out : (1 ≤ τ .out) × (τ .out ≤ states A)
 
-in-range : (n q : ℕ) → inRange n q ≡ true → (1 ≤ q) × (q ≤ n)
+pub in-range : (n q : ℕ) → inRange n q ≡ true → (1 ≤ q) × (q ≤ n)
 in-range n q e = (leb-true 1 q (and-left _ _ e), leb-true q n (and-right (leb 1 q) _ e))
 
 pub range-in : (n q : ℕ) → 1 ≤ q → q ≤ n → inRange n q ≡ true

@@ -136,8 +136,8 @@ module _ (b : List ℕ) (m : Model) (X : InStep b m) where
     unfolding modelRefusal changeConditions
     fresh e =
         let all = unbroken-hold (listingConditions s ++ (scratchCondition w ∷ changeConditions c (member m (changedTree c)) (canonicalOf m)))
-            (from-one-append (listingConditions s) (scratchCondition w ∷ changeConditions c (member m (changedTree c)) (canonicalOf m))
-            (listing-from-one s) (change-from-one c (member m (changedTree c)) (canonicalOf m) w)) e in
+        (from-one-append (listingConditions s) (scratchCondition w ∷ changeConditions c (member m (changedTree c)) (canonicalOf m))
+        (listing-from-one s) (change-from-one c (member m (changedTree c)) (canonicalOf m) w)) e in
         let (p, q) = hold-append (listingConditions s) (scratchCondition w ∷ changeConditions c (member m (changedTree c)) (canonicalOf m)) all in
         changed-in-step c (subst Legal (sym tree) (passed-legal s bytes p)) (q .1 .1 .1 .0)
 
