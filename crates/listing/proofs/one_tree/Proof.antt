@@ -1,5 +1,5 @@
 use mathlib.Core.Path.{_∙_, sym}
-use Rattle.listing.proofs.Whole.{one-tree-measured, wholly}
+use Rattle.listing.proofs.Laws.{one-tree-measured, wholly}
 use borrow.Author.Needs.{needs}
 use Rattle.listing.proofs.one_tree.Statement.{statement}
 use Rattle.listing.proofs.one_tree.Tie as tie
