@@ -1,68 +1,68 @@
-use Rattle.trees.specs.Listing.{listingConditions, listingRefusal}
-use Rattle.listing.proofs.Checks.{broken, kept}
+-- `refusal` answers with the first condition that its check finds broken. The five laws are what each `return` knows,
+-- and search finds which of them fits.
 use borrow.Author.Needs.{needs}
+use mathlib.Core.Bool.{Bool, false, not, true}
+use mathlib.Core.List.{List}
+use mathlib.Core.Path.{_≡_}
+use Prim.Native.Nat.{ℕ}
+use Rattle.trees.specs.Listing.{allLabelled, allNarrow, listingConditions, listingRefusal, oneTree, wholeNodes}
+use Rattle.listing.proofs.Checks.{broken, kept}
 use Rattle.listing.proofs.refusal.Statement.{statement}
 use Rattle.listing.proofs.refusal.Tie as tie
-use Rattle.listing.proofs.refusal.Reads as reads
-use Rattle.listing.proofs.refusal.Lts as lts
-use Rattle.listing.proofs.all_labelled.Reads as all-labelled-reads
-use Rattle.listing.proofs.all_narrow.Reads as all-narrow-reads
-use Rattle.listing.proofs.one_tree.Reads as one-tree-reads
-use Rattle.listing.proofs.whole_nodes.Reads as whole-nodes-reads
 
--- src/lib.rt:115:9
+module _ (s : List ℕ) where
+  refused-1 : {w : Bool} → w ≡ wholeNodes s → not w ≡ true → _≡_ {A = ℕ} 1 (listingRefusal s)
+  unfolding listingRefusal listingConditions
+  refused-1 p x = rw (broken p x)
+
+  refused-2 : {w l : Bool} → w ≡ wholeNodes s → not w ≡ false → l ≡ allLabelled s → not l ≡ true →
+      _≡_ {A = ℕ} 2 (listingRefusal s)
+  unfolding listingRefusal listingConditions
+  refused-2 p x q y = rw (kept p x, broken q y)
+
+  refused-3 : {w l n : Bool} → w ≡ wholeNodes s → not w ≡ false → l ≡ allLabelled s → not l ≡ false →
+      n ≡ allNarrow s → not n ≡ true → _≡_ {A = ℕ} 3 (listingRefusal s)
+  unfolding listingRefusal listingConditions
+  refused-3 p x q y r z = rw (kept p x, kept q y, broken r z)
+
+  refused-4 : {w l n o : Bool} → w ≡ wholeNodes s → not w ≡ false → l ≡ allLabelled s → not l ≡ false →
+      n ≡ allNarrow s → not n ≡ false → o ≡ oneTree s → not o ≡ true → _≡_ {A = ℕ} 4 (listingRefusal s)
+  unfolding listingRefusal listingConditions
+  refused-4 p x q y r z t u = rw (kept p x, kept q y, kept r z, broken t u)
+
+  not-refused : {w l n o : Bool} → w ≡ wholeNodes s → not w ≡ false → l ≡ allLabelled s → not l ≡ false →
+      n ≡ allNarrow s → not n ≡ false → o ≡ oneTree s → not o ≡ false → _≡_ {A = ℕ} 0 (listingRefusal s)
+  unfolding listingRefusal listingConditions
+  not-refused p x q y r z t u = rw (kept p x, kept q y, kept r z, kept t u)
+
+ruleset answers = (refused-1, refused-2, refused-3, refused-4, not-refused)
+
 whole-nodes-requires : tie.Need-whole-nodes-requires
 whole-nodes-requires c κs = search needs
 
--- src/lib.rt:116:9
 returns : tie.Need-returns
-unfolding listingRefusal listingConditions
-returns c = rw (broken (c .before .whole-nodes .ensures) (c .if1 .taken))
+returns c = search answers
 
--- src/lib.rt:118:9
 all-labelled-requires : tie.Need-all-labelled-requires
 all-labelled-requires c κs = search needs
 
--- src/lib.rt:119:9
 returns-2 : tie.Need-returns-2
-unfolding listingRefusal listingConditions
-returns-2 c =
-    let whole = kept (c .before .before .before .whole-nodes .ensures) (c .before .before .if1 .left) in
-    rw (whole, broken (c .before .all-labelled .ensures) (c .if2 .taken))
+returns-2 c = search answers
 
--- src/lib.rt:121:9
 all-narrow-requires : tie.Need-all-narrow-requires
 all-narrow-requires c κs = search needs
 
--- src/lib.rt:122:9
 returns-3 : tie.Need-returns-3
-unfolding listingRefusal listingConditions
-returns-3 c =
-    let whole = kept (c .before .before .before .before .before .whole-nodes .ensures) (c .before .before .before .before .if1 .left) in
-    let labelled = kept (c .before .before .before .all-labelled .ensures) (c .before .before .if2 .left) in
-    rw (whole, labelled, broken (c .before .all-narrow .ensures) (c .if3 .taken))
+returns-3 c = search answers
 
--- src/lib.rt:124:9
 one-tree-requires : tie.Need-one-tree-requires
 one-tree-requires c κs = search needs
 
--- src/lib.rt:125:9
 returns-4 : tie.Need-returns-4
-unfolding listingRefusal listingConditions
-returns-4 c =
-    let whole = kept (c .before .before .before .before .before .before .before .whole-nodes .ensures) (c .before .before .before .before .before .before .if1 .left) in
-    let labelled = kept (c .before .before .before .before .before .all-labelled .ensures) (c .before .before .before .before .if2 .left) in
-    let narrow = kept (c .before .before .before .all-narrow .ensures) (c .before .before .if3 .left) in
-    rw (whole, labelled, narrow, broken (c .before .one-tree .ensures) (c .if4 .taken))
+returns-4 c = search answers
 
--- src/lib.rt:112:1
 returns-5 : tie.Need-returns-5
-unfolding listingRefusal listingConditions
-returns-5 c =
-    let whole = kept (c .before .before .before .before .before .before .before .whole-nodes .ensures) (c .before .before .before .before .before .before .if1 .left) in
-    let labelled = kept (c .before .before .before .before .before .all-labelled .ensures) (c .before .before .before .before .if2 .left) in
-    let narrow = kept (c .before .before .before .all-narrow .ensures) (c .before .before .if3 .left) in
-    rw (whole, labelled, narrow, kept (c .before .one-tree .ensures) (c .if4 .left))
+returns-5 c = search answers
 
 pub refusal-spec : {M : Type 1} → statement M
 refusal-spec =
