@@ -1,0 +1,135 @@
+-- Laws of `measured`: how the two readers come by their answers, and that a length read lies within the slice.
+use mathlib.Core.List.{List, [], _∷_}
+use mathlib.Core.Path.{_∙_, _≡_, ap, refl, sym}
+use Prim.Native.Nat.{_+_, _-_, _<_, _≤_, suc, zero, ℕ}
+use native.Mathlib.Nat.{add-assoc, add-zero, suc-add, zero-add}
+use native.Mathlib.Omega.{arith}
+use lib.ListN.{drop, getD, length, length-drop, take}
+use lib.Seq.{take-all}
+use Rattle.format.specs.Format.{labelBytes, nodeBytes}
+use Rattle.listing.specs.Measure.{measured, plus}
+use Rattle.listing.specs.declared.Read.{Read}
+use Rattle.listing.specs.declared.Read.the-variants.{Bad, Node}
+
+pub plus-zero : (r : Read) → plus 0 r ≡ r
+unfolding plus
+plus-zero (Node m) = ap Node (zero-add m)
+plus-zero Bad = refl
+
+plus-plus : (a b : ℕ) (r : Read) → plus a (plus b r) ≡ plus (a + b) r
+unfolding plus
+plus-plus a b (Node m) = ap Node (sym (add-assoc a b m))
+plus-plus a b Bad = refl
+
+pub measured-none : (s : List ℕ) → measured s 0 ≡ Node 0
+unfolding measured
+measured-none [] = refl
+measured-none (a ∷ []) = refl
+measured-none (a ∷ c ∷ s) = refl
+
+-- k trees more, behind what was read of s
+abbrev onward : Read → List ℕ → ℕ → Read
+onward (Node n) s k = plus n (measured (drop n s) k)
+onward Bad s k = Bad
+
+past-node : (r : Read) (a c : ℕ) (s : List ℕ) (k : ℕ) →
+    plus nodeBytes (onward r s k) ≡ onward (plus nodeBytes r) (a ∷ c ∷ s) k
+unfolding plus
+past-node (Node m) a c s k =
+    let e : nodeBytes + m ≡ suc (suc m) = omega arith in
+    plus-plus nodeBytes m (measured (drop m s) k) ∙ rw e
+past-node Bad a c s k = refl
+
+onward-none : (s : List ℕ) (k : ℕ) → measured s (0 + k) ≡ onward (measured s 0) s k
+onward-none s k = rw (measured-none s, zero-add) (sym (plus-zero _))
+
+-- the first j + k trees are the first j and k more behind them
+measured-add : (s : List ℕ) (j k : ℕ) → measured s (j + k) ≡ onward (measured s j) s k
+unfolding measured
+measured-add [] zero k = onward-none [] k
+measured-add [] (suc j) k = rw (suc-add j k)
+measured-add (a ∷ []) zero k = onward-none (a ∷ []) k
+measured-add (a ∷ []) (suc j) k = rw (suc-add j k)
+measured-add (a ∷ c ∷ s) zero k = onward-none (a ∷ c ∷ s) k
+measured-add (a ∷ c ∷ s) (suc j) k =
+    let e : c + (j + k) ≡ c + j + k = omega arith in
+    rw (suc-add j k, e, measured-add s (c + j) k) (past-node (measured s (c + j)) a c s k)
+
+-- a length that was read is at most that of the slice
+AtMost : Read → ℕ → Type 0
+AtMost (Node n) m = n ≤ m
+AtMost Bad m = Unit {0}
+
+more-at-most : (r : Read) (m : ℕ) → AtMost r m → AtMost (plus nodeBytes r) (suc (suc m))
+unfolding plus AtMost
+more-at-most (Node n) m h = omega arith
+more-at-most Bad m h = tt
+
+measured-at-most : (s : List ℕ) (k : ℕ) → AtMost (measured s k) (length s)
+unfolding measured AtMost
+measured-at-most [] zero = omega arith
+measured-at-most [] (suc k) = tt
+measured-at-most (a ∷ []) zero = omega arith
+measured-at-most (a ∷ []) (suc k) = tt
+measured-at-most (a ∷ c ∷ s) zero = omega arith
+measured-at-most (a ∷ c ∷ s) (suc k) = more-at-most (measured s (c + k)) (length s) (measured-at-most s (c + k))
+
+pub measured-within : (s : List ℕ) (k n : ℕ) → measured s k ≡ Node n → n ≤ length s
+unfolding AtMost
+measured-within s k n e = rw e at (measured-at-most s k)
+
+-- what the part &s[a..] holds
+abbrev pub part : List ℕ → ℕ → List ℕ
+part s a = take (length s - a) (drop a s)
+
+part-drop : (s : List ℕ) (a : ℕ) → part s a ≡ drop a s
+part-drop s a = take-all (length s - a) (drop a s) (simp length-drop (omega arith))
+
+pub part-length : (s : List ℕ) (a : ℕ) → length (part s a) ≡ length s - a
+part-length s a = ap length (part-drop s a) ∙ length-drop a s
+
+-- what is read of a part lies within the slice
+pub part-within : (s : List ℕ) (a k n : ℕ) → a ≤ length s → measured (part s a) k ≡ Node n → a + n ≤ length s
+part-within s a k n h e = omega (arith, measured-within (part s a) k n e, part-length s a)
+
+pub tree-short : (s : List ℕ) → length s < nodeBytes → Bad ≡ measured s 1
+unfolding measured
+tree-short [] h = refl
+tree-short (a ∷ []) h = refl
+tree-short (a ∷ c ∷ s) h = absurd (omega arith)
+
+tree-node : (s : List ℕ) → nodeBytes ≤ length s →
+    measured s 1 ≡ plus nodeBytes (measured (drop nodeBytes s) (getD s labelBytes 0))
+unfolding measured
+tree-node [] h = absurd (omega arith)
+tree-node (a ∷ []) h = absurd (omega arith)
+tree-node (a ∷ c ∷ s) h = rw add-zero
+
+-- a tree is a node and, in the part behind it, its children
+pub tree-read : (s : List ℕ) (k : ℕ) (r : Read) → nodeBytes ≤ length s → k ≡ getD s labelBytes 0 →
+    measured (part s nodeBytes) k ≡ r → plus nodeBytes r ≡ measured s 1
+tree-read s k r h e q = rw (tree-node s h, ← e, ← part-drop s nodeBytes, q)
+
+-- children are a tree of n bytes and, in the part behind it, the others
+pub children-read : (s : List ℕ) (k n : ℕ) (r : Read) → (k ≡ 0 → ⊥) → measured s 1 ≡ Node n →
+    measured (part s n) (k - 1) ≡ r → plus n r ≡ measured s k
+children-read s k n r h e q =
+    let d : k ≡ 1 + (k - 1) = omega arith in
+    rw (d, measured-add s 1 (k - 1), e, ← part-drop s n, q)
+
+pub children-bad : (s : List ℕ) (k : ℕ) → (k ≡ 0 → ⊥) → measured s 1 ≡ Bad → Bad ≡ measured s k
+children-bad s k h e =
+    let d : k ≡ 1 + (k - 1) = omega arith in
+    rw (d, measured-add s 1 (k - 1), e)
+
+plus-some : (r : Read) (n : ℕ) → plus nodeBytes r ≡ Node n → nodeBytes ≤ n
+unfolding plus
+plus-some (Node m) n e = let h : nodeBytes + m ≡ n = cc in omega arith
+plus-some Bad n e = let z : _≡_ {A = ℕ} 0 1 = cc in absurd (omega arith)
+
+-- a tree has a node at least
+pub tree-some : (s : List ℕ) (n : ℕ) → measured s 1 ≡ Node n → nodeBytes ≤ n
+unfolding measured
+tree-some [] n e = let z : _≡_ {A = ℕ} 0 1 = cc in absurd (omega arith)
+tree-some (a ∷ []) n e = let z : _≡_ {A = ℕ} 0 1 = cc in absurd (omega arith)
+tree-some (a ∷ c ∷ s) n e = plus-some (measured s (c + 0)) n e

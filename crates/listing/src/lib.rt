@@ -1,0 +1,128 @@
+// Listings of trees in bytes: the tree reader, and document 01's refusals 1 to 4. No function has a `requires`:
+// each answers for every slice of any length.
+ghost use mathlib.Core.Path.{_≡_};
+ghost use Rattle.trees.specs.Listing.{wholeNodes, allLabelled, allNarrow, oneTree, listingRefusal};
+ghost use Rattle.listing.specs.Measure.{measured};
+use format::MAX_ARITY;
+use format::MAX_LISTING;
+use format::NODE_BYTES;
+
+// A node's label comes before its child count.
+const LABEL_BYTES: usize = 1;
+
+// A byte as a number to count and to index with.
+pub fn wide(x: u8) -> usize
+    ensures { λ r. ⌜ r ≡ x ⌝ }
+{
+    x as usize
+}
+
+// What a reader finds: the number of bytes that it read, or that the slice does not start with what it looks for.
+pub enum Read {
+    Node { len: usize },
+    Bad,
+}
+
+// Reads the tree that s starts with.
+pub fn tree(s: &[u8]) -> Read
+    ensures { λ r. ⌜ r ≡ measured (now (s .entry)) 1 ⌝ }
+{
+    if s.len() < NODE_BYTES {
+        return Read::Bad;
+    }
+    let count = wide(s[LABEL_BYTES]);
+    let Read::Node { len } = children(&s[NODE_BYTES..], count) else {
+        return Read::Bad;
+    };
+    Read::Node {
+        len: NODE_BYTES + len,
+    }
+}
+
+// Reads the count trees, one behind the other, that s starts with.
+pub fn children(s: &[u8], count: usize) -> Read
+    ensures { λ r. ⌜ r ≡ measured (now (s .entry)) count ⌝ }
+{
+    if count == 0 {
+        return Read::Node { len: 0 };
+    }
+    let Read::Node { len } = tree(s) else {
+        return Read::Bad;
+    };
+    let Read::Node { len: more } = children(&s[len..], count - 1) else {
+        return Read::Bad;
+    };
+    Read::Node { len: len + more }
+}
+
+// Whether the length is that of 1 to 48 nodes (01, refusal 1).
+pub fn whole_nodes(s: &[u8]) -> bool
+    ensures { λ r. ⌜ r ≡ wholeNodes (now (s .entry)) ⌝ }
+{
+    if s.len() < NODE_BYTES {
+        return false;
+    }
+    if s.len() > MAX_LISTING {
+        return false;
+    }
+    s.len() % NODE_BYTES == 0
+}
+
+// Whether no label is 0, also behind the first tree (01, refusal 2).
+pub fn all_labelled(s: &[u8]) -> bool
+    ensures { λ r. ⌜ r ≡ allLabelled (now (s .entry)) ⌝ }
+{
+    let nodes = s.len() / NODE_BYTES;
+    let mut i = 0;
+    while i < nodes {
+        if s[NODE_BYTES * i] == 0 {
+            return false;
+        }
+        i += 1;
+    }
+    true
+}
+
+// Whether no child count is above 8, also behind the first tree (01, refusal 3).
+pub fn all_narrow(s: &[u8]) -> bool
+    ensures { λ r. ⌜ r ≡ allNarrow (now (s .entry)) ⌝ }
+{
+    let nodes = s.len() / NODE_BYTES;
+    let mut i = 0;
+    while i < nodes {
+        if wide(s[NODE_BYTES * i + LABEL_BYTES]) > MAX_ARITY {
+            return false;
+        }
+        i += 1;
+    }
+    true
+}
+
+// Whether the bytes are one tree and no more (01, refusal 4).
+pub fn one_tree(s: &[u8]) -> bool
+    ensures { λ r. ⌜ r ≡ oneTree (now (s .entry)) ⌝ }
+{
+    let Read::Node { len } = tree(s) else {
+        return false;
+    };
+    len == s.len()
+}
+
+// The first of refusals 1 to 4 that applies, or 0.
+pub fn refusal(s: &[u8]) -> u8
+    ensures { λ r. ⌜ r ≡ listingRefusal (now (s .entry)) ⌝ }
+{
+    if !whole_nodes(s) {
+        return 1;
+    }
+    if !all_labelled(s) {
+        return 2;
+    }
+    if !all_narrow(s) {
+        return 3;
+    }
+    if !one_tree(s) {
+        return 4;
+    }
+    0
+}
