@@ -1,3 +1,4 @@
 pub mod Tests
 pub mod Positions
 pub mod Closure
+pub mod Loops
