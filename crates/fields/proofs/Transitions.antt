@@ -12,7 +12,7 @@ use borrow.Author.Tests.{leb-true, lt-ltb}
 use Rattle.automata.specs.Automaton.{Transition, runs, states}
 use Rattle.automata.specs.Minimal.{first}
 use Rattle.automata.specs.Valid.{inRange}
-use Rattle.fields.specs.Fields.{InTable, Runs, RunsOver}
+use Rattle.fields.specs.Fields.{InTable, Readable, Runs, RunsOver}
 use Rattle.format.specs.Format.{headBytes, maxArity, maxStates, maxTransitions, tableBytes, transitionBytes}
 use Rattle.lists.specs.Positions.{upFrom}
 use Rattle.lists.specs.Tests.{_∈_, every}
@@ -58,6 +58,9 @@ pub transitionsIn-suc : (s : List ℕ) (n : ℕ) → transitionsIn s (suc n) ≡
 unfolding transitionsIn
 transitionsIn-suc s n =
     tabulated-suc (nthTransition s) 0 n ∙ ap (λ i. transitionsIn s n ++ (nthTransition s i ∷ [])) (zero-add n)
+
+pub readable : {s : List ℕ} {n : ℕ} → Runs s n → (i : ℕ) → i < n → Readable s (transitionBytes * i)
+readable r i h = record { inside = omega (arith, r .inside); narrow = r .narrow i h }
 
 -- ---- the arguments of a transition
 

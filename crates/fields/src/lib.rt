@@ -22,6 +22,9 @@ use format::MAX_TRANSITIONS;
 use format::OUT_AT;
 use format::TRANSITION_BYTES;
 
+// The arity stands right before the arguments.
+const ARITY_AT: usize = ARGS_AT - 1;
+
 pub enum Found {
     State(u8),
     Nothing,
@@ -87,7 +90,7 @@ fn arg_fits(run: &[u8], states: usize, at: usize, k: usize) -> bool
     ensures { λ r. ⌜ r ≡ argFits (now (run .entry)) states at k ⌝ }
 {
     let q = wide(run[at + ARGS_AT + k]);
-    if k < wide(run[at + 1]) {
+    if k < wide(run[at + ARITY_AT]) {
         return in_range(states, q);
     }
     q == 0
@@ -115,7 +118,7 @@ fn transition_fits(run: &[u8], states: usize, at: usize) -> bool
     if run[at] < 1 {
         return false;
     }
-    if wide(run[at + 1]) > MAX_ARITY {
+    if wide(run[at + ARITY_AT]) > MAX_ARITY {
         return false;
     }
     if !args_fit(run, states, at) {
@@ -174,4 +177,88 @@ pub fn layout_fits(table: &[u8]) -> bool
         return false;
     }
     zeros_from(&table[HEAD_BYTES..], TRANSITION_BYTES * count)
+}
+
+// Whether the first n arguments of one transition come before those of another: the first that differ decide.
+fn args_precede(run: &[u8], a: usize, b: usize, n: usize) -> bool
+    requires { ⌜ Readable (now run) a ⌝ }
+    requires { ⌜ Readable (now run) b ⌝ }
+    requires { ⌜ n ≤ maxArity ⌝ }
+    ensures { λ r. ⌜ r ≡ lex (map (argOf (now (run .entry)) a) (upFrom 0 n)) (map (argOf (now (run .entry)) b) (upFrom 0 n)) ⌝ }
+{
+    let mut k = 0;
+    while k < n {
+        let x = run[a + ARGS_AT + k];
+        let y = run[b + ARGS_AT + k];
+        if x != y {
+            return x < y;
+        }
+        k += 1;
+    }
+    false
+}
+
+// Whether the transition that starts at byte a comes before the one at byte b: by child count, then label, then
+// arguments.
+fn precedes_at(run: &[u8], a: usize, b: usize) -> bool
+    requires { ⌜ Readable (now run) a ⌝ }
+    requires { ⌜ Readable (now run) b ⌝ }
+    ensures { λ r. ⌜ r ≡ precedes (transitionAt (now (run .entry)) a) (transitionAt (now (run .entry)) b) ⌝ }
+{
+    let n = wide(run[a + ARITY_AT]);
+    let m = wide(run[b + ARITY_AT]);
+    if n != m {
+        return n < m;
+    }
+    if run[a] != run[b] {
+        return run[a] < run[b];
+    }
+    args_precede(run, a, b, n)
+}
+
+// Condition 8: each transition comes before the next.
+pub fn rises(run: &[u8], count: usize) -> bool
+    requires { ⌜ Runs (now run) count ⌝ }
+    ensures { λ r. ⌜ r ≡ rising (transitionsIn (now (run .entry)) count) ⌝ }
+{
+    let mut i = 0;
+    while i + 1 < count {
+        if !precedes_at(run, TRANSITION_BYTES * i, TRANSITION_BYTES * (i + 1)) {
+            return false;
+        }
+        i += 1;
+    }
+    true
+}
+
+// The output of the first transition that has this label and these arguments.
+pub fn find(run: &[u8], count: usize, label: u8, arity: usize, args: [u8; MAX_ARITY]) -> Found
+    requires { ⌜ Runs (now run) count ⌝ }
+    requires { ⌜ arity ≤ maxArity ⌝ }
+    ensures { λ r. ⌜ foundState r ≡ lookup label (take arity args) (transitionsIn (now (run .entry)) count) ⌝ }
+    ensures { λ r. ⌜ isFound r ≡ any (matches label (take arity args)) (transitionsIn (now (run .entry)) count) ⌝ }
+{
+    let mut i = 0;
+    let answer = 'search: loop {
+        if i >= count {
+            break 'search Found::Nothing;
+        }
+        let at = TRANSITION_BYTES * i;
+        i += 1;
+        if run[at] != label {
+            continue 'search;
+        }
+        if wide(run[at + ARITY_AT]) != arity {
+            continue 'search;
+        }
+        let mut k = 0;
+        'args: while k < arity {
+            if run[at + ARGS_AT + k] != args[k] {
+                continue 'search;
+            }
+            k += 1;
+        }
+        break 'search Found::State(run[at + OUT_AT]);
+    };
+    answer
 }
