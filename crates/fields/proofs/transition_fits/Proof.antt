@@ -1,0 +1,77 @@
+-- `fields::transition_fits` meets its contract: each return breaks the next test of the definition.
+use mathlib.Core.Path.{_∙_, sym}
+use Prim.Native.Nat.{_+_}
+use native.Mathlib.Omega.{arith}
+use lib.ListN.{getD}
+use borrow.Author.Needs.{needs}
+use borrow.Author.Tests.{le-leb, lt-leb, not-false, not-true}
+use Rattle.table.specs.Layout.{transitionFits}
+use Rattle.fields.proofs.transition_fits.Statement.{statement}
+use Rattle.fields.proofs.transition_fits.Tie as tie
+
+shared-slice-read-if1 : tie.Need-shared-slice-read-if1
+shared-slice-read-if1 c = search needs
+
+returns : tie.Need-returns
+unfolding transitionFits
+returns c =
+    rw (lt-leb 1 ((getD (c .before .before .before .args .run .now) (c .before .before .before .args .at) 0)) (omega arith))
+
+add-wide : tie.Need-add-wide
+add-wide c = search needs
+
+shared-slice-read-wide : tie.Need-shared-slice-read-wide
+shared-slice-read-wide c = search needs
+
+wide-requires : tie.Need-wide-requires
+wide-requires c κs = search needs
+
+returns-2 : tie.Need-returns-2
+unfolding transitionFits
+returns-2 c =
+    rw (le-leb 1 ((getD (c .before .before .before .before .before .before .args .run .now) (c .before .before .before .before .before .before .args .at) 0)) (omega arith), lt-leb ((getD (c .before .before .before .before .before .before .args .run .now) (c .before .before .before .before .before .before .args .at + 1) 0)) 8 (omega arith))
+
+args-fit-requires : tie.Need-args-fit-requires
+args-fit-requires c κs = search needs
+
+returns-3 : tie.Need-returns-3
+unfolding transitionFits
+returns-3 c =
+    let e = sym (c .before .args-fit .ensures) ∙ not-true _ (c .if3 .taken) in
+    rw (le-leb 1 ((getD (c .before .before .before .before .before .before .before .before .args .run .now) (c .before .before .before .before .before .before .before .before .args .at) 0)) (omega arith), le-leb ((getD (c .before .before .before .before .before .before .before .before .args .run .now) (c .before .before .before .before .before .before .before .before .args .at + 1) 0)) 8 (omega arith), e)
+
+add-wide-2 : tie.Need-add-wide-2
+add-wide-2 c = search needs
+
+shared-slice-read-wide-2 : tie.Need-shared-slice-read-wide-2
+shared-slice-read-wide-2 c = search needs
+
+wide-requires-2 : tie.Need-wide-requires-2
+wide-requires-2 c κs = search needs
+
+in-range-requires : tie.Need-in-range-requires
+in-range-requires c κs = search needs
+
+returns-4 : tie.Need-returns-4
+unfolding transitionFits
+returns-4 c =
+    let e = sym (c .before .before .before .before .args-fit .ensures) ∙ not-false _ (c .before .before .before .if3 .left) in
+    rw (le-leb 1 ((getD (c .before .before .before .before .before .before .before .before .before .before .before .args .run .now) (c .before .before .before .before .before .before .before .before .before .before .before .args .at) 0)) (omega arith), le-leb ((getD (c .before .before .before .before .before .before .before .before .before .before .before .args .run .now) (c .before .before .before .before .before .before .before .before .before .before .before .args .at + 1) 0)) 8 (omega arith), e, ← (c .before .wide2 .ensures)) (c .in-range .ensures)
+
+pub transition-fits-spec : {M : Type 1} → statement M
+transition-fits-spec =
+    tie.close
+    (tie.spec
+    shared-slice-read-if1
+    returns
+    add-wide
+    shared-slice-read-wide
+    wide-requires
+    returns-2
+    args-fit-requires
+    returns-3
+    add-wide-2
+    shared-slice-read-wide-2
+    wide-requires-2
+    in-range-requires
+    returns-4)

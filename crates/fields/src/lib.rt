@@ -1,0 +1,264 @@
+// Fields of a table and of its transitions. `run` is a run of transitions, transition i at byte 11 i: the part
+// `&table[203..]` of a table, or a scratch. Layout and order are conditions 7 and 8.
+ghost use mathlib.Core.Path.{_≡_};
+ghost use mathlib.Core.List.{map};
+ghost use Prim.Native.Nat.{_*_, _+_, _-_, _<_, _≤_};
+ghost use lib.ListN.{length, take};
+ghost use Rattle.automata.specs.Automaton.{lookup, matches};
+ghost use Rattle.automata.specs.Order.{lex, precedes, rising};
+ghost use Rattle.automata.specs.Valid.{inRange};
+ghost use Rattle.format.specs.Format.{maxArity, maxStates, maxTransitions, tableBytes, transitionBytes};
+ghost use Rattle.lists.specs.Positions.{upFrom};
+ghost use Rattle.lists.specs.Tests.{any, every};
+ghost use Rattle.table.specs.Layout.{argFits, argOf, classFits, layoutFits, nthFits, transitionAt, transitionCount};
+ghost use Rattle.table.specs.Layout.{transitionFits, transitionsIn, zeroAt};
+ghost use Rattle.fields.specs.Fields.{Readable, Runs, foundState, isFound};
+use format::ARGS_AT;
+use format::COUNT_AT;
+use format::HEAD_BYTES;
+use format::MAX_ARITY;
+use format::MAX_STATES;
+use format::MAX_TRANSITIONS;
+use format::OUT_AT;
+use format::TRANSITION_BYTES;
+
+// The arity stands right before the arguments.
+const ARITY_AT: usize = ARGS_AT - 1;
+
+pub enum Found {
+    State(u8),
+    Nothing,
+}
+
+pub fn wide(x: u8) -> usize
+    ensures { λ r. ⌜ r ≡ x ⌝ }
+{
+    x as usize
+}
+
+// The number of transitions of a table.
+pub fn transition_count(table: &[u8]) -> usize
+    requires { ⌜ length (now table) ≡ tableBytes ⌝ }
+    ensures { λ r. ⌜ r ≡ transitionCount (now (table .entry)) ⌝ }
+    ensures { λ r. ⌜ r < 65536 ⌝ }
+{
+    let high = wide(table[COUNT_AT]);
+    let low = wide(table[COUNT_AT + 1]);
+    256 * high + low
+}
+
+// Whether the class of state q is 0 or 1, and 0 beyond the number of states.
+fn class_fits(table: &[u8], q: usize) -> bool
+    requires { ⌜ length (now table) ≡ tableBytes ⌝ }
+    requires { ⌜ q ≤ maxStates ⌝ }
+    ensures { λ r. ⌜ r ≡ classFits (now (table .entry)) q ⌝ }
+{
+    if q <= wide(table[0]) {
+        return table[q] <= 1;
+    }
+    table[q] == 0
+}
+
+fn classes_fit(table: &[u8]) -> bool
+    requires { ⌜ length (now table) ≡ tableBytes ⌝ }
+    ensures { λ r. ⌜ r ≡ every (classFits (now (table .entry))) (upFrom 1 maxStates) ⌝ }
+{
+    let mut q = 1;
+    while q <= MAX_STATES {
+        if !class_fits(table, q) {
+            return false;
+        }
+        q += 1;
+    }
+    true
+}
+
+// Whether q is one of the states 1 to `states`.
+fn in_range(states: usize, q: usize) -> bool
+    ensures { λ r. ⌜ r ≡ inRange states q ⌝ }
+{
+    if q < 1 {
+        return false;
+    }
+    q <= states
+}
+
+// Whether argument k of a transition is a state, and 0 beyond the number of arguments.
+fn arg_fits(run: &[u8], states: usize, at: usize, k: usize) -> bool
+    requires { ⌜ at + transitionBytes ≤ length (now run) ⌝ }
+    requires { ⌜ k < maxArity ⌝ }
+    ensures { λ r. ⌜ r ≡ argFits (now (run .entry)) states at k ⌝ }
+{
+    let q = wide(run[at + ARGS_AT + k]);
+    if k < wide(run[at + ARITY_AT]) {
+        return in_range(states, q);
+    }
+    q == 0
+}
+
+fn args_fit(run: &[u8], states: usize, at: usize) -> bool
+    requires { ⌜ at + transitionBytes ≤ length (now run) ⌝ }
+    ensures { λ r. ⌜ r ≡ every (argFits (now (run .entry)) states at) (upFrom 0 maxArity) ⌝ }
+{
+    let mut k = 0;
+    while k < MAX_ARITY {
+        if !arg_fits(run, states, at, k) {
+            return false;
+        }
+        k += 1;
+    }
+    true
+}
+
+// Whether the fields of the transition that starts at a byte are in their ranges.
+fn transition_fits(run: &[u8], states: usize, at: usize) -> bool
+    requires { ⌜ at + transitionBytes ≤ length (now run) ⌝ }
+    ensures { λ r. ⌜ r ≡ transitionFits (now (run .entry)) states at ⌝ }
+{
+    if run[at] < 1 {
+        return false;
+    }
+    if wide(run[at + ARITY_AT]) > MAX_ARITY {
+        return false;
+    }
+    if !args_fit(run, states, at) {
+        return false;
+    }
+    let out = wide(run[at + OUT_AT]);
+    in_range(states, out)
+}
+
+fn transitions_fit(run: &[u8], states: usize, count: usize) -> bool
+    requires { ⌜ transitionBytes * count ≤ length (now run) ⌝ }
+    ensures { λ r. ⌜ r ≡ every (nthFits (now (run .entry)) states) (upFrom 0 count) ⌝ }
+{
+    let mut i = 0;
+    while i < count {
+        if !transition_fits(run, states, TRANSITION_BYTES * i) {
+            return false;
+        }
+        i += 1;
+    }
+    true
+}
+
+// Whether the bytes of a run from one on are all 0.
+fn zeros_from(run: &[u8], start: usize) -> bool
+    requires { ⌜ start ≤ length (now run) ⌝ }
+    ensures { λ r. ⌜ r ≡ every (zeroAt (now (run .entry))) (upFrom start (length (now (run .entry)) - start)) ⌝ }
+{
+    let mut j = start;
+    while j < run.len() {
+        if run[j] != 0 {
+            return false;
+        }
+        j += 1;
+    }
+    true
+}
+
+// Condition 7: every field of a table is in its range, and every byte that must be 0 is.
+pub fn layout_fits(table: &[u8]) -> bool
+    requires { ⌜ length (now table) ≡ tableBytes ⌝ }
+    ensures { λ r. ⌜ r ≡ layoutFits (now (table .entry)) ⌝ }
+{
+    let states = wide(table[0]);
+    if states > MAX_STATES {
+        return false;
+    }
+    if !classes_fit(table) {
+        return false;
+    }
+    let count = transition_count(table);
+    if count > MAX_TRANSITIONS {
+        return false;
+    }
+    if !transitions_fit(&table[HEAD_BYTES..], states, count) {
+        return false;
+    }
+    zeros_from(&table[HEAD_BYTES..], TRANSITION_BYTES * count)
+}
+
+// Whether the first n arguments of one transition come before those of another: the first that differ decide.
+fn args_precede(run: &[u8], a: usize, b: usize, n: usize) -> bool
+    requires { ⌜ Readable (now run) a ⌝ }
+    requires { ⌜ Readable (now run) b ⌝ }
+    requires { ⌜ n ≤ maxArity ⌝ }
+    ensures { λ r. ⌜ r ≡ lex (map (argOf (now (run .entry)) a) (upFrom 0 n)) (map (argOf (now (run .entry)) b) (upFrom 0 n)) ⌝ }
+{
+    let mut k = 0;
+    while k < n {
+        let x = run[a + ARGS_AT + k];
+        let y = run[b + ARGS_AT + k];
+        if x != y {
+            return x < y;
+        }
+        k += 1;
+    }
+    false
+}
+
+// Whether the transition that starts at byte a comes before the one at byte b: by child count, then label, then
+// arguments.
+fn precedes_at(run: &[u8], a: usize, b: usize) -> bool
+    requires { ⌜ Readable (now run) a ⌝ }
+    requires { ⌜ Readable (now run) b ⌝ }
+    ensures { λ r. ⌜ r ≡ precedes (transitionAt (now (run .entry)) a) (transitionAt (now (run .entry)) b) ⌝ }
+{
+    let n = wide(run[a + ARITY_AT]);
+    let m = wide(run[b + ARITY_AT]);
+    if n != m {
+        return n < m;
+    }
+    if run[a] != run[b] {
+        return run[a] < run[b];
+    }
+    args_precede(run, a, b, n)
+}
+
+// Condition 8: each transition comes before the next.
+pub fn rises(run: &[u8], count: usize) -> bool
+    requires { ⌜ Runs (now run) count ⌝ }
+    ensures { λ r. ⌜ r ≡ rising (transitionsIn (now (run .entry)) count) ⌝ }
+{
+    let mut i = 0;
+    while i + 1 < count {
+        if !precedes_at(run, TRANSITION_BYTES * i, TRANSITION_BYTES * (i + 1)) {
+            return false;
+        }
+        i += 1;
+    }
+    true
+}
+
+// The output of the first transition that has this label and these arguments.
+pub fn find(run: &[u8], count: usize, label: u8, arity: usize, args: [u8; MAX_ARITY]) -> Found
+    requires { ⌜ Runs (now run) count ⌝ }
+    requires { ⌜ arity ≤ maxArity ⌝ }
+    ensures { λ r. ⌜ foundState r ≡ lookup label (take arity args) (transitionsIn (now (run .entry)) count) ⌝ }
+    ensures { λ r. ⌜ isFound r ≡ any (matches label (take arity args)) (transitionsIn (now (run .entry)) count) ⌝ }
+{
+    let mut i = 0;
+    let answer = 'search: loop {
+        if i >= count {
+            break 'search Found::Nothing;
+        }
+        let at = TRANSITION_BYTES * i;
+        i += 1;
+        if run[at] != label {
+            continue 'search;
+        }
+        if wide(run[at + ARITY_AT]) != arity {
+            continue 'search;
+        }
+        let mut k = 0;
+        'args: while k < arity {
+            if run[at + ARGS_AT + k] != args[k] {
+                continue 'search;
+            }
+            k += 1;
+        }
+        break 'search Found::State(run[at + OUT_AT]);
+    };
+    answer
+}

@@ -1,0 +1,84 @@
+-- Loops over the numbers of an interval: the answer of the whole is the answer of what is left. Each loop
+-- begins, goes on, stops early and ends by one law.
+use mathlib.Core.Bool.{Bool, false, true}
+use mathlib.Core.List.{[], _++_, _∷_, map}
+use mathlib.Core.Path.{_∙_, _≡_, ap, sym}
+use Prim.Native.Nat.{_+_, _-_, _<_, _≤_, suc, zero, ℕ}
+use native.Mathlib.Numerals.{add-one}
+use native.Mathlib.Omega.{arith}
+use lib.ListN.{getD, length, length-map}
+use Rattle.lists.specs.Positions.{upFrom}
+use Rattle.lists.specs.Tests.{any, every}
+use Rattle.lists.proofs.Positions.{in-upFrom, upFrom-in, upFrom-length}
+use Rattle.lists.proofs.Tests.{every-in, in-every}
+
+-- the numbers left from i on
+pub upFrom-next : (i n : ℕ) → i < n → upFrom i (n - i) ≡ i ∷ upFrom (i + 1) (n - (i + 1))
+upFrom-next i n h = let e : n - i ≡ suc (n - (i + 1)) = omega arith in rw (e, add-one)
+
+pub upFrom-none : (i n : ℕ) → n ≤ i → upFrom i (n - i) ≡ []
+upFrom-none i n h = let e : n - i ≡ 0 = omega arith in rw e
+
+pub upFrom-whole : (k m n : ℕ) → k + m ≡ n → upFrom k m ≡ upFrom k (n - k)
+upFrom-whole k m n e = let d : m ≡ n - k = omega arith in ap (upFrom k) d
+
+-- a loop at i, with n its end: s says whether every number left passes
+pub record EveryFrom (s : Bool) (p : ℕ → Bool) (n i : ℕ) : Type 0 where
+  pub within : i ≤ n
+  pub left : s ≡ every p (upFrom i (n - i))
+
+module _ {p : ℕ → Bool} {n : ℕ} where
+  pub every-start : {k : ℕ} (m : ℕ) → k + m ≡ n → EveryFrom (every p (upFrom k m)) p n k
+  every-start {k} m e = record { within = omega arith; left = ap (every p) (upFrom-whole k m n e) }
+
+  pub every-next : {s : Bool} {i : ℕ} → EveryFrom s p n i → i < n → p i ≡ true → EveryFrom s p n (i + 1)
+  every-next {s} {i} inv h e = record { within = omega arith; left = inv .left ∙ rw (upFrom-next i n h, e) }
+
+  pub every-broken : {s : Bool} {i : ℕ} → EveryFrom s p n i → i < n → p i ≡ false → false ≡ s
+  every-broken {s} {i} inv h e = sym (inv .left ∙ rw (upFrom-next i n h, e))
+
+  pub every-end : {s : Bool} {i : ℕ} → EveryFrom s p n i → n ≤ i → true ≡ s
+  every-end {s} {i} inv h = sym (inv .left ∙ rw (upFrom-none i n h))
+
+-- a loop at i, with n its end: s says whether some number left passes
+pub record AnyFrom (s : Bool) (p : ℕ → Bool) (n i : ℕ) : Type 0 where
+  pub within : i ≤ n
+  pub left : s ≡ any p (upFrom i (n - i))
+
+module _ {p : ℕ → Bool} {n : ℕ} where
+  pub any-start : {k : ℕ} (m : ℕ) → k + m ≡ n → AnyFrom (any p (upFrom k m)) p n k
+  any-start {k} m e = record { within = omega arith; left = ap (any p) (upFrom-whole k m n e) }
+
+  pub any-next : {s : Bool} {i : ℕ} → AnyFrom s p n i → i < n → p i ≡ false → AnyFrom s p n (i + 1)
+  any-next {s} {i} inv h e = record { within = omega arith; left = inv .left ∙ rw (upFrom-next i n h, e) }
+
+  pub any-found : {s : Bool} {i : ℕ} → AnyFrom s p n i → i < n → p i ≡ true → true ≡ s
+  any-found {s} {i} inv h e = sym (inv .left ∙ rw (upFrom-next i n h, e))
+
+  pub any-end : {s : Bool} {i : ℕ} → AnyFrom s p n i → n ≤ i → false ≡ s
+  any-end {s} {i} inv h = sym (inv .left ∙ rw (upFrom-none i n h))
+
+-- a test of an interval, by index
+pub every-at : (p : ℕ → Bool) (k n : ℕ) → every p (upFrom k n) ≡ true → (i : ℕ) → k ≤ i → i < k + n → p i ≡ true
+every-at p k n e i h l = every-in p (upFrom k n) e i (in-upFrom k n i h l)
+
+pub at-every : (p : ℕ → Bool) (k n : ℕ) → ((i : ℕ) → k ≤ i → i < k + n → p i ≡ true) →
+    every p (upFrom k n) ≡ true
+at-every p k n h = in-every p (upFrom k n) (λ i m. let r = upFrom-in k n i m in h i (r .0) (r .1))
+
+-- a table of an interval, by index
+module _ {A : Type 0} (f : ℕ → A) where
+  pub length-tabulated : (k n : ℕ) → length (map f (upFrom k n)) ≡ n
+  length-tabulated k n = length-map (upFrom k n) f ∙ upFrom-length k n
+
+  pub tabulated-at : (k n i : ℕ) (d : A) → i < n → getD (map f (upFrom k n)) i d ≡ f (k + i)
+  tabulated-at k zero i d h = absurd (omega arith)
+  tabulated-at k (suc n) zero d h = let z : k ≡ k + 0 = omega arith in ap f z
+  tabulated-at k (suc n) (suc i) d h = let z : suc k + i ≡ k + suc i = omega arith in
+      tabulated-at (suc k) n i d (omega arith) ∙ ap f z
+
+  -- one number more
+  pub tabulated-suc : (k n : ℕ) → map f (upFrom k (suc n)) ≡ map f (upFrom k n) ++ (f (k + n) ∷ [])
+  tabulated-suc k zero = let z : k ≡ k + 0 = omega arith in ap (λ i. f i ∷ []) z
+  tabulated-suc k (suc n) = let z : suc k + n ≡ k + suc n = omega arith in
+      ap (λ l. f k ∷ l) (tabulated-suc (suc k) n ∙ ap (λ i. map f (upFrom (suc k) n) ++ (f i ∷ [])) z)
