@@ -74,7 +74,7 @@ measured-at-most (a ∷ []) (suc k) = tt
 measured-at-most (a ∷ c ∷ s) zero = omega arith
 measured-at-most (a ∷ c ∷ s) (suc k) = more-at-most (measured s (c + k)) (length s) (measured-at-most s (c + k))
 
-measured-within : (s : List ℕ) (k n : ℕ) → measured s k ≡ Node n → n ≤ length s
+pub measured-within : (s : List ℕ) (k n : ℕ) → measured s k ≡ Node n → n ≤ length s
 unfolding AtMost
 measured-within s k n e = rw e at (measured-at-most s k)
 
@@ -82,7 +82,7 @@ measured-within s k n e = rw e at (measured-at-most s k)
 abbrev pub part : List ℕ → ℕ → List ℕ
 part s a = take (length s - a) (drop a s)
 
-part-drop : (s : List ℕ) (a : ℕ) → part s a ≡ drop a s
+pub part-drop : (s : List ℕ) (a : ℕ) → part s a ≡ drop a s
 part-drop s a = take-all (length s - a) (drop a s) (simp length-drop (omega arith))
 
 pub part-length : (s : List ℕ) (a : ℕ) → length (part s a) ≡ length s - a
