@@ -129,7 +129,8 @@ reader-splits-trees [] (suc k) m e = no-trees [] (suc k) m e
 reader-splits-trees (a ∷ []) zero m e = zero-trees (a ∷ []) m e
 reader-splits-trees (a ∷ []) (suc k) m e = no-trees (a ∷ []) (suc k) m e
 reader-splits-trees (a ∷ c ∷ s) zero m e = zero-trees (a ∷ c ∷ s) m e
-reader-splits-trees (a ∷ c ∷ s) (suc k) m e = go (λ n q. reader-splits-trees s (c + k) n q) (measured s (c + k)) refl e
+reader-splits-trees (a ∷ c ∷ s) (suc k) m e =
+    go (λ n q. reader-splits-trees s (c + k) n q) (measured s (c + k)) refl e
   where
     go : ((n : ℕ) → measured s (c + k) ≡ Node n → TreesAhead s (c + k) n) → (r : Read) →
         measured s (c + k) ≡ r → plus nodeBytes r ≡ Node m → TreesAhead (a ∷ c ∷ s) (suc k) m

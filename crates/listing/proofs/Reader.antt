@@ -11,7 +11,7 @@ use Rattle.listing.specs.Measure.{measured, plus}
 use Rattle.listing.specs.declared.Read.{Read}
 use Rattle.listing.specs.declared.Read.the-variants.{Bad, Node}
 
-pub plus-zero : (r : Read) → plus 0 r ≡ r
+plus-zero : (r : Read) → plus 0 r ≡ r
 unfolding plus
 plus-zero (Node m) = ap Node (zero-add m)
 plus-zero Bad = refl
@@ -21,7 +21,7 @@ unfolding plus
 plus-plus a b (Node m) = ap Node (sym (add-assoc a b m))
 plus-plus a b Bad = refl
 
-pub measured-none : (s : List ℕ) → measured s 0 ≡ Node 0
+measured-none : (s : List ℕ) → measured s 0 ≡ Node 0
 unfolding measured
 measured-none [] = refl
 measured-none (a ∷ []) = refl
@@ -82,15 +82,11 @@ measured-within s k n e = rw e at (measured-at-most s k)
 abbrev pub part : List ℕ → ℕ → List ℕ
 part s a = take (length s - a) (drop a s)
 
-part-drop : (s : List ℕ) (a : ℕ) → part s a ≡ drop a s
+pub part-drop : (s : List ℕ) (a : ℕ) → part s a ≡ drop a s
 part-drop s a = take-all (length s - a) (drop a s) (simp length-drop (omega arith))
 
 pub part-length : (s : List ℕ) (a : ℕ) → length (part s a) ≡ length s - a
 part-length s a = ap length (part-drop s a) ∙ length-drop a s
-
--- what is read of a part lies within the slice
-pub part-within : (s : List ℕ) (a k n : ℕ) → a ≤ length s → measured (part s a) k ≡ Node n → a + n ≤ length s
-part-within s a k n h e = omega (arith, measured-within (part s a) k n e, part-length s a)
 
 pub tree-short : (s : List ℕ) → length s < nodeBytes → Bad ≡ measured s 1
 unfolding measured
@@ -105,31 +101,68 @@ tree-node [] h = absurd (omega arith)
 tree-node (a ∷ []) h = absurd (omega arith)
 tree-node (a ∷ c ∷ s) h = rw add-zero
 
--- a tree is a node and, in the part behind it, its children
-pub tree-read : (s : List ℕ) (k : ℕ) (r : Read) → nodeBytes ≤ length s → k ≡ getD s labelBytes 0 →
-    measured (part s nodeBytes) k ≡ r → plus nodeBytes r ≡ measured s 1
+tree-read : (s : List ℕ) (k : ℕ) (r : Read) → nodeBytes ≤ length s → k ≡ getD s labelBytes 0 →
+    r ≡ measured (part s nodeBytes) k → plus nodeBytes r ≡ measured s 1
 tree-read s k r h e q = rw (tree-node s h, ← e, ← part-drop s nodeBytes, q)
 
--- children are a tree of n bytes and, in the part behind it, the others
-pub children-read : (s : List ℕ) (k n : ℕ) (r : Read) → (k ≡ 0 → ⊥) → measured s 1 ≡ Node n →
-    measured (part s n) (k - 1) ≡ r → plus n r ≡ measured s k
-children-read s k n r h e q =
-    let d : k ≡ 1 + (k - 1) = omega arith in
-    rw (d, measured-add s 1 (k - 1), e, ← part-drop s n, q)
+children-read : (s : List ℕ) (k : ℕ) (r : Read) → (k ≡ 0 → ⊥) → r ≡ measured s 1 →
+    onward r s (k - 1) ≡ measured s k
+children-read s k r h e =
+    let d : 1 + (k - 1) ≡ k = omega arith in
+    rw e (sym (measured-add s 1 (k - 1)) ∙ ap (measured s) d)
 
-pub children-bad : (s : List ℕ) (k : ℕ) → (k ≡ 0 → ⊥) → measured s 1 ≡ Bad → Bad ≡ measured s k
-children-bad s k h e =
-    let d : k ≡ 1 + (k - 1) = omega arith in
-    rw (d, measured-add s 1 (k - 1), e)
+-- The answers of the two readers, by those of their calls. A tree is a node and, in the part behind it, its children,
+-- for which r was answered.
+module _ (s : List ℕ) (k : ℕ) {r : Read} (h : nodeBytes ≤ length s) (e : k ≡ getD s labelBytes 0)
+    (q : r ≡ measured (part s nodeBytes) k) where
+  pub tree-bad : r ≡ Bad → Bad ≡ measured s 1
+  unfolding plus
+  tree-bad z = rw z at (tree-read s k r h e q)
+
+  pub tree-good : {n : ℕ} → r ≡ Node n → Node (nodeBytes + n) ≡ measured s 1
+  unfolding plus
+  tree-good z = rw z at (tree-read s k r h e q)
+
+pub children-none : (s : List ℕ) (k : ℕ) → k ≡ 0 → Node 0 ≡ measured s k
+children-none s k e = rw e (sym (measured-none s))
+
+-- Children are a tree, for which r was answered, and, in the part behind it, the others, for which r' was.
+module _ (s : List ℕ) (k : ℕ) {r : Read} (h : k ≡ 0 → ⊥) (q : r ≡ measured s 1) where
+  pub children-bad : r ≡ Bad → Bad ≡ measured s k
+  children-bad z = rw z at (children-read s k r h q)
+
+  children-more : (n : ℕ) (r' : Read) → r ≡ Node n → r' ≡ measured (part s n) (k - 1) → plus n r' ≡ measured s k
+  children-more n r' z q' = rw (q', part-drop s n) (rw z at (children-read s k r h q))
+
+  pub children-bad-later : {n : ℕ} {r' : Read} → r ≡ Node n → r' ≡ measured (part s n) (k - 1) → r' ≡ Bad →
+      Bad ≡ measured s k
+  unfolding plus
+  children-bad-later {n} {r'} z q' z' = rw z' at (children-more n r' z q')
+
+  pub children-good : {n m : ℕ} {r' : Read} → r ≡ Node n → r' ≡ measured (part s n) (k - 1) → r' ≡ Node m →
+      Node (n + m) ≡ measured s k
+  unfolding plus
+  children-good {n} {m} {r'} z q' z' = rw z' at (children-more n r' z q')
 
 plus-some : (r : Read) (n : ℕ) → plus nodeBytes r ≡ Node n → nodeBytes ≤ n
 unfolding plus
 plus-some (Node m) n e = let h : nodeBytes + m ≡ n = cc in omega arith
 plus-some Bad n e = let z : _≡_ {A = ℕ} 0 1 = cc in absurd (omega arith)
 
--- a tree has a node at least
-pub tree-some : (s : List ℕ) (n : ℕ) → measured s 1 ≡ Node n → nodeBytes ≤ n
+measured-some : (s : List ℕ) (n : ℕ) → measured s 1 ≡ Node n → nodeBytes ≤ n
 unfolding measured
-tree-some [] n e = let z : _≡_ {A = ℕ} 0 1 = cc in absurd (omega arith)
-tree-some (a ∷ []) n e = let z : _≡_ {A = ℕ} 0 1 = cc in absurd (omega arith)
-tree-some (a ∷ c ∷ s) n e = plus-some (measured s (c + 0)) n e
+measured-some [] n e = let z : _≡_ {A = ℕ} 0 1 = cc in absurd (omega arith)
+measured-some (a ∷ []) n e = let z : _≡_ {A = ℕ} 0 1 = cc in absurd (omega arith)
+measured-some (a ∷ c ∷ s) n e = plus-some (measured s (c + 0)) n e
+
+-- the first tree has a node at least and lies within the slice, and so do the trees of the part behind it
+module _ (s : List ℕ) {r : Read} {n : ℕ} (q : r ≡ measured s 1) (z : r ≡ Node n) where
+  pub first-some : nodeBytes ≤ n
+  first-some = measured-some s n (sym q ∙ z)
+
+  pub first-within : n ≤ length s
+  first-within = measured-within s 1 n (sym q ∙ z)
+
+pub part-within : (s : List ℕ) (a k : ℕ) {r : Read} {n : ℕ} → r ≡ measured (part s a) k → r ≡ Node n →
+    a ≤ length s → a + n ≤ length s
+part-within s a k {r} {n} q z h = omega (arith, measured-within (part s a) k n (sym q ∙ z), part-length s a)

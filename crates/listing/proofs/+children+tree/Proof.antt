@@ -1,14 +1,14 @@
-use mathlib.Core.Path.{_≡_, _∙_, ap, sym}
-use Rattle.listing.specs.declared.Read.the-variants.{Bad, Node}
-use Rattle.format.specs.Format.{nodeBytes}
-use native.Mathlib.Omega.{arith}
-use Rattle.listing.specs.Measure.{measured, plus}
-use Rattle.listing.proofs.Reader.{tree-read, tree-short, tree-some, children-bad, children-read, measured-none, measured-within, part-length, part-within}
-use lib.ListN.{length}
+-- The two readers answer with `measured`. What falls is the number of bytes left, with one step more for the reader
+-- of children: it calls the reader of a tree on the same bytes.
 use borrow.Author.Needs.{needs}
-use Prim.Native.Nat.{ℕ, _<_, _+_, _-_, _*_}
 use borrow.Fn.Kinds.{In}
-use borrow.Fn.PlainCycle.{Measures, is, falls, and}
+use borrow.Fn.PlainCycle.{Measures, and, falls, is}
+use Prim.Native.Nat.{_*_, _+_, _<_, ℕ}
+use native.Mathlib.Omega.{arith}
+use lib.ListN.{length}
+use Rattle.listing.proofs.Reader.{children-bad, children-bad-later, children-good, children-none}
+use Rattle.listing.proofs.Reader.{first-some, first-within, part-length, part-within}
+use Rattle.listing.proofs.Reader.{tree-bad, tree-good, tree-short}
 use Rattle.listing.proofs.children.Reads as children
 use Rattle.listing.proofs.children.Kinds as children-kinds
 use Rattle.listing.proofs.+children+tree.Lts-children as children-lts
@@ -38,289 +38,116 @@ tree-at t = and 1 tree-kinds.ps (is 1 tree-kinds.ps μ-tree t) tree.Pre
 abbrev tree-below : ℕ → In 1 tree-kinds.ps
 tree-below t = and 1 tree-kinds.ps (falls 1 tree-kinds.ps _<_ μ-tree t) tree.Pre
 
--- src/lib.rt:45:9
-children-returns : (t : ℕ) → children-lts.Need-returns (
-  tree-below t,
-  tree.Post,
-  children-below t,
-  children.Post,
-) (children-at t) children.Post
-children-returns t c =
-    let s = c .before .before .args .s .now in
-    sym (ap (measured s) (c .if1 .taken) ∙ measured-none s)
+abbrev children-calls : ℕ → children-lts.Claims
+children-calls t = (tree-below t, tree.Post, children-below t, children.Post)
 
--- src/lib.rt:47:30
-children-tree-requires : (t : ℕ) → children-lts.Need-tree-requires (
-  tree-below t,
-  tree.Post,
-  children-below t,
-  children.Post,
-) (children-at t) children.Post
+abbrev tree-calls : ℕ → tree-lts.Claims
+tree-calls t = (wide-reads.Asked, wide-reads.Learnt, children-below t, children.Post)
+
+children-returns : (t : ℕ) → children-lts.Need-returns (children-calls t) (children-at t) children.Post
+children-returns t c = search children-none
+
+children-tree-requires : (t : ℕ) → children-lts.Need-tree-requires (children-calls t) (children-at t) children.Post
 children-tree-requires t c κs = search needs
 
--- src/lib.rt:47:22
-children-enum-known-len : (t : ℕ) → children-lts.Need-enum-known-len (
-  tree-below t,
-  tree.Post,
-  children-below t,
-  children.Post,
-) (children-at t) children.Post
+children-enum-known-len : (t : ℕ) → children-lts.Need-enum-known-len (children-calls t) (children-at t) children.Post
 children-enum-known-len t c = search needs
 
--- src/lib.rt:48:9
-children-enum-told : (t : ℕ) → children-lts.Need-enum-told (
-  tree-below t,
-  tree.Post,
-  children-below t,
-  children.Post,
-) (children-at t) children.Post
+children-enum-told : (t : ℕ) → children-lts.Need-enum-told (children-calls t) (children-at t) children.Post
 children-enum-told t c = search needs
 
--- src/lib.rt:48:9
-children-returns-2 : (t : ℕ) → children-lts.Need-returns-2 (
-  tree-below t,
-  tree.Post,
-  children-below t,
-  children.Post,
-) (children-at t) children.Post
-children-returns-2 t c =
-    children-bad (c .before .before .before .before .before .args .s .now) (c .before .before .before .before .before .args .count) (c .before .before .before .if1 .left) (sym (c .before .before .tree .ensures) ∙ c .enum-told .given .1)
+children-returns-2 : (t : ℕ) → children-lts.Need-returns-2 (children-calls t) (children-at t) children.Post
+children-returns-2 t c = search children-bad
 
--- src/lib.rt:50:45
-children-sub-children : (t : ℕ) → children-lts.Need-sub-children (
-  tree-below t,
-  tree.Post,
-  children-below t,
-  children.Post,
-) (children-at t) children.Post
-children-sub-children t c =
-    measured-within (c .before .before .before .before .before .before .args .s .now) 1 (c .before .len .given .0 .0) (sym (c .before .before .before .tree .ensures) ∙ c .before .len .given .1)
+children-sub-children : (t : ℕ) → children-lts.Need-sub-children (children-calls t) (children-at t) children.Post
+children-sub-children t c = search first-within
 
--- src/lib.rt:50:45
-children-part-children-start : (t : ℕ) → children-lts.Need-part-children-start (
-  tree-below t,
-  tree.Post,
-  children-below t,
-  children.Post,
-) (children-at t) children.Post
-children-part-children-start t c =
-    measured-within (c .before .before .before .before .before .before .args .s .now) 1 (c .before .len .given .0 .0) (sym (c .before .before .before .tree .ensures) ∙ c .before .len .given .1)
+children-part-children-start : (t : ℕ) →
+    children-lts.Need-part-children-start (children-calls t) (children-at t) children.Post
+children-part-children-start t c = search first-within
 
--- src/lib.rt:50:45
-children-part-children-end : (t : ℕ) → children-lts.Need-part-children-end (
-  tree-below t,
-  tree.Post,
-  children-below t,
-  children.Post,
-) (children-at t) children.Post
+children-part-children-end : (t : ℕ) →
+    children-lts.Need-part-children-end (children-calls t) (children-at t) children.Post
 children-part-children-end t c = search needs
 
--- src/lib.rt:50:56
-children-sub-children-2 : (t : ℕ) → children-lts.Need-sub-children-2 (
-  tree-below t,
-  tree.Post,
-  children-below t,
-  children.Post,
-) (children-at t) children.Post
+children-sub-children-2 : (t : ℕ) → children-lts.Need-sub-children-2 (children-calls t) (children-at t) children.Post
 children-sub-children-2 t c = search needs
 
--- src/lib.rt:50:36
-children-children-requires : (t : ℕ) → children-lts.Need-children-requires (
-  tree-below t,
-  tree.Post,
-  children-below t,
-  children.Post,
-) (children-at t) children.Post
+children-children-requires : (t : ℕ) →
+    children-lts.Need-children-requires (children-calls t) (children-at t) children.Post
 children-children-requires t c κs =
-    let s = c .before .before .before .before .before .before .before .args .s .now in
-    let n = c .before .before .len .given .0 .0 in
-    let e : measured s 1 ≡ Node n = sym (c .before .before .before .before .tree .ensures) ∙ c .before .before .len .given .1 in
-    (omega (arith, tree-some s n e, measured-within s 1 n e, part-length s n, c .before .before .before .before .before .before .before .pre .0), tt)
+    let first = c .before .before in
+    let start = first .before .before .before .before .before in
+    let s = start .args .s .now in
+    let e = first .before .before .tree .ensures in
+    let z = first .len .given .1 in
+    (omega (arith, first-some s e z, first-within s e z, part-length s (first .len .given .0 .0), start .pre .0), tt)
 
--- src/lib.rt:50:27
-children-enum-known-more : (t : ℕ) → children-lts.Need-enum-known-more (
-  tree-below t,
-  tree.Post,
-  children-below t,
-  children.Post,
-) (children-at t) children.Post
+children-enum-known-more : (t : ℕ) →
+    children-lts.Need-enum-known-more (children-calls t) (children-at t) children.Post
 children-enum-known-more t c = search needs
 
--- src/lib.rt:51:9
-children-enum-told-2 : (t : ℕ) → children-lts.Need-enum-told-2 (
-  tree-below t,
-  tree.Post,
-  children-below t,
-  children.Post,
-) (children-at t) children.Post
+children-enum-told-2 : (t : ℕ) → children-lts.Need-enum-told-2 (children-calls t) (children-at t) children.Post
 children-enum-told-2 t c = search needs
 
--- src/lib.rt:51:9
-children-returns-3 : (t : ℕ) → children-lts.Need-returns-3 (
-  tree-below t,
-  tree.Post,
-  children-below t,
-  children.Post,
-) (children-at t) children.Post
-unfolding plus
-children-returns-3 t c =
-    let e = sym (c .before .before .before .before .before .before .before .tree .ensures) ∙ c .before .before .before .before .before .len .given .1 in
-    children-read (c .before .before .before .before .before .before .before .before .before .before .args .s .now) (c .before .before .before .before .before .before .before .before .before .before .args .count) (c .before .before .before .before .before .len .given .0 .0) Bad (c .before .before .before .before .before .before .before .before .if1 .left) e
-    (sym (c .before .before .children .ensures) ∙ c .enum-told2 .given .1)
+children-returns-3 : (t : ℕ) → children-lts.Need-returns-3 (children-calls t) (children-at t) children.Post
+children-returns-3 t c = search children-bad-later
 
--- src/lib.rt:53:23
-children-add-t9 : (t : ℕ) → children-lts.Need-add-t9 (
-  tree-below t,
-  tree.Post,
-  children-below t,
-  children.Post,
-) (children-at t) children.Post
+children-add-t9 : (t : ℕ) → children-lts.Need-add-t9 (children-calls t) (children-at t) children.Post
 children-add-t9 t c =
-    let s = c .before .before .before .before .before .before .before .before .before .before .before .args .s .now in
-    let n = c .before .before .before .before .before .before .len .given .0 .0 in
-    let e = measured-within s 1 n (sym (c .before .before .before .before .before .before .before .before .tree .ensures) ∙ c .before .before .before .before .before .before .len .given .1) in
-    let m = c .before .more .given .0 .0 in
-    let w = part-within s n (c .before .before .before .before .before .before .before .before .before .before .before .args .count - 1) m e (sym (c .before .before .before .children .ensures) ∙ c .before .more .given .1) in
-    omega (arith, c .before .before .before .before .before .before .before .before .before .before .before .good .0 .0)
+    let first = c .before .before .before .before .before .before in
+    let start = first .before .before .before .before .before in
+    let s = start .args .s .now in
+    let w = first-within s (first .before .before .tree .ensures) (first .len .given .1) in
+    let later = part-within s _ _ (c .before .before .before .children .ensures) (c .before .more .given .1) w in
+    omega (arith, start .good .0 .0)
 
--- src/lib.rt:41:1
-children-returns-4 : (t : ℕ) → children-lts.Need-returns-4 (
-  tree-below t,
-  tree.Post,
-  children-below t,
-  children.Post,
-) (children-at t) children.Post
-unfolding plus
-children-returns-4 t c =
-    let e = sym (c .before .before .before .before .before .before .before .before .tree .ensures) ∙ c .before .before .before .before .before .before .len .given .1 in
-    children-read (c .before .before .before .before .before .before .before .before .before .before .before .args .s .now) (c .before .before .before .before .before .before .before .before .before .before .before .args .count) (c .before .before .before .before .before .before .len .given .0 .0) (Node (c .before .more .given .0 .0)) (c .before .before .before .before .before .before .before .before .before .if1 .left) e
-    (sym (c .before .before .before .children .ensures) ∙ c .before .more .given .1)
+children-returns-4 : (t : ℕ) → children-lts.Need-returns-4 (children-calls t) (children-at t) children.Post
+children-returns-4 t c = search children-good
 
--- src/lib.rt:31:9
-tree-returns : (t : ℕ) → tree-lts.Need-returns (
-  wide-reads.Asked,
-  wide-reads.Learnt,
-  children-below t,
-  children.Post,
-) (tree-at t) tree.Post
-tree-returns t c = tree-short (c .before .before .args .s .now) (c .if1 .taken)
+tree-returns : (t : ℕ) → tree-lts.Need-returns (tree-calls t) (tree-at t) tree.Post
+tree-returns t c = search tree-short
 
--- src/lib.rt:33:22
-tree-shared-slice-read-wide : (t : ℕ) → tree-lts.Need-shared-slice-read-wide (
-  wide-reads.Asked,
-  wide-reads.Learnt,
-  children-below t,
-  children.Post,
-) (tree-at t) tree.Post
+tree-shared-slice-read-wide : (t : ℕ) → tree-lts.Need-shared-slice-read-wide (tree-calls t) (tree-at t) tree.Post
 tree-shared-slice-read-wide t c = search needs
 
--- src/lib.rt:33:9
-tree-wide-requires : (t : ℕ) → tree-lts.Need-wide-requires (
-  wide-reads.Asked,
-  wide-reads.Learnt,
-  children-below t,
-  children.Post,
-) (tree-at t) tree.Post
+tree-wide-requires : (t : ℕ) → tree-lts.Need-wide-requires (tree-calls t) (tree-at t) tree.Post
 tree-wide-requires t c κs = search needs
 
--- src/lib.rt:34:39
-tree-sub-children : (t : ℕ) → tree-lts.Need-sub-children (
-  wide-reads.Asked,
-  wide-reads.Learnt,
-  children-below t,
-  children.Post,
-) (tree-at t) tree.Post
+tree-sub-children : (t : ℕ) → tree-lts.Need-sub-children (tree-calls t) (tree-at t) tree.Post
 tree-sub-children t c = search needs
 
--- src/lib.rt:34:39
-tree-part-children-start : (t : ℕ) → tree-lts.Need-part-children-start (
-  wide-reads.Asked,
-  wide-reads.Learnt,
-  children-below t,
-  children.Post,
-) (tree-at t) tree.Post
+tree-part-children-start : (t : ℕ) → tree-lts.Need-part-children-start (tree-calls t) (tree-at t) tree.Post
 tree-part-children-start t c = search needs
 
--- src/lib.rt:34:39
-tree-part-children-end : (t : ℕ) → tree-lts.Need-part-children-end (
-  wide-reads.Asked,
-  wide-reads.Learnt,
-  children-below t,
-  children.Post,
-) (tree-at t) tree.Post
+tree-part-children-end : (t : ℕ) → tree-lts.Need-part-children-end (tree-calls t) (tree-at t) tree.Post
 tree-part-children-end t c = search needs
 
--- src/lib.rt:34:30
-tree-children-requires : (t : ℕ) → tree-lts.Need-children-requires (
-  wide-reads.Asked,
-  wide-reads.Learnt,
-  children-below t,
-  children.Post,
-) (tree-at t) tree.Post
+tree-children-requires : (t : ℕ) → tree-lts.Need-children-requires (tree-calls t) (tree-at t) tree.Post
 tree-children-requires t c κs = search needs
 
--- src/lib.rt:34:22
-tree-enum-known-len : (t : ℕ) → tree-lts.Need-enum-known-len (
-  wide-reads.Asked,
-  wide-reads.Learnt,
-  children-below t,
-  children.Post,
-) (tree-at t) tree.Post
+tree-enum-known-len : (t : ℕ) → tree-lts.Need-enum-known-len (tree-calls t) (tree-at t) tree.Post
 tree-enum-known-len t c = search needs
 
--- src/lib.rt:35:9
-tree-enum-told : (t : ℕ) → tree-lts.Need-enum-told (
-  wide-reads.Asked,
-  wide-reads.Learnt,
-  children-below t,
-  children.Post,
-) (tree-at t) tree.Post
+tree-enum-told : (t : ℕ) → tree-lts.Need-enum-told (tree-calls t) (tree-at t) tree.Post
 tree-enum-told t c = search needs
 
--- src/lib.rt:35:9
-tree-returns-2 : (t : ℕ) → tree-lts.Need-returns-2 (
-  wide-reads.Asked,
-  wide-reads.Learnt,
-  children-below t,
-  children.Post,
-) (tree-at t) tree.Post
-unfolding plus
-tree-returns-2 t c =
-    tree-read (c .before .before .before .before .before .before .before .before .args .s .now) (c .before .before .before .before .wide .result) Bad (c .before .before .before .before .before .before .if1 .left) (c .before .before .before .before .wide .ensures)
-    (sym (c .before .before .children .ensures) ∙ c .enum-told .given .1)
+tree-returns-2 : (t : ℕ) → tree-lts.Need-returns-2 (tree-calls t) (tree-at t) tree.Post
+tree-returns-2 t c = search tree-bad
 
--- src/lib.rt:37:23
-tree-add-t4 : (t : ℕ) → tree-lts.Need-add-t4 (
-  wide-reads.Asked,
-  wide-reads.Learnt,
-  children-below t,
-  children.Post,
-) (tree-at t) tree.Post
+tree-add-t4 : (t : ℕ) → tree-lts.Need-add-t4 (tree-calls t) (tree-at t) tree.Post
 tree-add-t4 t c =
-    let s = c .before .before .before .before .before .before .before .before .before .args .s .now in
-    let n = c .before .len .given .0 .0 in
-    let w = part-within s nodeBytes (c .before .before .before .before .before .wide .result) n (c .before .before .before .before .before .before .before .if1 .left) (sym (c .before .before .before .children .ensures) ∙ c .before .len .given .1) in
-    omega (arith, c .before .before .before .before .before .before .before .before .before .good .0 .0)
+    let start = c .before .before .before .before .before .before .before .before .before in
+    let s = start .args .s .now in
+    let w = c .before .before .before .before .before .before .before .if1 .left in
+    let later = part-within s _ _ (c .before .before .before .children .ensures) (c .before .len .given .1) w in
+    omega (arith, start .good .0 .0)
 
--- src/lib.rt:27:1
-tree-returns-3 : (t : ℕ) → tree-lts.Need-returns-3 (
-  wide-reads.Asked,
-  wide-reads.Learnt,
-  children-below t,
-  children.Post,
-) (tree-at t) tree.Post
-unfolding plus
-tree-returns-3 t c =
-    tree-read (c .before .before .before .before .before .before .before .before .before .args .s .now) (c .before .before .before .before .before .wide .result) (Node (c .before .len .given .0 .0)) (c .before .before .before .before .before .before .before .if1 .left) (c .before .before .before .before .before .wide .ensures)
-    (sym (c .before .before .before .children .ensures) ∙ c .before .len .given .1)
+tree-returns-3 : (t : ℕ) → tree-lts.Need-returns-3 (tree-calls t) (tree-at t) tree.Post
+tree-returns-3 t c = search tree-good
 
 pub +children+tree-spec : {M : Type 1} → statement M
-+children+tree-spec = close μ-children μ-tree (λ t. children-lts.spec (
-  tree-below t,
-  tree.Post,
-  children-below t,
-  children.Post,
-)
++children+tree-spec = close μ-children μ-tree (λ t. children-lts.spec (children-calls t)
     (children-at t)
     children.Post
     (children-returns t)
@@ -339,7 +166,7 @@ pub +children+tree-spec : {M : Type 1} → statement M
     (children-add-t9 t)
     (children-returns-4 t))
     λ t. tree-lts.spec
-    (wide-reads.Asked, wide-reads.Learnt, children-below t, children.Post)
+    (tree-calls t)
     (tree-at t)
     tree.Post
     (tree-returns t)

@@ -1,26 +1,21 @@
-use native.Mathlib.Omega.{arith}
+-- Each return decides the part of the condition that its test names.
 use borrow.Author.Tests.{le-leb, lt-leb}
 use lib.ListN.{length}
-use Rattle.trees.specs.Listing.{wholeNodes}
 use Rattle.format.specs.Format.{maxListing, nodeBytes}
+use Rattle.trees.specs.Listing.{wholeNodes}
 use Rattle.listing.proofs.whole_nodes.Statement.{statement}
 use Rattle.listing.proofs.whole_nodes.Tie as tie
-use Rattle.listing.proofs.whole_nodes.Reads as reads
-use Rattle.listing.proofs.whole_nodes.Lts as lts
 
--- src/lib.rt:61:9
 returns : tie.Need-returns
 unfolding wholeNodes
 returns c = rw (lt-leb nodeBytes (length (c .before .args .s .now)) (c .if1 .taken))
 
--- src/lib.rt:64:9
 returns-2 : tie.Need-returns-2
 unfolding wholeNodes
 returns-2 c =
     let n = length (c .before .before .args .s .now) in
     rw (le-leb nodeBytes n (c .before .if1 .left), lt-leb n maxListing (c .if2 .taken))
 
--- src/lib.rt:57:1
 returns-3 : tie.Need-returns-3
 unfolding wholeNodes
 returns-3 c =
