@@ -1,7 +1,6 @@
 -- No condition is broken exactly when all hold; of two lists, the first decides where it is broken.
 use mathlib.Core.Bool.{Bool, cond, false, true}
 use mathlib.Core.List.{List, [], _++_, _∷_}
-use mathlib.Core.Logic.{_≢_}
 use mathlib.Core.Path.{_≡_, refl}
 use Prim.Native.Nat.{_≤_}
 use native.Mathlib.Omega.{arith}
@@ -36,18 +35,6 @@ unbroken-hold (c ∷ cs) n e = go (c .holds) refl (unbroken-hold cs (n .1)) e
 pub hold-first : (cs ds : List Condition) → AllHold cs → firstBroken (cs ++ ds) ≡ firstBroken ds
 hold-first [] ds h = refl
 hold-first (c ∷ cs) ds h = rw (h .0) (hold-first cs ds (h .1))
-
--- where the first list is broken, what follows does not matter
-pub broken-first : (cs ds es : List Condition) → FromOne cs → firstBroken cs ≢ 0 →
-    firstBroken (cs ++ ds) ≡ firstBroken (cs ++ es)
-broken-first [] ds es n h = absurd (h refl)
-broken-first (c ∷ cs) ds es n h = go (c .holds) refl (broken-first cs ds es (n .1)) h
-  where
-    go : (b : Bool) → c .holds ≡ b → (firstBroken cs ≢ 0 → firstBroken (cs ++ ds) ≡ firstBroken (cs ++ es)) →
-        cond b (firstBroken cs) (c .refusal) ≢ 0 →
-        cond b (firstBroken (cs ++ ds)) (c .refusal) ≡ cond b (firstBroken (cs ++ es)) (c .refusal)
-    go true e ih k = ih k
-    go false e ih k = refl
 
 -- a list and what follows it: the first decides where it is broken
 pub firstBroken-append : (cs ds : List Condition) → FromOne cs →
