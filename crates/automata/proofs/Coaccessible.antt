@@ -76,7 +76,7 @@ module _ (A : Automaton) (fit : every (λ τ. leb (τ .out) (states A)) (A .tran
       (λ z. useful-coaccessible c (stepFrame A f q) z
       (step-fits A fit (f .label) (runs A (f .before) ++ (q ∷ runs A (f .after)))) e)
     where
-      -- what leads to 0 leads to no accepting state
+      -- what comes to 0 comes to no accepting state
       lost : stepFrame A f q ≡ 0 → ⊥
       lost z =
           true≢false (sym e ∙ ap (λ (x : ℕ). accepting A (runContext A c x)) z ∙ ap (accepting A) (runContext-zero A c))

@@ -23,7 +23,7 @@ use Rattle.lists.proofs.Positions.{eqPair-same, eqPair-true, in-grid, in-upFrom
 use Rattle.lists.proofs.Tests.{any-in, append-in, every-in, in-any, in-append-left, in-append-right, in-map, map-in}
 use Rattle.lists.proofs.Tests.{or-cases, or-left, or-right}
 
--- every line gives its slots, and every slot is of a line
+-- every transition gives its slots, and every slot is of a transition
 slot : ℕ → List ℕ → List ℕ → Slot
 slot a l r = record { label = a; before = l; after = r }
 
@@ -82,7 +82,7 @@ module _ (A : Automaton) where
   abbrev pub Separated : Pair → Type 0
   Separated k = (c : Context) × (accepting A (runContext A c (k .0)) ≢ accepting A (runContext A c (k .1)))
 
-  -- every argument of a line has a tree
+  -- every argument of a transition has a tree
   module _ (all : ArgsAccessible A) where
     pub distinguishable-separated : (p q : ℕ) → distinguishable A p q ≡ true → Separated (p, q)
     distinguishable-separated p q e =

@@ -18,7 +18,7 @@ use Rattle.lists.specs.Tests.{_∈_, every, filter}
 use Rattle.automata.proofs.Order.{lex-asym, lex-below, lex-self}
 use Rattle.lists.proofs.Tests.{and-right, filter-in, filter-length, filter-weaker, in-filter, or-left, or-right}
 
--- l is ready, and no ready line of the list comes before it
+-- l is ready, and no ready transition of the list comes before it
 abbrev pub Best : List ℕ → List Transition → Transition → Type 0
 Best o ls l =
     (l ∈ ls) × (ready o l ≡ true) ×

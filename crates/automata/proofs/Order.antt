@@ -126,7 +126,7 @@ rising-unique (l ∷ ls) (m ∷ ms) r s f g =
     shift h x i (inl e) = absurd (lex-irrefl (key m) (rw (e ∙ h) at (rising-head m ms s x i)))
     shift h x i (inr j) = j
 
--- the line whose output gets the number k + 1
+-- the transition whose output gets the number k + 1
 unfoldable pub Opening : ℕ → List Transition → Type 0
 Opening k ls =
     (l : Transition) × (l ∈ ls) × (opens k l ≡ true) × (l .out ≡ suc k) ×
@@ -152,7 +152,7 @@ first-opening k (l ∷ ls) r e = go (first-opening k ls (rising-tail l ls r)) (o
         least u m (inl q) p = absurd (true≢false (sym p ∙ ap (opens k) q ∙ o))
         least u m (inr i) p = u .4 m i p
 
--- the first line that opens, where some line does
+-- the first transition that opens, where some transition does
 pub first-open : (k : ℕ) (ls : List Transition) → rising ls ≡ true → (x : Transition) → x ∈ ls →
     opens k x ≡ true →
     (m : Transition) × (m ∈ ls) × (opens k m ≡ true) × (firstOpen k ls ≡ m .out) ×
@@ -169,7 +169,7 @@ first-open k (l ∷ ls) r x i o = go (λ j. first-open k ls (rising-tail l ls r)
     go ih false e (inl z) = absurd (true≢false (sym o ∙ ap (opens k) z ∙ e))
     go ih false e (inr j) = let u = ih j in (u .0, inr (u .1), u .2, u .3, u .4)
 
--- in a strictly rising list a key has one line
+-- in a strictly rising list a key has one transition
 pub rising-one : (ls : List Transition) → rising ls ≡ true → (l m : Transition) → l ∈ ls → m ∈ ls →
     key l ≡ key m → l ≡ m
 rising-one (x ∷ ls) r l m (inl p) (inl q) e = cc

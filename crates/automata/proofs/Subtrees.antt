@@ -107,7 +107,7 @@ module _ (P : List Tree) (c : Closed P) where
   each-pos (cons t f) h =
       rw (ne-eqb 0 (subtreeNumber P t) (λ e. omega (arith, subtree-numbered t (h .0)))) (each-pos f (h .1))
 
-  -- a line of the automaton is the line of a part
+  -- a transition of the automaton is that at the top of a subtree
   subtree-transition : (l : Transition) → l ∈ map (subtreeTransition P) P →
       (b : ℕ) × (g : Forest) × (node b g ∈ P) × (l ≡ transitionOf (subtreeNumber P) b g)
   subtree-transition l i = let (u, j, e) = map-in (subtreeTransition P) P l i in go u j e

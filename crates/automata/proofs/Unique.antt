@@ -21,7 +21,7 @@ use Rattle.lists.proofs.Positions.{in-upFrom}
 use Rattle.lists.proofs.Tests.{and-both, and-left, and-right, every-in}
 use Rattle.trees.proofs.Trees.{AllTrees, snoc-append}
 
--- the children of a part are parts
+-- the children of a subtree are subtrees
 module _ (S : Tree → Bool) (a : ℕ) where
   children-after : (b f : Forest) → Subtree S (node a (b ⧺ f)) → AllTrees (Subtree S) f
   children-after b nil p = tt
@@ -58,7 +58,7 @@ module _ (S : Tree → Bool) (A B : Automaton) (X : Canonical S A) (Y : Canonica
       (in-upFrom 0 (states A) k (omega arith) (omega arith))))
 
 module _ (S : Tree → Bool) (A B : Automaton) (X : Canonical S A) (Y : Canonical S B) where
-  -- the line of B for a line of A that opens the number k + 1
+  -- the transition of B for a transition of A that opens the number k + 1
   pub Counterpart : ℕ → Transition → Type 0
   Counterpart k l =
       (a : ℕ) × (f : Forest) × Subtree S (node a f) × (l ≡ transitionOf (X .group) a f) ×
@@ -94,7 +94,7 @@ module _ (S : Tree → Bool) (A B : Automaton) (X : Canonical S A) (Y : Canonica
           )
 
 module _ (S : Tree → Bool) (A B : Automaton) (X : Canonical S A) (Y : Canonical S B) where
-  -- a line of A and the line of B that opens the same number have the same parts, and so the same group
+  -- a transition of A and that of B which opens the same number have the same subtrees, and so the same group
   pub next : (k : ℕ) → k < states A → Agree S A B X Y k → Agree S B A Y X k →
       (t : Tree) × Subtree S t × (X .group t ≡ suc k) × (Y .group t ≡ suc k)
   unfolding Opening Counterpart
