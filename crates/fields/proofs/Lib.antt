@@ -1,2 +1,3 @@
 pub mod Transitions
 pub mod Laws
+pub mod Returns

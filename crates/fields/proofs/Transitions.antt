@@ -9,7 +9,7 @@ use lib.Dec.{leb, ltb}
 use lib.ListN.{drop, getD, length, length-drop, take}
 use lib.Seq.{take-all}
 use borrow.Author.Tests.{leb-true, lt-ltb}
-use Rattle.automata.specs.Automaton.{Transition, runs, states}
+use Rattle.automata.specs.Automaton.{Transition}
 use Rattle.automata.specs.Minimal.{first}
 use Rattle.automata.specs.Valid.{inRange}
 use Rattle.fields.specs.Fields.{InTable, Readable, Runs, RunsOver}
@@ -19,7 +19,6 @@ use Rattle.lists.specs.Tests.{_∈_, every}
 use Rattle.table.specs.Layout.{argFits, argOf, arityOf, blank, body, classFits, labelOf, layoutFits, nthFits}
 use Rattle.table.specs.Layout.{nthTransition, outOf, stateCount, transitionAt, transitionCount, transitionFits}
 use Rattle.table.specs.Layout.{transitionsIn, zeroAt}
-use Rattle.trees.specs.Listing.{narrow}
 use Rattle.lists.proofs.Loops.{every-at, length-tabulated, tabulated-at, tabulated-suc}
 use Rattle.lists.proofs.Positions.{in-upFrom, upFrom-in}
 use Rattle.lists.proofs.Tests.{and-left, and-right, in-map, map-in}
@@ -70,7 +69,8 @@ args-length s at = length-tabulated (argOf s at) 0 (arityOf s at)
 pub arg-at : (s : List ℕ) (at k : ℕ) → k < arityOf s at → getD (transitionAt s at .args) k 0 ≡ argOf s at k
 arg-at s at k h = tabulated-at (argOf s at) 0 (arityOf s at) k 0 h ∙ ap (argOf s at) (zero-add k)
 
-pub in-args : (s : List ℕ) (at q : ℕ) → q ∈ transitionAt s at .args → (k : ℕ) × (k < arityOf s at) × (q ≡ argOf s at k)
+pub in-args : (s : List ℕ) (at q : ℕ) → q ∈ transitionAt s at .args →
+    (k : ℕ) × (k < arityOf s at) × (q ≡ argOf s at k)
 in-args s at q m = let r = map-in (argOf s at) (upFrom 0 (arityOf s at)) q m in
     (r .0, (let u = upFrom-in 0 (arityOf s at) (r .0) (r .1) in omega arith), r .2)
 
@@ -122,7 +122,8 @@ field-parts s n at e =
     record {
       label = leb-true _ _ (and-left first _ f);
       narrow = leb-true _ _ (and-right first _ f);
-      args = λ k h. every-at (argFits s n at) 0 maxArity (and-right (first && second) _ d) k (omega arith) (omega arith);
+      args = λ k h.
+          every-at (argFits s n at) 0 maxArity (and-right (first && second) _ d) k (omega arith) (omega arith);
       out = and-right (first && second && third) _ e;
     }
 
@@ -146,7 +147,8 @@ layout-in-table b size fits =
     at : (i : ℕ) → i < transitionCount b → FieldParts (body b) (stateCount b) (transitionBytes * i)
     at i h =
         field-parts (body b) (stateCount b) (transitionBytes * i)
-        (every-at (nthFits (body b) (stateCount b)) 0 (transitionCount b) (parts .fields) i (omega arith) (omega arith))
+        (every-at (nthFits (body b) (stateCount b)) 0 (transitionCount b) (parts .fields) i (omega arith)
+        (omega arith))
 
     inside : transitionBytes * transitionCount b ≤ length (body b)
     inside = omega (arith, body-length b size, parts .transitions)

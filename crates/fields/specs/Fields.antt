@@ -1,19 +1,24 @@
 -- What reading transitions from bytes needs, and what a search answers. A run of transitions is a list of
 -- bytes in which transition i starts at byte 11 i: the body of a table, or a scratch.
 use mathlib.Core.Bool.{Bool, false, true}
-use mathlib.Core.List.{List}
+use mathlib.Core.List.{List, map}
 use mathlib.Core.Path.{_≡_}
 use Prim.Native.Nat.{_*_, _+_, _<_, _≤_, ℕ}
 use lib.ListN.{length}
 use Rattle.fields.specs.declared.Found.{Found}
 use Rattle.fields.specs.declared.Found.the-variants.{Nothing, State}
 use Rattle.format.specs.Format.{maxArity, maxProduct, maxStates, maxTransitions, tableBytes, transitionBytes}
+use Rattle.lists.specs.Positions.{upFrom}
 use Rattle.table.specs.Layout.{argOf, arityOf, body, labelOf, outOf, stateCount, transitionCount}
 
 -- the transition that starts at a byte stands inside the run and has at most eight arguments
 pub record Readable (s : List ℕ) (at : ℕ) : Type 0 where
   pub inside : at + transitionBytes ≤ length s
   pub narrow : arityOf s at ≤ maxArity
+
+-- the first n arguments of the transition that starts at a byte
+abbrev pub firstArgs : List ℕ → ℕ → ℕ → List ℕ
+firstArgs s at n = map (argOf s at) (upFrom 0 n)
 
 -- the run has n transitions that can be read
 pub record Runs (s : List ℕ) (n : ℕ) : Type 0 where
@@ -30,7 +35,7 @@ pub record RunsOver (s : List ℕ) (n m : ℕ) : Type 0 where
   pub out-some : (i : ℕ) → i < n → 1 ≤ outOf s (transitionBytes * i)
   pub out-state : (i : ℕ) → i < n → outOf s (transitionBytes * i) ≤ m
 
--- what condition 7 says of a table, by index
+-- what code may rely on in a table that passed condition 7
 pub record InTable (b : List ℕ) : Type 0 where
   pub size : length b ≡ tableBytes
   pub states : stateCount b ≤ maxStates

@@ -1,18 +1,17 @@
 // Fields of a table and of its transitions. `run` is a run of transitions, transition i at byte 11 i: the part
 // `&table[203..]` of a table, or a scratch. Layout and order are conditions 7 and 8.
 ghost use mathlib.Core.Path.{_≡_};
-ghost use mathlib.Core.List.{map};
 ghost use Prim.Native.Nat.{_*_, _+_, _-_, _<_, _≤_};
 ghost use lib.ListN.{length, take};
 ghost use Rattle.automata.specs.Automaton.{lookup, matches};
 ghost use Rattle.automata.specs.Order.{lex, precedes, rising};
 ghost use Rattle.automata.specs.Valid.{inRange};
-ghost use Rattle.format.specs.Format.{maxArity, maxStates, maxTransitions, tableBytes, transitionBytes};
+ghost use Rattle.format.specs.Format.{maxArity, maxStates, tableBytes, transitionBytes};
 ghost use Rattle.lists.specs.Positions.{upFrom};
 ghost use Rattle.lists.specs.Tests.{any, every};
-ghost use Rattle.table.specs.Layout.{argFits, argOf, classFits, layoutFits, nthFits, transitionAt, transitionCount};
+ghost use Rattle.table.specs.Layout.{argFits, classFits, layoutFits, nthFits, transitionAt, transitionCount};
 ghost use Rattle.table.specs.Layout.{transitionFits, transitionsIn, zeroAt};
-ghost use Rattle.fields.specs.Fields.{Readable, Runs, foundState, isFound};
+ghost use Rattle.fields.specs.Fields.{Readable, Runs, firstArgs, foundState, isFound};
 use format::ARGS_AT;
 use format::COUNT_AT;
 use format::HEAD_BYTES;
@@ -25,11 +24,13 @@ use format::TRANSITION_BYTES;
 // The arity stands right before the arguments.
 const ARITY_AT: usize = ARGS_AT - 1;
 
+// What a search answers: the output of the transition that it found, if any.
 pub enum Found {
     State(u8),
     Nothing,
 }
 
+// A byte as an index or a count.
 pub fn wide(x: u8) -> usize
     ensures { λ r. ⌜ r ≡ x ⌝ }
 {
@@ -144,7 +145,6 @@ fn transitions_fit(run: &[u8], states: usize, count: usize) -> bool
 
 // Whether the bytes of a run from one on are all 0.
 fn zeros_from(run: &[u8], start: usize) -> bool
-    requires { ⌜ start ≤ length (now run) ⌝ }
     ensures { λ r. ⌜ r ≡ every (zeroAt (now (run .entry))) (upFrom start (length (now (run .entry)) - start)) ⌝ }
 {
     let mut j = start;
@@ -184,7 +184,7 @@ fn args_precede(run: &[u8], a: usize, b: usize, n: usize) -> bool
     requires { ⌜ Readable (now run) a ⌝ }
     requires { ⌜ Readable (now run) b ⌝ }
     requires { ⌜ n ≤ maxArity ⌝ }
-    ensures { λ r. ⌜ r ≡ lex (map (argOf (now (run .entry)) a) (upFrom 0 n)) (map (argOf (now (run .entry)) b) (upFrom 0 n)) ⌝ }
+    ensures { λ r. ⌜ r ≡ lex (firstArgs (now (run .entry)) a n) (firstArgs (now (run .entry)) b n) ⌝ }
 {
     let mut k = 0;
     while k < n {
@@ -207,11 +207,13 @@ fn precedes_at(run: &[u8], a: usize, b: usize) -> bool
 {
     let n = wide(run[a + ARITY_AT]);
     let m = wide(run[b + ARITY_AT]);
+    let first = wide(run[a]);
+    let second = wide(run[b]);
     if n != m {
         return n < m;
     }
-    if run[a] != run[b] {
-        return run[a] < run[b];
+    if first != second {
+        return first < second;
     }
     args_precede(run, a, b, n)
 }

@@ -33,11 +33,21 @@ in-range-requires c κs = search needs
 
 returns : tie.Need-returns
 returns c =
-    rw (lt-ltb (c .before .before .before .before .before .before .before .args .k) (getD (c .before .before .before .before .before .before .before .args .run .now) (c .before .before .before .before .before .before .before .args .at + 1) 0) (omega arith), ← (c .before .before .before .before .wide .ensures)) (c .in-range .ensures)
+    let start = c .before .before .before .before .before .before .before in
+    rw (
+      lt-ltb (start .args .k) (getD (start .args .run .now) (start .args .at + 1) 0) (omega arith),
+      ←
+          (c .before .before .before .before .wide .ensures),
+    ) (c .in-range .ensures)
 
 returns-2 : tie.Need-returns-2
 returns-2 c =
-    rw (le-ltb (c .before .before .before .before .before .before .args .k) (getD (c .before .before .before .before .before .before .args .run .now) (c .before .before .before .before .before .before .args .at + 1) 0) (omega arith), ← (c .before .before .before .wide .ensures))
+    let start = c .before .before .before .before .before .before in
+    rw (
+      le-ltb (start .args .k) (getD (start .args .run .now) (start .args .at + 1) 0) (omega arith),
+      ←
+          (c .before .before .before .wide .ensures),
+    )
 
 pub arg-fits-spec : {M : Type 1} → statement M
 arg-fits-spec =

@@ -27,7 +27,8 @@ arg-fits-requires c κs = search needs
 
 returns : tie.Need-returns Inv-loop μ-loop
 returns c =
-    every-broken (c .before .before .before .loop .inv) (omega arith) (sym (c .before .arg-fits .ensures) ∙ not-true _ (c .if1 .taken))
+    every-broken (c .before .before .before .loop .inv) (omega arith)
+    (sym (c .before .arg-fits .ensures) ∙ not-true _ (c .if1 .taken))
 
 add-k : tie.Need-add-k Inv-loop μ-loop
 add-k c = search needs
@@ -37,7 +38,8 @@ loop-less c = search needs
 
 loop-again : tie.Need-loop-again Inv-loop μ-loop
 loop-again c =
-    every-next (c .before .before .before .loop .inv) (omega arith) (sym (c .before .arg-fits .ensures) ∙ not-false _ (c .if1 .left))
+    every-next (c .before .before .before .loop .inv) (omega arith)
+    (sym (c .before .arg-fits .ensures) ∙ not-false _ (c .if1 .left))
 
 returns-2 : tie.Need-returns-2 Inv-loop μ-loop
 returns-2 c = every-end (c .before .loop .inv) (omega arith)

@@ -1,68 +1,54 @@
+-- `fields::args_precede` meets its contract: the answer is that of the arguments left.
 use Prim.Native.Nat.{_-_}
 use native.Mathlib.Omega.{arith}
-use mathlib.Core.List.{map}
-use Rattle.automata.specs.Order.{lex}
-use Rattle.lists.specs.Positions.{upFrom}
-use Rattle.table.specs.Layout.{argOf}
-use Rattle.fields.proofs.Laws.{LexFrom, lex-start, lex-next, lex-decided, lex-end}
 use borrow.Author.Needs.{needs}
+use Rattle.automata.specs.Order.{lex}
+use Rattle.fields.specs.Fields.{firstArgs}
+use Rattle.table.specs.Layout.{argOf}
+use Rattle.fields.proofs.Laws.{LexFrom, lex-decided, lex-end, lex-next, lex-start}
 use Rattle.fields.proofs.args_precede.Statement.{statement}
 use Rattle.fields.proofs.args_precede.Tie as tie
-use Rattle.fields.proofs.args_precede.Reads as reads
-use Rattle.fields.proofs.args_precede.Lts as lts
 
 abbrev Inv-loop : tie.InvT-loop
 Inv-loop run a b n k₀ k =
-    LexFrom (lex (map (argOf run a) (upFrom 0 n)) (map (argOf run b) (upFrom 0 n))) (argOf run a) (argOf run b) n k
+    LexFrom (lex (firstArgs run a n) (firstArgs run b n)) (argOf run a) (argOf run b) n k
 
 abbrev μ-loop : tie.MeasureT-loop
 μ-loop run a b n k₀ k = n - k
 
--- src/lib.rt:190:5
 loop-holds : tie.Need-loop-holds Inv-loop μ-loop
 loop-holds c = lex-start
 
--- src/lib.rt:191:21
 add-x : tie.Need-add-x Inv-loop μ-loop
 add-x c = search needs
 
--- src/lib.rt:191:21
 add-x-2 : tie.Need-add-x-2 Inv-loop μ-loop
 add-x-2 c = search needs
 
--- src/lib.rt:191:17
 shared-slice-read-x : tie.Need-shared-slice-read-x Inv-loop μ-loop
 shared-slice-read-x c = search needs
 
--- src/lib.rt:192:21
 add-y : tie.Need-add-y Inv-loop μ-loop
 add-y c = search needs
 
--- src/lib.rt:192:21
 add-y-2 : tie.Need-add-y-2 Inv-loop μ-loop
 add-y-2 c = search needs
 
--- src/lib.rt:192:17
 shared-slice-read-y : tie.Need-shared-slice-read-y Inv-loop μ-loop
 shared-slice-read-y c = search needs
 
--- src/lib.rt:194:13
 returns : tie.Need-returns Inv-loop μ-loop
 returns c = lex-decided (c .before .before .before .before .loop .inv) (omega arith) (c .if1 .taken)
 
--- src/lib.rt:196:9
 add-k : tie.Need-add-k Inv-loop μ-loop
 add-k c = search needs
 
--- src/lib.rt:190:5
 loop-less : tie.Need-loop-less Inv-loop μ-loop
 loop-less c = search needs
 
--- src/lib.rt:190:5
 loop-again : tie.Need-loop-again Inv-loop μ-loop
 loop-again c = lex-next (c .before .before .before .before .loop .inv) (omega arith) (c .if1 .left)
 
--- src/lib.rt:183:1
 returns-2 : tie.Need-returns-2 Inv-loop μ-loop
 returns-2 c = lex-end (c .before .loop .inv) (omega arith)
 

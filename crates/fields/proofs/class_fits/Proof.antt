@@ -17,14 +17,16 @@ shared-slice-read-result c = search needs
 
 returns : tie.Need-returns
 returns c =
-    rw (le-leb (c .before .before .before .before .before .args .q) (getD (c .before .before .before .before .before .args .table .now) 0 0) (omega arith))
+    let start = c .before .before .before .before .before in
+    rw (le-leb (start .args .q) (getD (start .args .table .now) 0 0) (omega arith))
 
 shared-slice-read-result-2 : tie.Need-shared-slice-read-result-2
 shared-slice-read-result-2 c = search needs
 
 returns-2 : tie.Need-returns-2
 returns-2 c =
-    rw (lt-leb (c .before .before .before .before .before .args .q) (getD (c .before .before .before .before .before .args .table .now) 0 0) (omega arith))
+    let start = c .before .before .before .before .before in
+    rw (lt-leb (start .args .q) (getD (start .args .table .now) 0 0) (omega arith))
 
 pub class-fits-spec : {M : Type 1} → statement M
 class-fits-spec =

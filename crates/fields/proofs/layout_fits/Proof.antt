@@ -1,13 +1,10 @@
--- `fields::layout_fits` meets its contract: each return breaks the next test of the definition. The part of the
--- table that is handed on is its body.
-use mathlib.Core.Path.{_∙_, _≡_, sym}
-use Prim.Native.Nat.{_*_, _-_}
+-- `fields::layout_fits` meets its contract: each return breaks the next test of the definition.
+use mathlib.Core.Path.{_∙_, sym}
 use native.Mathlib.Omega.{arith}
-use lib.ListN.{length}
 use borrow.Author.Needs.{needs}
-use borrow.Author.Tests.{le-leb, lt-leb, not-false, not-true}
-use Rattle.table.specs.Layout.{body, layoutFits, stateCount, transitionCount}
-use Rattle.fields.proofs.Transitions.{body-length, part-body}
+use borrow.Author.Tests.{not-false, not-true}
+use Rattle.fields.proofs.Returns.{broken-class, broken-field, many-states, many-transitions, part-fits}
+use Rattle.fields.proofs.Returns.{part-zeros, zeros-decide}
 use Rattle.fields.proofs.layout_fits.Statement.{statement}
 use Rattle.fields.proofs.layout_fits.Tie as tie
 
@@ -18,26 +15,26 @@ wide-requires : tie.Need-wide-requires
 wide-requires c κs = search needs
 
 returns : tie.Need-returns
-unfolding layoutFits
-returns c = rw (lt-leb (stateCount ((c .before .before .before .before .args .table .now))) 200 (omega arith))
+returns c = many-states (c .before .before .before .before .args .table .now) (omega arith)
 
 classes-fit-requires : tie.Need-classes-fit-requires
 classes-fit-requires c κs = search needs
 
 returns-2 : tie.Need-returns-2
-unfolding layoutFits
 returns-2 c =
-    let e = sym (c .before .classes-fit .ensures) ∙ not-true _ (c .if2 .taken) in
-    rw (le-leb (stateCount ((c .before .before .before .before .before .before .args .table .now))) 200 (omega arith), e)
+    let start = c .before .before .before .before .before .before in
+    broken-class (start .args .table .now) (omega arith)
+    (sym (c .before .classes-fit .ensures) ∙ not-true _ (c .if2 .taken))
 
 transition-count-requires : tie.Need-transition-count-requires
 transition-count-requires c κs = search needs
 
 returns-3 : tie.Need-returns-3
-unfolding layoutFits
 returns-3 c =
-    let e = sym (c .before .before .before .classes-fit .ensures) ∙ not-false _ (c .before .before .if2 .left) in
-    rw (le-leb (stateCount ((c .before .before .before .before .before .before .before .before .args .table .now))) 200 (omega arith), e, lt-leb (transitionCount ((c .before .before .before .before .before .before .before .before .args .table .now))) 1024 (omega arith))
+    let start = c .before .before .before .before .before .before .before .before in
+    many-transitions (start .args .table .now) (omega arith)
+    (sym (c .before .before .before .classes-fit .ensures) ∙ not-false _ (c .before .before .if2 .left))
+    (omega arith)
 
 sub-transitions-fit : tie.Need-sub-transitions-fit
 sub-transitions-fit c = search needs
@@ -52,11 +49,15 @@ transitions-fit-requires : tie.Need-transitions-fit-requires
 transitions-fit-requires c κs = search needs
 
 returns-4 : tie.Need-returns-4
-unfolding layoutFits
 returns-4 c =
-    let e = sym (c .before .before .before .before .before .before .classes-fit .ensures) ∙ not-false _ (c .before .before .before .before .before .if2 .left) in
-    let f = sym (rw (part-body ((c .before .before .before .before .before .before .before .before .before .before .before .args .table .now)), c .before .before .before .before .before .before .before .before .wide .ensures, c .before .before .before .before .transition-count .ensures .0) at (c .before .transitions-fit .ensures)) ∙ not-true _ (c .if4 .taken) in
-    rw (le-leb (stateCount ((c .before .before .before .before .before .before .before .before .before .before .before .args .table .now))) 200 (omega arith), e, le-leb (transitionCount ((c .before .before .before .before .before .before .before .before .before .before .before .args .table .now))) 1024 (omega arith), f)
+    let start = c .before .before .before .before .before .before .before .before .before .before .before in
+    let classes = sym (c .before .before .before .before .before .before .classes-fit .ensures) ∙ not-false _
+    (c .before .before .before .before .before .if2 .left) in
+    let fields = part-fits (start .args .table .now)
+    (c .before .before .before .before .before .before .before .before .wide .ensures)
+    (c .before .before .before .before .transition-count .ensures .0) (c .before .transitions-fit .ensures) in
+    broken-field (start .args .table .now) (omega arith) classes (omega arith)
+    (sym fields ∙ not-true _ (c .if4 .taken))
 
 sub-zeros-from : tie.Need-sub-zeros-from
 sub-zeros-from c = search needs
@@ -74,13 +75,20 @@ zeros-from-requires : tie.Need-zeros-from-requires
 zeros-from-requires c κs = search needs
 
 returns-5 : tie.Need-returns-5
-unfolding layoutFits
 returns-5 c =
-    let e = sym (c .before .before .before .before .before .before .before .before .classes-fit .ensures) ∙ not-false _ (c .before .before .before .before .before .before .before .if2 .left) in
-    let f = sym (rw (part-body ((c .before .before .before .before .before .before .before .before .before .before .before .before .before .args .table .now)), c .before .before .before .before .before .before .before .before .before .before .wide .ensures, c .before .before .before .before .before .before .transition-count .ensures .0) at (c .before .before .before .transitions-fit .ensures)) ∙ not-false _ (c .before .before .if4 .left) in
-    let d : length (body ((c .before .before .before .before .before .before .before .before .before .before .before .before .before .args .table .now))) - 11 * transitionCount ((c .before .before .before .before .before .before .before .before .before .before .before .before .before .args .table .now)) ≡ 11 * (1024 - transitionCount ((c .before .before .before .before .before .before .before .before .before .before .before .before .before .args .table .now))) = omega (arith, body-length ((c .before .before .before .before .before .before .before .before .before .before .before .before .before .args .table .now)) (c .before .before .before .before .before .before .before .before .before .before .before .before .before .pre)) in
-    rw (le-leb (stateCount ((c .before .before .before .before .before .before .before .before .before .before .before .before .before .args .table .now))) 200 (omega arith), e, le-leb (transitionCount ((c .before .before .before .before .before .before .before .before .before .before .before .before .before .args .table .now))) 1024 (omega arith), f, ← d)
-    (rw (part-body ((c .before .before .before .before .before .before .before .before .before .before .before .before .before .args .table .now)), c .before .before .before .before .before .before .transition-count .ensures .0) at (c .zeros-from .ensures))
+    let start =
+    c .before .before .before .before .before .before .before .before .before .before .before .before .before in
+    let classes = sym (c .before .before .before .before .before .before .before .before .classes-fit .ensures) ∙
+    not-false _ (c .before .before .before .before .before .before .before .if2 .left) in
+    let fields = part-fits (start .args .table .now)
+    (c .before .before .before .before .before .before .before .before .before .before .wide .ensures)
+    (c .before .before .before .before .before .before .transition-count .ensures .0)
+    (c .before .before .before .transitions-fit .ensures) in
+    let zeros = part-zeros (start .args .table .now) (start .pre)
+    (c .before .before .before .before .before .before .transition-count .ensures .0)
+    (c .zeros-from .ensures) in
+    zeros-decide (start .args .table .now) (omega arith) classes (omega arith)
+    (sym fields ∙ not-false _ (c .before .before .if4 .left)) zeros
 
 pub layout-fits-spec : {M : Type 1} → statement M
 layout-fits-spec =

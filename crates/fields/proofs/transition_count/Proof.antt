@@ -24,11 +24,21 @@ mul-result c = omega (arith, c .before .before .before .before .shared-slice-kno
 
 add-result : tie.Need-add-result
 add-result c =
-    omega (arith, c .before .before .before .before .shared-slice-known .given 201, c .before .before .before .before .shared-slice-known .given 202)
+    omega (
+      arith,
+      c .before .before .before .before .shared-slice-known .given 201,
+      c .before .before .before .before .shared-slice-known .given 202,
+    )
 
 returns : tie.Need-returns
-returns c =
-    (search needs, omega (arith, c .before .before .before .before .shared-slice-known .given 201, c .before .before .before .before .shared-slice-known .given 202))
+returns c = (
+  search needs,
+  omega (
+    arith,
+    c .before .before .before .before .shared-slice-known .given 201,
+    c .before .before .before .before .shared-slice-known .given 202,
+  ),
+)
 
 pub transition-count-spec : {M : Type 1} → statement M
 transition-count-spec =

@@ -1,11 +1,9 @@
 -- `fields::transition_fits` meets its contract: each return breaks the next test of the definition.
 use mathlib.Core.Path.{_∙_, sym}
-use Prim.Native.Nat.{_+_}
 use native.Mathlib.Omega.{arith}
-use lib.ListN.{getD}
 use borrow.Author.Needs.{needs}
-use borrow.Author.Tests.{le-leb, lt-leb, not-false, not-true}
-use Rattle.table.specs.Layout.{transitionFits}
+use borrow.Author.Tests.{not-false, not-true}
+use Rattle.fields.proofs.Returns.{broken-arg, many-args, no-label, out-decides}
 use Rattle.fields.proofs.transition_fits.Statement.{statement}
 use Rattle.fields.proofs.transition_fits.Tie as tie
 
@@ -13,9 +11,9 @@ shared-slice-read-if1 : tie.Need-shared-slice-read-if1
 shared-slice-read-if1 c = search needs
 
 returns : tie.Need-returns
-unfolding transitionFits
 returns c =
-    rw (lt-leb 1 ((getD (c .before .before .before .args .run .now) (c .before .before .before .args .at) 0)) (omega arith))
+    let start = c .before .before .before in
+    no-label (start .args .run .now) (start .args .states) (start .args .at) (omega arith)
 
 add-wide : tie.Need-add-wide
 add-wide c = search needs
@@ -27,18 +25,19 @@ wide-requires : tie.Need-wide-requires
 wide-requires c κs = search needs
 
 returns-2 : tie.Need-returns-2
-unfolding transitionFits
 returns-2 c =
-    rw (le-leb 1 ((getD (c .before .before .before .before .before .before .args .run .now) (c .before .before .before .before .before .before .args .at) 0)) (omega arith), lt-leb ((getD (c .before .before .before .before .before .before .args .run .now) (c .before .before .before .before .before .before .args .at + 1) 0)) 8 (omega arith))
+    let start = c .before .before .before .before .before .before in
+    many-args (start .args .run .now) (start .args .states) (start .args .at) (omega arith) (omega arith)
 
 args-fit-requires : tie.Need-args-fit-requires
 args-fit-requires c κs = search needs
 
 returns-3 : tie.Need-returns-3
-unfolding transitionFits
 returns-3 c =
-    let e = sym (c .before .args-fit .ensures) ∙ not-true _ (c .if3 .taken) in
-    rw (le-leb 1 ((getD (c .before .before .before .before .before .before .before .before .args .run .now) (c .before .before .before .before .before .before .before .before .args .at) 0)) (omega arith), le-leb ((getD (c .before .before .before .before .before .before .before .before .args .run .now) (c .before .before .before .before .before .before .before .before .args .at + 1) 0)) 8 (omega arith), e)
+    broken-arg (c .before .before .before .before .before .before .before .before .args .run .now)
+    (c .before .before .before .before .before .before .before .before .args .states)
+    (c .before .before .before .before .before .before .before .before .args .at) (omega arith) (omega arith)
+    (sym (c .before .args-fit .ensures) ∙ not-true _ (c .if3 .taken))
 
 add-wide-2 : tie.Need-add-wide-2
 add-wide-2 c = search needs
@@ -53,10 +52,14 @@ in-range-requires : tie.Need-in-range-requires
 in-range-requires c κs = search needs
 
 returns-4 : tie.Need-returns-4
-unfolding transitionFits
 returns-4 c =
-    let e = sym (c .before .before .before .before .args-fit .ensures) ∙ not-false _ (c .before .before .before .if3 .left) in
-    rw (le-leb 1 ((getD (c .before .before .before .before .before .before .before .before .before .before .before .args .run .now) (c .before .before .before .before .before .before .before .before .before .before .before .args .at) 0)) (omega arith), le-leb ((getD (c .before .before .before .before .before .before .before .before .before .before .before .args .run .now) (c .before .before .before .before .before .before .before .before .before .before .before .args .at + 1) 0)) 8 (omega arith), e, ← (c .before .wide2 .ensures)) (c .in-range .ensures)
+    out-decides
+    (c .before .before .before .before .before .before .before .before .before .before .before .args .run .now)
+    (c .before .before .before .before .before .before .before .before .before .before .before .args .states)
+    (c .before .before .before .before .before .before .before .before .before .before .before .args .at)
+    (omega arith) (omega arith)
+    (sym (c .before .before .before .before .args-fit .ensures) ∙ not-false _
+    (c .before .before .before .if3 .left)) (c .before .wide2 .ensures) (c .in-range .ensures)
 
 pub transition-fits-spec : {M : Type 1} → statement M
 transition-fits-spec =

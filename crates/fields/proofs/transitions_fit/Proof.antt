@@ -29,7 +29,8 @@ transition-fits-requires c κs = search needs
 
 returns : tie.Need-returns Inv-loop μ-loop
 returns c =
-    every-broken (c .before .before .before .loop .inv) (omega arith) (sym (c .before .transition-fits .ensures) ∙ not-true _ (c .if1 .taken))
+    every-broken (c .before .before .before .loop .inv) (omega arith)
+    (sym (c .before .transition-fits .ensures) ∙ not-true _ (c .if1 .taken))
 
 add-i : tie.Need-add-i Inv-loop μ-loop
 add-i c = search needs
@@ -39,7 +40,8 @@ loop-less c = search needs
 
 loop-again : tie.Need-loop-again Inv-loop μ-loop
 loop-again c =
-    every-next (c .before .before .before .loop .inv) (omega arith) (sym (c .before .transition-fits .ensures) ∙ not-false _ (c .if1 .left))
+    every-next (c .before .before .before .loop .inv) (omega arith)
+    (sym (c .before .transition-fits .ensures) ∙ not-false _ (c .if1 .left))
 
 returns-2 : tie.Need-returns-2 Inv-loop μ-loop
 returns-2 c = every-end (c .before .loop .inv) (omega arith)
