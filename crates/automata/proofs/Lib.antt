@@ -8,10 +8,12 @@ pub mod Unique
 pub mod Numbers
 pub mod Numbering
 pub mod Sorting
+pub mod Prefixes
 pub mod Renumbered
 pub mod Minimal
 pub mod CanonicalRun
 pub mod Nodes
+pub mod PairRuns
 pub mod Product
 pub mod Subtrees
 pub mod Change
@@ -22,5 +24,7 @@ pub mod BoundedChange
 pub mod Legal
 pub mod ProductLaws
 pub mod ProductBound
+pub mod ProductView
+pub mod ProductViewCount
 pub mod Leads
 pub mod Useless

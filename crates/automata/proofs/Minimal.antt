@@ -12,6 +12,8 @@ use Rattle.automata.specs.Canonical.{Canonical, Equivalent, Occurs, Subt
 use Rattle.automata.specs.ContextRun.{runContext}
 use Rattle.automata.specs.Distinguishable.{distinguishable, distinguishablePairs}
 use Rattle.automata.specs.Minimal.{first, merge, minimal, quotient, representative}
+use Rattle.automata.specs.Order.{rising}
+use Rattle.automata.specs.Renumber.{renumber}
 use Rattle.lists.specs.Closure.{elem}
 use Rattle.lists.specs.Positions.{eqPair, upFrom}
 use Rattle.lists.specs.Tests.{_∈_, filter}
@@ -19,7 +21,8 @@ use Rattle.trees.specs.Context.{Context}
 use Rattle.trees.specs.Tree.{Forest, Tree, cons, nil, node}
 use Rattle.automata.proofs.Accessible.{forest}
 use Rattle.automata.proofs.Distinguishable.{distinguishable-separated, run-fits, separated-distinguishable}
-use Rattle.automata.proofs.Renumbered.{Grouping, renumbered-canonical}
+use Rattle.automata.proofs.Numbering.{Exhausted, Opened-each}
+use Rattle.automata.proofs.Renumbered.{Grouping, grouping-same, ordered-canonical, renumbered-canonical}
 use Rattle.automata.proofs.Steps.{ArgsAccessible, Fits, Taken, run-plug, runContext-zero, step-view}
 use Rattle.lists.proofs.Positions.{in-upFrom, upFrom-in}
 use Rattle.lists.proofs.Tests.{filter-in, in-filter, in-map, map-in}
@@ -146,22 +149,23 @@ module _ (A : Automaton) (fit : Fits A)
           absurd (h (equivalent-representative (run A t) 0 (run-fits A fit t) (omega arith)
           (indistinguishable-equivalent (run A t) 0 (run-fits A fit t) (omega arith) e) ∙ representative-zero))
 
-  g : Tree → ℕ
-  g t = r (run A t)
+  -- the group of a tree: the representative of its state
+  unfoldable pub groupOf : Tree → ℕ
+  groupOf t = representative (distinguishablePairs A) (states A) (run A t)
 
-  each-runs : (f : Forest) → eachTree g f ≡ map r (runs A f)
-  unfolding g
+  each-runs : (f : Forest) → eachTree groupOf f ≡ map r (runs A f)
+  unfolding groupOf r
   each-runs nil = refl
   each-runs (cons t f) = rw (each-runs f)
 
   merged : (l : Transition) (a : ℕ) (f : Forest) → l .label ≡ a → l .args ≡ runs A f →
-      merge A (distinguishablePairs A) l ≡ transitionOf g a f
-  unfolding merge g r
+      merge A (distinguishablePairs A) l ≡ transitionOf groupOf a f
+  unfolding merge groupOf r
   merged l a f p q = let e = ap (map r) q ∙ sym (each-runs f) in
       λ i. record { label = p i; args = e i; out = r (step A (p i) (q i)) }
 
-  grouped : Grouping S g (quotient A (distinguishablePairs A))
-  unfolding g quotient
+  pub grouped : Grouping S groupOf (quotient A (distinguishablePairs A))
+  unfolding groupOf quotient r
   grouped = record {
     joins = λ t u p q e. equivalent-representative (run A t) (run A u) (run-fits A fit t) (run-fits A fit u)
         (equivalent-states t u e);
@@ -172,36 +176,36 @@ module _ (A : Automaton) (fit : Fits A)
   }
     where
       occurs : (a : ℕ) (f : Forest) → Subtree S (node a f) →
-          transitionOf g a f ∈ filter (λ l. not (eqb 0 (l .out)))
+          transitionOf groupOf a f ∈ filter (λ l. not (eqb 0 (l .out)))
           (map (merge A (distinguishablePairs A)) (A .transitions))
       occurs a f p = go (step-view A a (runs A f))
         where
           go : (step A a (runs A f) ≡ 0) ⊎ Taken A a (runs A f) →
-              transitionOf g a f ∈ filter (λ l. not (eqb 0 (l .out)))
+              transitionOf groupOf a f ∈ filter (λ l. not (eqb 0 (l .out)))
               (map (merge A (distinguishablePairs A)) (A .transitions))
           go (inl z) = absurd (subtree-used (node a f) p (ap r z ∙ representative-zero))
           go (inr (n, (l, i, u, v, w))) =
               in-filter (λ l. not (eqb 0 (l .out)))
-              (map (merge A (distinguishablePairs A)) (A .transitions)) (transitionOf g a f)
+              (map (merge A (distinguishablePairs A)) (A .transitions)) (transitionOf groupOf a f)
               (rw (merged l a f u v) at (in-map (merge A (distinguishablePairs A)) (A .transitions) l i))
-              (ap not (ne-eqb 0 (g (node a f)) (λ z. subtree-used (node a f) p (sym z))))
+              (ap not (ne-eqb 0 (groupOf (node a f)) (λ z. subtree-used (node a f) p (sym z))))
 
       only : (l : Transition) →
           l ∈ filter (λ l. not (eqb 0 (l .out)))
-          (map (merge A (distinguishablePairs A)) (A .transitions)) → Occurs S g l
+          (map (merge A (distinguishablePairs A)) (A .transitions)) → Occurs S groupOf l
       only l i = from
           (filter-in (λ l. not (eqb 0 (l .out))) (map (merge A (distinguishablePairs A)) (A .transitions))
           l i)
         where
           from : (l ∈ map (merge A (distinguishablePairs A)) (A .transitions)) ×
-              (not (eqb 0 (l .out)) ≡ true) → Occurs S g l
+              (not (eqb 0 (l .out)) ≡ true) → Occurs S groupOf l
           from (j, e) = back (map-in (merge A (distinguishablePairs A)) (A .transitions) l j)
             where
               back : (m : Transition) × (m ∈ A .transitions) × (l ≡ merge A (distinguishablePairs A) m) →
-                  Occurs S g l
+                  Occurs S groupOf l
               back (m, k, u) = made (forest A (m .args) (λ q n. all m k q n))
                 where
-                  made : (f : Forest) × (runs A f ≡ m .args) → Occurs S g l
+                  made : (f : Forest) × (runs A f ≡ m .args) → Occurs S groupOf l
                   made (f, v) =
                       let w = u ∙ merged m (m .label) f refl (sym v) in (
                         m .label,
@@ -212,10 +216,33 @@ module _ (A : Automaton) (fit : Fits A)
                         w,
                       )
 
+  group-accepting : (t : Tree) → Subtree S t → accepting A (groupOf t) ≡ S t
+  unfolding EquivalentStates groupOf r
+  group-accepting t p = sym (representative-equivalent (run A t) (run-fits A fit t) [])
+
+  -- any order of the representatives by the rule, and any sorted list of their transitions, from any list
+  -- with the members of the quotient
+  pub same-quotient-canonical : (R : List Transition) →
+      ((τ : Transition) → τ ∈ quotient A (distinguishablePairs A) → τ ∈ R) →
+      ((τ : Transition) → τ ∈ R → τ ∈ quotient A (distinguishablePairs A)) → (O : List ℕ) →
+      Opened-each R O → Exhausted R O → (L : List Transition) → rising L ≡ true →
+      ((τ : Transition) → τ ∈ L → τ ∈ map (renumber O) R) →
+      ((τ : Transition) → τ ∈ map (renumber O) R → τ ∈ L) →
+      Canonical S (record { classes = map (accepting A) O; transitions = L })
+  same-quotient-canonical R there back =
+      ordered-canonical S groupOf R
+      (grouping-same S groupOf (quotient A (distinguishablePairs A)) R there back grouped) (accepting A)
+      group-accepting
+
+  pub quotient-canonical : (O : List ℕ) → Opened-each (quotient A (distinguishablePairs A)) O →
+      Exhausted (quotient A (distinguishablePairs A)) O → (L : List Transition) → rising L ≡ true →
+      ((τ : Transition) → τ ∈ L → τ ∈ map (renumber O) (quotient A (distinguishablePairs A))) →
+      ((τ : Transition) → τ ∈ map (renumber O) (quotient A (distinguishablePairs A)) → τ ∈ L) →
+      Canonical S (record { classes = map (accepting A) O; transitions = L })
+  quotient-canonical =
+      same-quotient-canonical (quotient A (distinguishablePairs A)) (λ τ i. i) (λ τ i. i)
+
   pub minimal-canonical : Canonical S (minimal A)
-  unfolding minimal EquivalentStates g
+  unfolding minimal
   minimal-canonical =
-      renumbered-canonical S g (quotient A (distinguishablePairs A)) grouped (accepting A) right
-    where
-      right : (t : Tree) → Subtree S t → accepting A (g t) ≡ S t
-      right t p = sym (representative-equivalent (run A t) (run-fits A fit t) [])
+      renumbered-canonical S groupOf (quotient A (distinguishablePairs A)) grouped (accepting A) group-accepting

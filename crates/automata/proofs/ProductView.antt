@@ -1,0 +1,172 @@
+-- The product of an automaton and a tree with its pairs numbered in another way: δ gives the pair of a number,
+-- acc tells which numbers are in use. A tree runs in it to the number of its pair.
+use mathlib.Core.Bool.{Bool, _&&_, _||_, false, not, true, true≢false}
+use mathlib.Core.List.{List, [], _∷_, map}
+use mathlib.Core.Logic.{_⊎_, inl, inr}
+use mathlib.Core.Path.{_∙_, _≡_, ap, fun-ext, refl, subst, sym}
+use Prim.Native.Nat.{_≤_, ℕ}
+use native.Mathlib.Omega.{arith}
+use lib.Dec.{eqb}
+use borrow.Author.Tests.{ne-eqb}
+use Rattle.automata.specs.Automaton.{Automaton, Transition, accepting, accepts, run, states}
+use Rattle.automata.specs.Canonical.{Canonical}
+use Rattle.automata.specs.Change.{deleteTree, insertTree, productWith, subtreeAutomaton, subtreeNumber}
+use Rattle.automata.specs.Change.{subtrees}
+use Rattle.automata.specs.Minimal.{minimal}
+use Rattle.automata.specs.Order.{rising}
+use Rattle.automata.specs.Product.{live, outPair, product}
+use Rattle.automata.specs.Valid.{inRange, statesInRange}
+use Rattle.lists.specs.Positions.{Pair}
+use Rattle.lists.specs.Tests.{_∈_, every}
+use Rattle.trees.specs.Tree.{Tree}
+use Rattle.automata.proofs.Change.{own-subtree, subtrees-closed, subtrees-fit}
+use Rattle.automata.proofs.Minimal.{minimal-canonical}
+use Rattle.automata.proofs.PairRuns.{EachNumber, Follows, NumberOrNone, follows-run}
+use Rattle.automata.proofs.Product.{accepts-product, product-accessible, product-fits}
+use Rattle.automata.proofs.ProductLaws.{pairs-exact, pairsWith}
+use Rattle.automata.proofs.Steps.{ArgsAccessible, Fits}
+use Rattle.automata.proofs.Subtrees.{run-subtree, subtree-numbered}
+use Rattle.automata.proofs.Unique.{unique}
+use Rattle.automata.proofs.Valid.{range-in, ranged-fits}
+use Rattle.lists.proofs.Tests.{and-both, every-in, in-every}
+
+-- a transition between numbers in use that goes to the pair of its node
+abbrev pub PairStep : Automaton → Tree → (ℕ → Pair) → (ℕ → Bool) → Transition → Type 0
+PairStep A t δ acc τ =
+    (every acc (τ .args) ≡ true) × (acc (τ .out) ≡ true) ×
+    (δ (τ .out) ≡ outPair A (subtreeAutomaton (subtrees t)) (τ .label, map δ (τ .args)))
+
+pub record ProductView (A : Automaton) (t : Tree) (δ : ℕ → Pair) (acc : ℕ → Bool) (P : Automaton) : Type 0 where
+  -- the numbers in use are states, and each pair has one of them
+  pub sound : (p : ℕ) → acc p ≡ true → (1 ≤ p) × (p ≤ states P) × (δ p ∈ pairsWith A t)
+  pub complete : (k : Pair) → k ∈ pairsWith A t → (p : ℕ) × (acc p ≡ true) × (δ p ≡ k)
+  pub injective : (p q : ℕ) → acc p ≡ true → acc q ≡ true → δ p ≡ δ q → p ≡ q
+  -- the transitions are those of the product, sorted by these numbers
+  pub rises : rising (P .transitions) ≡ true
+  pub only : (τ : Transition) → τ ∈ P .transitions → PairStep A t δ acc τ
+  pub all : (a : ℕ) (ps : List ℕ) → every acc ps ≡ true →
+      live (outPair A (subtreeAutomaton (subtrees t)) (a, map δ ps)) ≡ true →
+      (τ : Transition) × (τ ∈ P .transitions) × (τ .label ≡ a) × (τ .args ≡ ps)
+
+module _ (A : Automaton) (fit : Fits A) (t : Tree) (δ : ℕ → Pair) (acc : ℕ → Bool) (P : Automaton)
+    (W : ProductView A t δ acc P) where
+  abbrev B : Automaton
+  B = subtreeAutomaton (subtrees t)
+
+  used-live : (p : ℕ) → acc p ≡ true → live (δ p) ≡ true
+  used-live p h = pairs-exact A fit t (δ p) .0 (W .sound p h .2) .0
+
+  -- the number of a pair
+  abbrev Number : ℕ → Pair → Type 0
+  Number p k = (acc p ≡ true) × (δ p ≡ k)
+
+  each-number : (ps : List ℕ) (ks : List Pair) → EachNumber A B Number ps ks →
+      (every acc ps ≡ true) × (map δ ps ≡ ks)
+  each-number [] [] h = (refl, refl)
+  each-number (p ∷ ps) (k ∷ ks) h = let r = each-number ps ks (h .1) in
+      (and-both (h .0 .0) (r .0), cc (h .0 .1, r .1))
+
+  follows : Follows A B Number P
+  follows = record {
+    rises = W .rises;
+    positive = λ p k (h, e). W .sound p h .0;
+    all = all;
+    only = only;
+  }
+    where
+      all : (a : ℕ) (ps : List ℕ) (ks : List Pair) → EachNumber A B Number ps ks →
+          live (outPair A B (a, ks)) ≡ true →
+          (τ : Transition) × (τ ∈ P .transitions) × (τ .label ≡ a) × (τ .args ≡ ps) ×
+          Number (τ .out) (outPair A B (a, ks))
+      all a ps ks h l =
+          let (u, d) = each-number ps ks h in
+          let (τ, i, x, y) = W .all a ps u (rw d l) in
+          let (_, o, e) = W .only τ i in
+          (τ, i, x, y, (o, rw (e, x, y, d)))
+
+      only : (a : ℕ) (ps : List ℕ) (ks : List Pair) → EachNumber A B Number ps ks → (τ : Transition) →
+          τ ∈ P .transitions → τ .label ≡ a → τ .args ≡ ps → live (outPair A B (a, ks)) ≡ true
+      only a ps ks h τ i x y =
+          let (_, o, e) = W .only τ i in rw (e, x, y, each-number ps ks h .1) at (used-live (τ .out) o)
+
+  -- a tree runs to the number of its pair, or to 0 where it has none
+  pub view-run : (u : Tree) →
+      ((run P u ≡ 0) × (_≡_ {A = Pair} (run A u, subtreeNumber (subtrees t) u) (0, 0))) ⊎
+      ((acc (run P u) ≡ true) × (δ (run P u) ≡ (run A u, subtreeNumber (subtrees t) u)))
+  view-run u =
+      subst (λ (n : ℕ). NumberOrNone A B Number (run P u) (run A u, n))
+      (run-subtree (subtrees t) (subtrees-closed t) u) (follows-run A B Number P follows u)
+
+  pub view-accepts : (cls : Pair → Bool) → cls (0, 0) ≡ false →
+      ((p : ℕ) → acc p ≡ true → accepting P p ≡ cls (δ p)) → (u : Tree) →
+      accepts P u ≡ cls (run A u, subtreeNumber (subtrees t) u)
+  view-accepts cls z h u = go (view-run u)
+    where
+      go : NumberOrNone A B Number (run P u) (run A u, subtreeNumber (subtrees t) u) →
+          accepts P u ≡ cls (run A u, subtreeNumber (subtrees t) u)
+      go (inl (n, e)) = ap (accepting P) n ∙ sym (ap cls e ∙ z)
+      go (inr (n, e)) = h (run P u) n ∙ ap cls e
+
+  -- some tree runs to each number in use
+  pub view-tree : (p : ℕ) → acc p ≡ true → (u : Tree) × (run P u ≡ p)
+  view-tree p h = let (_, (u, e)) = pairs-exact A fit t (δ p) .0 (W .sound p h .2) in (u, go u e (view-run u))
+    where
+      go : (u : Tree) → (run A u, subtreeNumber (subtrees t) u) ≡ δ p →
+          NumberOrNone A B Number (run P u) (run A u, subtreeNumber (subtrees t) u) → run P u ≡ p
+      go u e (inl (_, z)) = absurd (true≢false (sym (used-live p h) ∙ ap live (sym e ∙ z)))
+      go u e (inr (n, d)) = W .injective (run P u) p n h (d ∙ e)
+
+  -- each argument is a state that some tree runs to
+  pub view-args-positive : (τ : Transition) → τ ∈ P .transitions → (q : ℕ) → q ∈ τ .args →
+      (1 ≤ q) × ((u : Tree) × (run P u ≡ q))
+  view-args-positive τ i q j = let h = every-in acc (τ .args) (W .only τ i .0) q j in
+      (W .sound q h .0, view-tree q h)
+
+  pub view-args : ArgsAccessible P
+  view-args τ i q j = view-args-positive τ i q j .1
+
+  pub view-ranged : statesInRange P ≡ true
+  view-ranged =
+      in-every (λ τ. every (inRange (states P)) (τ .args) && inRange (states P) (τ .out)) (P .transitions)
+      (λ τ i. let (h, o, _) = W .only τ i in
+      and-both (in-every (inRange (states P)) (τ .args) (λ q j. used q (every-in acc (τ .args) h q j)))
+      (used (τ .out) o))
+    where
+      used : (p : ℕ) → acc p ≡ true → inRange (states P) p ≡ true
+      used p h = let (l, m, _) = W .sound p h in range-in (states P) p l m
+
+  pub view-fits : Fits P
+  view-fits = ranged-fits P view-ranged
+
+  -- what is canonical for the trees that it accepts is the product minimised
+  pub view-minimal : (cls : Pair → Bool) → cls (0, 0) ≡ false →
+      ((p : ℕ) → acc p ≡ true → accepting P p ≡ cls (δ p)) → (C : Automaton) → Canonical (accepts P) C →
+      C ≡ minimal (productWith cls A t)
+  unfolding productWith
+  view-minimal cls z h C X =
+      unique (accepts P) C (minimal (product cls A B)) X
+      (subst (λ (S : Tree → Bool). Canonical S (minimal (product cls A B))) (fun-ext same)
+      (minimal-canonical (product cls A B) (product-fits A B fit (subtrees-fit t) cls)
+      (product-accessible A B fit (subtrees-fit t) cls)))
+    where
+      same : (u : Tree) → accepts (product cls A B) u ≡ accepts P u
+      same u = accepts-product A B fit (subtrees-fit t) cls z u
+          ∙ ap (λ (n : ℕ). cls (run A u, n)) (run-subtree (subtrees t) (subtrees-closed t) u)
+          ∙ sym (view-accepts cls z h u)
+
+  -- with the class of the tree's own pair set or cleared
+  pub view-insert : ((p : ℕ) → acc p ≡ true →
+      accepting P p ≡ (accepting A (δ p .0) || eqb (δ p .1) (subtreeNumber (subtrees t) t))) →
+      (C : Automaton) → Canonical (accepts P) C → C ≡ insertTree t A
+  unfolding insertTree
+  view-insert = view-minimal (λ k. accepting A (k .0) || eqb (k .1) (subtreeNumber (subtrees t) t)) own
+    where
+      own : eqb 0 (subtreeNumber (subtrees t) t) ≡ false
+      own = ne-eqb 0 (subtreeNumber (subtrees t) t)
+          (λ e. omega (arith, subtree-numbered (subtrees t) (subtrees-closed t) t (own-subtree t)))
+
+  pub view-delete : ((p : ℕ) → acc p ≡ true →
+      accepting P p ≡ (accepting A (δ p .0) && not (eqb (δ p .1) (subtreeNumber (subtrees t) t)))) →
+      (C : Automaton) → Canonical (accepts P) C → C ≡ deleteTree t A
+  unfolding deleteTree
+  view-delete = view-minimal (λ k. accepting A (k .0) && not (eqb (k .1) (subtreeNumber (subtrees t) t))) refl
