@@ -1,0 +1,161 @@
+-- Trees that bytes start with: the first of them and the others, a root and its children.
+use mathlib.Core.List.{List, _++_, _∷_, append-assoc, append-nil}
+use mathlib.Core.Path.{_∙_, _≡_, ap, refl, subst, sym}
+use Prim.Native.Nat.{_+_, _-_, _<_, _≤_, suc, ℕ}
+use native.Mathlib.Omega.{arith}
+use lib.ListN.{drop, getD, length, length-append, length-drop}
+use lib.Seq.{drop-at, take-all}
+use Rattle.format.specs.Format.{labelBytes, maxArity, maxNodes, nodeBytes}
+use Rattle.running.specs.Running.{Ahead}
+use Rattle.trees.specs.Legal.{AllLegal, Legal, LegalNode}
+use Rattle.trees.specs.Listing.{firstTree, firstTrees, listing, listings, readTree, readTrees}
+use Rattle.trees.specs.Tree.{Forest, Tree, _⧺_, cons, count, nil, node}
+use Rattle.automata.proofs.Unique.{children}
+use Rattle.listing.proofs.Reader.{part, part-length}
+use Rattle.trees.proofs.Listing.{read-trees}
+
+-- what the part &s[a..] holds
+part-drop : (s : List ℕ) (a : ℕ) → part s a ≡ drop a s
+part-drop s a = take-all (length s - a) (drop a s) (simp length-drop (omega arith))
+
+first-whole : (f g : Forest) → firstTrees (count f) (f ⧺ g) ≡ f
+first-whole nil g = refl
+first-whole (cons t f) g = ap (cons t) (first-whole f g)
+
+-- the trees ahead are those that are read
+pub ahead-first : {s : List ℕ} {k depth : ℕ} (v : Ahead s k depth) → firstTrees k (readTrees s) ≡ v .trees
+ahead-first {s} v = rw (v .bytes, read-trees (v .trees) (v .rest), ← v .many) (first-whole (v .trees) (readTrees (v .rest)))
+
+pub ahead-within : {s : List ℕ} {k depth : ℕ} → Ahead s k depth →
+    length (listings (firstTrees k (readTrees s))) ≤ length s
+ahead-within v =
+    rw (ahead-first v) (omega (arith, simp length-append at (ap length (v .bytes))))
+
+tree-some : (t : Tree) → nodeBytes ≤ length (listing t)
+tree-some (node a f) = omega arith
+
+-- the first tree, and i others
+pub record Split (s : List ℕ) (i : ℕ) : Type 0 where
+  pub tree : Tree
+  pub others : Forest
+  pub rest : List ℕ
+  pub many : count others ≡ i
+  pub legal : Legal tree
+  pub others-legal : AllLegal others
+  pub bytes : s ≡ listing tree ++ (listings others ++ rest)
+  pub reads : readTree s ≡ tree
+
+pub split : {s : List ℕ} {i depth : ℕ} → Ahead s (suc i) depth → Split s i
+split {s} {i} v = go (v .trees) (v .many) (v .legal) (v .bytes)
+  where
+    go : (f : Forest) → count f ≡ suc i → AllLegal f → s ≡ listings f ++ v .rest → Split s i
+    go nil n l e = absurd (omega arith)
+    go (cons t f) n l e = record {
+      tree = t;
+      others = f;
+      rest = v .rest;
+      many = omega arith;
+      legal = l .0;
+      others-legal = l .1;
+      bytes = e ∙ append-assoc (listing t) (listings f) (v .rest);
+      reads = ap readTree e ∙ ap firstTree (read-trees (cons t f) (v .rest));
+    }
+
+-- trees ahead, the first split off: j of them are one and i
+module _ {s : List ℕ} {j depth : ℕ} (v : Ahead s j depth) (i : ℕ) (e : j ≡ suc i) where
+  parts : Split s i
+  parts = split (subst (λ n. Ahead s n depth) e v)
+
+  pub first-ahead : Ahead s 1 depth
+  first-ahead = record {
+    trees = cons (parts .tree) nil;
+    rest = listings (parts .others) ++ parts .rest;
+    many = refl;
+    legal = (parts .legal, tt);
+    bytes = rw append-nil (parts .bytes);
+    room = v .room;
+  }
+
+  -- behind the first tree, whose bytes are m
+  module _ (m : ℕ) (d : m ≡ length (listing (readTree s))) where
+    behind : part s m ≡ listings (parts .others) ++ parts .rest
+    behind =
+        part-drop s m ∙ ap (drop m) (parts .bytes) ∙
+        drop-at (listing (parts .tree)) _ m (ap (λ t. length (listing t)) (sym (parts .reads)) ∙ sym d)
+
+    pub first-within : m ≤ length s
+    first-within =
+        omega (arith, d, ap (λ t. length (listing t)) (parts .reads), simp length-append at (ap length (parts .bytes)))
+
+    pub first-some : nodeBytes ≤ m
+    first-some = omega (arith, d, tree-some (readTree s))
+
+    pub others-ahead : Ahead (part s m) i depth
+    others-ahead = record {
+      trees = parts .others;
+      rest = parts .rest;
+      many = parts .many;
+      legal = parts .others-legal;
+      bytes = behind;
+      room = omega (arith, part-length s m, v .room);
+    }
+
+    pub first-others : firstTrees j (readTrees s) ≡ cons (readTree s) (firstTrees i (readTrees (part s m)))
+    first-others =
+        let whole = ap readTrees (parts .bytes) ∙ ap readTrees (sym (append-assoc (listing (parts .tree)) _ _))
+        ∙ read-trees (cons (parts .tree) (parts .others)) (parts .rest) in
+        rw (e, whole, behind, read-trees (parts .others) (parts .rest))
+
+-- a tree ahead: its root, and its children in the part behind that
+module _ {s : List ℕ} {depth : ℕ} (v : Ahead s 1 depth) where
+  pub record Root : Type 0 where
+    pub children : Forest
+    pub rest : List ℕ
+    pub label : LegalNode (getD s 0 0) (count children)
+    pub below : AllLegal children
+    pub bytes : s ≡ getD s 0 0 ∷ count children ∷ (listings children ++ rest)
+    pub reads : readTree s ≡ node (getD s 0 0) children
+
+  root : Root
+  root = go (split v) (split v .tree) (split v .legal) (split v .bytes) (split v .reads)
+    where
+      go : (w : Split s 0) (t : Tree) → Legal t → s ≡ listing t ++ (listings (w .others) ++ w .rest) → readTree s ≡ t →
+          Root
+      go w (node a f) l e r =
+          let d : getD s 0 0 ≡ a = ap (λ b. getD b 0 0) e in
+          record {
+            children = f;
+            rest = listings (w .others) ++ w .rest;
+            label = subst (λ b. LegalNode b (count f)) (sym d) (l .0);
+            below = l .1;
+            bytes = e ∙ ap (λ b. b ∷ count f ∷ (listings f ++ (listings (w .others) ++ w .rest))) (sym d);
+            reads = r ∙ ap (λ b. node b f) (sym d);
+          }
+
+  arity-count : getD s labelBytes 0 ≡ count (root .children)
+  arity-count = ap (λ b. getD b 1 0) (root .bytes)
+
+  pub root-size : nodeBytes ≤ length s
+  root-size = omega (arith, ap length (root .bytes))
+
+  pub root-arity : getD s labelBytes 0 ≤ maxArity
+  root-arity = omega (arith, arity-count, root .label .arity)
+
+  pub root-row : depth < maxNodes
+  root-row = omega (arith, root-size, v .room)
+
+  -- k is the number of children
+  module _ (k : ℕ) (e : k ≡ getD s labelBytes 0) where
+    pub children-ahead : Ahead (part s nodeBytes) k (depth + 1)
+    children-ahead = record {
+      trees = root .children;
+      rest = root .rest;
+      many = sym (e ∙ arity-count);
+      legal = root .below;
+      bytes = part-drop s nodeBytes ∙ ap (drop nodeBytes) (root .bytes);
+      room = omega (arith, part-length s nodeBytes, root-size, v .room);
+    }
+
+    pub root-reads : readTree s ≡ node (getD s 0 0) (firstTrees k (readTrees (part s nodeBytes)))
+    unfolding children-ahead
+    root-reads = root .reads ∙ ap (node (getD s 0 0)) (sym (ahead-first children-ahead))

@@ -1,0 +1,60 @@
+-- The answers of a run in both directions: a state, which is not 0, or none; a state for each child, or not.
+use mathlib.Core.Bool.{Bool, cond, false, true}
+use mathlib.Core.List.{List}
+use mathlib.Core.Path.{_≡_, refl}
+use Prim.Native.Nat.{ℕ}
+use native.Mathlib.Omega.{arith}
+use lib.Dec.{eqb}
+use borrow.Author.Tests.{eq-eqb, eqb-false, eqb-true, ne-eqb}
+use Rattle.lists.specs.Tests.{any}
+use Rattle.running.specs.Running.{filledBy, ranTo}
+use Rattle.running.specs.declared.Filled.the-variants.{Row, Short}
+use Rattle.running.specs.declared.Ran.the-variants.{Nothing, State}
+
+pub nothing-ran : (q m : ℕ) → q ≡ 0 → Nothing ≡ ranTo q m
+unfolding ranTo
+nothing-ran q m e = rw (eq-eqb q 0 e)
+
+pub state-ran : (q m : ℕ) → (q ≡ 0 → ⊥) → State q m ≡ ranTo q m
+unfolding ranTo
+state-ran q m h = rw (ne-eqb q 0 h)
+
+pub ran-nothing : (q m : ℕ) → ranTo q m ≡ Nothing → q ≡ 0
+unfolding ranTo
+ran-nothing q m e = go (eqb q 0) refl e
+  where
+    go : (b : Bool) → eqb q 0 ≡ b → cond b Nothing (State q m) ≡ Nothing → q ≡ 0
+    go true d e = eqb-true q 0 d
+    go false d e = let z : _≡_ {A = ℕ} 0 1 = cc in absurd (omega arith)
+
+pub ran-state : (q m p n : ℕ) → ranTo q m ≡ State p n → (p ≡ q) × (n ≡ m) × (q ≡ 0 → ⊥)
+unfolding ranTo
+ran-state q m p n e = go (eqb q 0) refl e
+  where
+    go : (b : Bool) → eqb q 0 ≡ b → cond b Nothing (State q m) ≡ State p n → (p ≡ q) × (n ≡ m) × (q ≡ 0 → ⊥)
+    go true d e = let z : _≡_ {A = ℕ} 0 1 = cc in absurd (omega arith)
+    go false d e = ((cc), (cc), eqb-false q 0 d)
+
+pub short-filled : (qs : List ℕ) (m : ℕ) → any (eqb 0) qs ≡ true → Short ≡ filledBy qs m
+unfolding filledBy
+short-filled qs m e = rw e
+
+pub row-filled : (qs : List ℕ) (m : ℕ) → any (eqb 0) qs ≡ false → Row m ≡ filledBy qs m
+unfolding filledBy
+row-filled qs m e = rw e
+
+pub filled-short : (qs : List ℕ) (m : ℕ) → filledBy qs m ≡ Short → any (eqb 0) qs ≡ true
+unfolding filledBy
+filled-short qs m e = go (any (eqb 0) qs) e
+  where
+    go : (b : Bool) → cond b Short (Row m) ≡ Short → b ≡ true
+    go true e = refl
+    go false e = let z : _≡_ {A = ℕ} 0 1 = cc in absurd (omega arith)
+
+pub filled-row : (qs : List ℕ) (m n : ℕ) → filledBy qs m ≡ Row n → (any (eqb 0) qs ≡ false) × (n ≡ m)
+unfolding filledBy
+filled-row qs m n e = go (any (eqb 0) qs) e
+  where
+    go : (b : Bool) → cond b Short (Row m) ≡ Row n → (b ≡ false) × (n ≡ m)
+    go true e = let z : _≡_ {A = ℕ} 0 1 = cc in absurd (omega arith)
+    go false e = (refl, (cc))

@@ -1,0 +1,5 @@
+pub mod Answers
+pub mod Ahead
+pub mod ChildRows
+pub mod Nodes
+pub mod Tables
