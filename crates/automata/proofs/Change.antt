@@ -43,7 +43,7 @@ module _ (t : Tree) where
           (λ d. true≢false (sym (eqTree-same t) ∙ ap (λ (x : Tree). eqTree x t)
           (position-inj eqTree eqTree-true eqTree-same (subtrees t) t u own-subtree (sym d)) ∙ e))
 
-  own-not-zero : eqb 0 (subtreeNumber (subtrees t) t) ≡ false
+  pub own-not-zero : eqb 0 (subtreeNumber (subtrees t) t) ≡ false
   own-not-zero =
       ne-eqb 0 (subtreeNumber (subtrees t) t)
       (λ e. omega (arith, position-pos eqTree eqTree-true eqTree-same (subtrees t) t own-subtree))

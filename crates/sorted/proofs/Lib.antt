@@ -1,0 +1,5 @@
+pub mod Compared
+pub mod Searched
+pub mod Moved
+pub mod Placed
+pub mod Inserted
