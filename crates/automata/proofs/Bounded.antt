@@ -76,11 +76,12 @@ module _ (A : Automaton) (ok : statesInRange A ≡ true) where
       (closure eqPair (leadsRule A) (grid (upFrom 1 (states A)) (upFrom 1 (states A)))) && feeds A y q)
       (upFrom 1 (states A)) x k (and-both d e)))
 
-  rank : ℕ → ℕ
+  -- the number of states that lead to q
+  pub rank : ℕ → ℕ
   rank q = length (filter (λ p. leads A p q) (upFrom 1 (states A)))
 
   module _ (ac : acyclic A ≡ true) where
-    rank-less : (l : Transition) → l ∈ A .transitions → (p : ℕ) → p ∈ l .args → rank p < rank (l .out)
+    pub rank-less : (l : Transition) → l ∈ A .transitions → (p : ℕ) → p ∈ l .args → rank p < rank (l .out)
     unfolding rank acyclic
     rank-less l i p j =
         go (filter-weaker (λ x. leads A x p) (λ x. leads A x (l .out)) (upFrom 1 (states A))

@@ -28,3 +28,5 @@ pub mod ProductView
 pub mod ProductViewCount
 pub mod Leads
 pub mod Useless
+pub mod NumberedPass
+pub mod Grounded

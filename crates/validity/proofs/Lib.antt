@@ -1,0 +1,7 @@
+pub mod Spreading
+pub mod Arguments
+pub mod Views
+pub mod Passing
+pub mod Sweeping
+pub mod Blocking
+pub mod Fixpoints

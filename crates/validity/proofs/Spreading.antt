@@ -1,0 +1,68 @@
+-- How a function shows `Spread`: nothing to do, one new mark, a loop of steps, another way to say the rule. And how
+-- marks that spread until nothing changes come to be exactly a set.
+use mathlib.Core.Bool.{Bool, _||_, false, false≢true, true}
+use mathlib.Core.List.{List}
+use mathlib.Core.Path.{_∙_, _≡_, refl, subst, sym}
+use Prim.Native.Nat.{_+_, _-_, _<_, suc, zero, ℕ}
+use native.Mathlib.Omega.{arith}
+use lib.ListN.{length, length-replicate, replicate, set}
+use Rattle.marking.specs.Marks.{marked, marks}
+use Rattle.validity.specs.Spread.{Covers, Rule, Spread, UpTo, markCount}
+use Rattle.automata.proofs.Subtrees.{Closed}
+use Rattle.lists.proofs.Closure.{closed}
+use Rattle.marking.proofs.Sweeps.{swept-closed, swept-less, swept-mark, swept-next, swept-none}
+
+-- nothing to do: the rule holds of the marks
+pub spread-none : {C : Rule} {m : List ℕ} → C (marked m) → Spread C m m false
+spread-none c = record { swept = swept-none c; sound = λ p h w. w }
+
+-- one new mark, which every closed set has that has the others
+pub spread-mark : {C : Rule} {m : List ℕ} (i : ℕ) → i < length m → marked m i ≡ false →
+    ((p : ℕ → Bool) → C p → Covers p m → p i ≡ true) → Spread C m (set m i 1) true
+spread-mark {C} {m} i h e f = record {
+  swept = swept-mark i h e (λ w. tt);
+  sound = λ p c w. swept-mark {P = λ q. p q ≡ true} {Closed = λ k. C (marked k)} {m = m} i h e (λ v. f p c v) .sound w;
+}
+
+-- another rule, which says the same of these marks
+pub spread-if : {C D : Rule} {m m' : List ℕ} {r : Bool} → ((p : ℕ → Bool) → Covers p m → D p → C p) →
+    (C (marked m) → D (marked m)) → Spread C m m' r → Spread D m m' r
+spread-if f g s = record { swept = swept-closed g (s .swept); sound = λ p d w. s .sound p (f p w d) w }
+
+-- a loop of steps: it begins, and goes on by one
+pub spread-begin : (C : ℕ → Rule) {m : List ℕ} → Spread (UpTo C 0) m m false
+spread-begin C = spread-none (λ i h. absurd (omega arith))
+
+pub spread-next : (C : ℕ → Rule) (i : ℕ) {m m' m'' : List ℕ} {x y : Bool} → Spread (UpTo C i) m m' x →
+    Spread (C i) m' m'' y → Spread (UpTo C (i + 1)) m m'' (x || y)
+spread-next C i s t = record {
+  swept = swept-next (λ j k. C j (marked k)) i (s .swept) (t .swept);
+  sound = λ p h w. t .sound p (h i (omega arith)) (s .sound p (λ j l. h j (omega arith)) w);
+}
+
+-- marks that a closed set covers, and that grow until nothing changes
+pub record Growing (p : ℕ → Bool) (m : List ℕ) : Type 0 where
+  pub size : length m ≡ markCount
+  pub within : Covers p m
+
+pub unmarked : (k i : ℕ) → marked (replicate k 0) i ≡ false
+unmarked zero i = refl
+unmarked (suc k) zero = refl
+unmarked (suc k) (suc i) = unmarked k i
+
+pub growing-none : {p : ℕ → Bool} → Growing p (replicate markCount 0)
+growing-none = record {
+  size = length-replicate {A = ℕ} markCount 0;
+  within = λ i e. absurd (false≢true (sym (unmarked markCount i) ∙ e));
+}
+
+module _ {C : Rule} {m m' : List ℕ} {r : Bool} where
+  pub growing-more : {p : ℕ → Bool} → C p → Growing p m → Spread C m m' r → Growing p m'
+  growing-more {p = p} c g s = record { size = s .swept .size ∙ g .size; within = s .sound p c (g .within) }
+
+  pub growing-less : Spread C m m' r → r ≡ true → length m' - marks m' < length m - marks m
+  growing-less s e = swept-less (s .swept) e
+
+  -- at the end the rule holds of the marks
+  pub growing-closed : Spread C m m' r → r ≡ false → C (marked m')
+  growing-closed s e = subst (λ (k : List ℕ). C (marked k)) (sym (s .swept .still e)) (s .swept .closed e)

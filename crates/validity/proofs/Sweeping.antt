@@ -1,0 +1,58 @@
+-- What the sweeps do with one transition or one entry.
+use mathlib.Core.Bool.{Bool, false, true}
+use mathlib.Core.List.{List}
+use mathlib.Core.Path.{_∙_, _≡_, ap, refl, sym}
+use Prim.Native.Nat.{_+_, _<_, _≤_, ℕ}
+use native.Mathlib.Omega.{arith}
+use lib.Dec.{eqb, ltb}
+use lib.ListN.{List·getD-eq-default, length, set}
+use lib.Seq.{getD-set-other, getD-set-same}
+use borrow.Author.Tests.{eqb-false, eqb-true, ltb-false, ltb-true}
+use Rattle.lists.specs.Tests.{every}
+use Rattle.marking.specs.Marks.{bit, marked, nonzero}
+use Rattle.table.specs.Layout.{argOf, outOf, transitionAt}
+use Rattle.validity.specs.Rules.{DownTo, Has, Up}
+use Rattle.validity.specs.Spread.{Exactly, Spread, markCount}
+use Rattle.lists.proofs.Tests.{every-in, in-every}
+use Rattle.validity.proofs.Spreading.{spread-if, spread-mark}
+
+-- an implied test
+pub every-implied : {A : Type 0} (p q : A → Bool) (xs : List A) → ((x : A) → p x ≡ true → q x ≡ true) →
+    every p xs ≡ true → every q xs ≡ true
+every-implied p q xs f e = in-every q xs (λ x i. f x (every-in p xs e x i))
+
+-- marks that cover the output's arguments give the output
+pub spread-up : (s : List ℕ) (at : ℕ) (m : List ℕ) → length m ≡ markCount → outOf s at < markCount →
+    marked m (outOf s at) ≡ false → every (marked m) (transitionAt s at .args) ≡ true →
+    Spread (Up s at) m (set m (outOf s at) 1) true
+spread-up s at m size h e f =
+    spread-mark (outOf s at) (omega arith) e (λ p up w. up (every-implied (marked m) p (transitionAt s at .args) w f))
+
+-- an argument is marked where the output is
+pub spread-down : (s : List ℕ) (at k : ℕ) {m m' : List ℕ} {r : Bool} → marked m (outOf s at) ≡ true →
+    Spread (Has (argOf s at k)) m m' r → Spread (DownTo s at k) m m' r
+spread-down s at k e t = spread-if (λ p w d. d (w (outOf s at) e)) (λ h _. h) t
+
+-- entries up to q are as a test says
+pub filled-next : (f : ℕ → Bool) (m : List ℕ) (q v : ℕ) → q < length m → v ≡ bit (f q) →
+    ((j : ℕ) → j < q → marked m j ≡ f j) → (j : ℕ) → j < q + 1 → marked (set m q v) j ≡ f j
+filled-next f m q v h e below j l = go (eqb j q) refl
+  where
+    value : (b : Bool) → nonzero (bit b) ≡ b
+    value true = refl
+    value false = refl
+
+    go : (b : Bool) → eqb j q ≡ b → marked (set m q v) j ≡ f j
+    go true d =
+        rw (eqb-true j q d) (ap nonzero (getD-set-same m q v 0 h ∙ e) ∙ value (f q))
+    go false d = let ne = eqb-false j q d in
+        ap nonzero (getD-set-other m q j v 0 ne) ∙ below j (omega arith)
+
+pub filled-all : {f : ℕ → Bool} {m : List ℕ} → length m ≡ markCount → ((j : ℕ) → j < markCount → marked m j ≡ f j) →
+    ((j : ℕ) → markCount ≤ j → f j ≡ false) → Exactly f m
+filled-all {f} {m} size below beyond = record { size = size; each = λ j. go j (ltb j markCount) refl }
+  where
+    go : (j : ℕ) (b : Bool) → ltb j markCount ≡ b → marked m j ≡ f j
+    go j true d = below j (ltb-true j markCount d)
+    go j false d = let l = ltb-false j markCount d in
+        ap nonzero (List·getD-eq-default m 0 (omega arith)) ∙ sym (beyond j l)

@@ -1,0 +1,35 @@
+-- Marks that spread by a rule. A rule is a fact about a set of states, "what passes is closed under this step", so
+-- that one text says what a sweep keeps and what it has reached when it marks nothing new.
+use mathlib.Core.Bool.{Bool, true}
+use mathlib.Core.List.{List}
+use mathlib.Core.Path.{_≡_}
+use Prim.Native.Nat.{_<_, ℕ}
+use lib.ListN.{length}
+use Rattle.marking.specs.Marks.{Swept, Within, marked}
+
+-- an entry for each value of a byte
+abbrev pub markCount : ℕ
+markCount = 256
+
+-- a set is closed under a step
+abbrev pub Rule : Type 1
+Rule = (ℕ → Bool) → Type 0
+
+-- the set has every mark
+abbrev pub Covers : (ℕ → Bool) → List ℕ → Type 0
+Covers p m = Within (λ q. p q ≡ true) m
+
+-- the marks are the set
+pub record Exactly (p : ℕ → Bool) (m : List ℕ) : Type 0 where
+  pub size : length m ≡ markCount
+  pub each : (q : ℕ) → marked m q ≡ p q
+
+-- marks were added, r says whether any: each set that is closed and had the old marks has the new ones, and where
+-- none was added the marks are closed
+pub record Spread (C : Rule) (m m' : List ℕ) (r : Bool) : Type 0 where
+  pub swept : Swept (Within (λ q. Unit {0})) (λ k. C (marked k)) m m' r
+  pub sound : (p : ℕ → Bool) → C p → Covers p m → Covers p m'
+
+-- closed under the steps 0 to n - 1
+abbrev pub UpTo : (ℕ → Rule) → ℕ → Rule
+UpTo C n p = (i : ℕ) → i < n → C i p

@@ -1,0 +1,97 @@
+// Condition 11: a state is grounded where every transition into it has only grounded arguments. No state comes back
+// to itself exactly where all are grounded in the end.
+ghost use mathlib.Core.List.{List};
+ghost use mathlib.Core.Path.{_≡_};
+ghost use Prim.Native.Nat.{_*_, _+_, _<_, _≤_, ℕ};
+ghost use lib.ListN.{length};
+ghost use Rattle.automata.specs.Acyclic.{acyclic};
+ghost use Rattle.format.specs.Format.{transitionBytes};
+ghost use Rattle.fields.specs.Fields.{Readable, Runs, RunsOver};
+ghost use Rattle.fields.specs.View.{viewed};
+ghost use Rattle.validity.specs.Rules.{Blocks, Ground, Unblocked};
+ghost use Rattle.validity.specs.Spread.{Spread, UpTo, markCount};
+use crate::marks::MARK_COUNT;
+use crate::marks::all_marked;
+use crate::marks::args_marked;
+use crate::transitions::out_of;
+use format::TRANSITION_BYTES;
+
+// Transition i blocks its output where some argument is not marked.
+fn block(run: &[u8], i: usize, marks: &[u8; MARK_COUNT], blocked: &mut [u8; MARK_COUNT])
+    requires { ⌜ Readable (now run) (transitionBytes * i) ⌝ }
+    requires { ⌜ Blocks (now run) (now marks) i (now blocked) ⌝ }
+    ensures { λ _. ⌜ Blocks (now (run .entry)) (now (marks .entry)) (i + 1) (now (blocked .exit)) ⌝ }
+{
+    let at = TRANSITION_BYTES * i;
+    if args_marked(run, at, marks) {
+        return;
+    }
+    let out = out_of(run, at);
+    blocked[out] = 1;
+}
+
+fn block_all(run: &[u8], count: usize, marks: &[u8; MARK_COUNT], blocked: &mut [u8; MARK_COUNT])
+    requires { ⌜ Runs (now run) count ⌝ }
+    requires { ⌜ Blocks (now run) (now marks) 0 (now blocked) ⌝ }
+    ensures { λ _. ⌜ Blocks (now (run .entry)) (now (marks .entry)) count (now (blocked .exit)) ⌝ }
+{
+    let mut i = 0;
+    while i < count {
+        block(run, i, marks, blocked);
+        i += 1;
+    }
+}
+
+// Marks state k + 1 where it is not blocked. Answers whether the mark is new.
+fn ground(blocked: &[u8; MARK_COUNT], k: usize, marks: &mut [u8; MARK_COUNT]) -> bool
+    requires { ⌜ k + 1 < markCount ⌝ }
+    requires { ⌜ length (now marks) ≡ markCount ⌝ }
+    ensures { λ r. ⌜ Spread (Unblocked (now (blocked .entry)) k) (now (marks .entry)) (now (marks .exit)) r ⌝ }
+{
+    let q = k + 1;
+    if blocked[q] != 0 {
+        return false;
+    }
+    if marks[q] != 0 {
+        return false;
+    }
+    marks[q] = 1;
+    true
+}
+
+fn ground_unblocked(blocked: &[u8; MARK_COUNT], n: usize, marks: &mut [u8; MARK_COUNT]) -> bool
+    requires { ⌜ n < markCount ⌝ }
+    requires { ⌜ length (now marks) ≡ markCount ⌝ }
+    ensures { λ r. ⌜ Spread (UpTo (Unblocked (now (blocked .entry))) n) (now (marks .entry)) (now (marks .exit)) r ⌝ }
+{
+    let mut changed = false;
+    let mut k = 0;
+    while k < n {
+        let r = ground(blocked, k, marks);
+        changed = changed | r;
+        k += 1;
+    }
+    changed
+}
+
+fn ground_all(run: &[u8], count: usize, n: usize, marks: &mut [u8; MARK_COUNT]) -> bool
+    requires { ⌜ Runs (now run) count ⌝ }
+    requires { ⌜ n < markCount ⌝ }
+    requires { ⌜ length (now marks) ≡ markCount ⌝ }
+    ensures { λ r. ⌜ Spread (UpTo (Ground (now (run .entry)) count) n) (now (marks .entry)) (now (marks .exit)) r ⌝ }
+{
+    let mut blocked = [0u8; MARK_COUNT];
+    block_all(run, count, marks, &mut blocked);
+    ground_unblocked(&blocked, n, marks)
+}
+
+// Condition 11: no state comes back to itself going from arguments to outputs.
+pub fn acyclic(run: &[u8], count: usize, n: usize) -> bool
+    requires { ⌜ RunsOver (now run) count n ⌝ }
+    requires { ⌜ n ≤ 255 ⌝ }
+    ensures { λ r. ⌜ ((cl : List ℕ) → r ≡ acyclic (viewed cl (now (run .entry)) n count)) ⌝ }
+{
+    let mut marks = [0u8; MARK_COUNT];
+    while ground_all(run, count, n, &mut marks) {}
+    all_marked(&marks, 1, n + 1)
+}

@@ -1,0 +1,61 @@
+// Marks of states: an entry for each value of a byte, so that every state field is an index.
+ghost use mathlib.Core.Path.{_≡_};
+ghost use Prim.Native.Nat.{_-_, _<_, _≤_};
+ghost use lib.ListN.{length};
+ghost use Rattle.lists.specs.Positions.{upFrom};
+ghost use Rattle.lists.specs.Tests.{every};
+ghost use Rattle.marking.specs.Marks.{marked};
+ghost use Rattle.table.specs.Layout.{transitionAt};
+ghost use Rattle.fields.specs.Fields.{Readable};
+ghost use Rattle.validity.specs.Rules.{Has};
+ghost use Rattle.validity.specs.Spread.{Spread, markCount};
+use crate::transitions::arg_of;
+use crate::transitions::arity_of;
+
+pub const MARK_COUNT: usize = 256;
+
+// Whether the states from one up to, not including, another are all marked.
+pub fn all_marked(marks: &[u8; MARK_COUNT], from: usize, end: usize) -> bool
+    requires { ⌜ from ≤ end ⌝ }
+    requires { ⌜ end ≤ markCount ⌝ }
+    ensures { λ r. ⌜ r ≡ every (marked (now (marks .entry))) (upFrom from (end - from)) ⌝ }
+{
+    let mut q = from;
+    while q < end {
+        if marks[q] == 0 {
+            return false;
+        }
+        q += 1;
+    }
+    true
+}
+
+// Whether the arguments of the transition that starts at a byte are all marked.
+pub fn args_marked(run: &[u8], at: usize, marks: &[u8; MARK_COUNT]) -> bool
+    requires { ⌜ Readable (now run) at ⌝ }
+    ensures { λ r. ⌜ r ≡ every (marked (now (marks .entry))) (transitionAt (now (run .entry)) at .args) ⌝ }
+{
+    let arity = arity_of(run, at);
+    let mut k = 0;
+    while k < arity {
+        let q = arg_of(run, at, k);
+        if marks[q] == 0 {
+            return false;
+        }
+        k += 1;
+    }
+    true
+}
+
+// Marks a state. Answers whether the mark is new.
+pub fn mark(marks: &mut [u8; MARK_COUNT], q: usize) -> bool
+    requires { ⌜ length (now marks) ≡ markCount ⌝ }
+    requires { ⌜ q < markCount ⌝ }
+    ensures { λ r. ⌜ Spread (Has q) (now (marks .entry)) (now (marks .exit)) r ⌝ }
+{
+    if marks[q] != 0 {
+        return false;
+    }
+    marks[q] = 1;
+    true
+}

@@ -1,0 +1,84 @@
+// Condition 13 in one pass: a transition whose output is above its arguments gives the output its number, and every
+// state strictly between has one already.
+ghost use mathlib.Core.Path.{_≡_};
+ghost use mathlib.Core.List.{List};
+ghost use Prim.Native.Nat.{_*_, _≤_, max, ℕ};
+ghost use lib.ListN.{length};
+ghost use Rattle.automata.specs.Numbered.{numbered};
+ghost use Rattle.automata.proofs.NumberedPass.{Passed, top};
+ghost use Rattle.format.specs.Format.{transitionBytes};
+ghost use Rattle.marking.specs.Marks.{marked};
+ghost use Rattle.table.specs.Layout.{transitionAt, transitionsIn};
+ghost use Rattle.fields.specs.Fields.{Readable, RunsOver};
+ghost use Rattle.fields.specs.View.{viewed};
+ghost use Rattle.validity.specs.Rules.{Read};
+ghost use Rattle.validity.specs.Spread.{markCount};
+use crate::marks::MARK_COUNT;
+use crate::marks::all_marked;
+use crate::transitions::arg_of;
+use crate::transitions::arity_of;
+use crate::transitions::out_of;
+use format::TRANSITION_BYTES;
+
+fn greater(x: usize, y: usize) -> usize
+    ensures { λ r. ⌜ r ≡ max x y ⌝ }
+{
+    if x < y {
+        return y;
+    }
+    x
+}
+
+// The greatest argument; 0 for a leaf.
+fn top_argument(run: &[u8], at: usize) -> usize
+    requires { ⌜ Readable (now run) at ⌝ }
+    ensures { λ r. ⌜ r ≡ top (transitionAt (now (run .entry)) at .args) ⌝ }
+{
+    let arity = arity_of(run, at);
+    let mut t = 0;
+    let mut k = 0;
+    while k < arity {
+        let q = arg_of(run, at, k);
+        t = greater(t, q);
+        k += 1;
+    }
+    t
+}
+
+// Reads transition i: whether every state strictly between its arguments and its output has been seen. Then the
+// output is seen.
+fn read(run: &[u8], i: usize, seen: &mut [u8; MARK_COUNT]) -> bool
+    requires { ⌜ Readable (now run) (transitionBytes * i) ⌝ }
+    requires { ⌜ length (now seen) ≡ markCount ⌝ }
+    requires { ⌜ Passed (transitionsIn (now run) i) (marked (now seen)) ⌝ }
+    ensures { λ r. ⌜ Read (now (run .entry)) i (now (seen .exit)) r ⌝ }
+{
+    let at = TRANSITION_BYTES * i;
+    let t = top_argument(run, at);
+    let out = out_of(run, at);
+    if out <= t {
+        return true;
+    }
+    if !all_marked(seen, t + 1, out) {
+        return false;
+    }
+    seen[out] = 1;
+    true
+}
+
+// Condition 13: the states are numbered by the rule.
+pub fn numbered(run: &[u8], count: usize, n: usize) -> bool
+    requires { ⌜ RunsOver (now run) count n ⌝ }
+    requires { ⌜ n ≤ 255 ⌝ }
+    ensures { λ r. ⌜ ((cl : List ℕ) → r ≡ numbered (viewed cl (now (run .entry)) n count)) ⌝ }
+{
+    let mut seen = [0u8; MARK_COUNT];
+    let mut i = 0;
+    while i < count {
+        if !read(run, i, &mut seen) {
+            return false;
+        }
+        i += 1;
+    }
+    all_marked(&seen, 1, n + 1)
+}

@@ -1,0 +1,58 @@
+// Condition 9: states are marked from arguments to outputs until nothing changes.
+ghost use mathlib.Core.Path.{_≡_};
+ghost use mathlib.Core.List.{List};
+ghost use Prim.Native.Nat.{_≤_, ℕ};
+ghost use lib.ListN.{length};
+ghost use Rattle.automata.specs.Accessible.{allAccessible};
+ghost use Rattle.fields.specs.Fields.{Readable, Runs, RunsOver};
+ghost use Rattle.fields.specs.View.{viewed};
+ghost use Rattle.validity.specs.Rules.{Up, nthUp};
+ghost use Rattle.validity.specs.Spread.{Spread, UpTo, markCount};
+use crate::marks::MARK_COUNT;
+use crate::marks::all_marked;
+use crate::marks::args_marked;
+use crate::transitions::out_of;
+use format::TRANSITION_BYTES;
+
+// One transition: marks its output where its arguments are all marked. Answers whether the mark is new.
+fn reach(run: &[u8], at: usize, marks: &mut [u8; MARK_COUNT]) -> bool
+    requires { ⌜ Readable (now run) at ⌝ }
+    requires { ⌜ length (now marks) ≡ markCount ⌝ }
+    ensures { λ r. ⌜ Spread (Up (now (run .entry)) at) (now (marks .entry)) (now (marks .exit)) r ⌝ }
+{
+    let out = out_of(run, at);
+    if marks[out] != 0 {
+        return false;
+    }
+    if !args_marked(run, at, marks) {
+        return false;
+    }
+    marks[out] = 1;
+    true
+}
+
+fn reach_all(run: &[u8], count: usize, marks: &mut [u8; MARK_COUNT]) -> bool
+    requires { ⌜ Runs (now run) count ⌝ }
+    requires { ⌜ length (now marks) ≡ markCount ⌝ }
+    ensures { λ r. ⌜ Spread (UpTo (nthUp (now (run .entry))) count) (now (marks .entry)) (now (marks .exit)) r ⌝ }
+{
+    let mut changed = false;
+    let mut i = 0;
+    while i < count {
+        let r = reach(run, TRANSITION_BYTES * i, marks);
+        changed = changed | r;
+        i += 1;
+    }
+    changed
+}
+
+// Condition 9: some tree runs to each state.
+pub fn all_accessible(run: &[u8], count: usize, n: usize) -> bool
+    requires { ⌜ RunsOver (now run) count n ⌝ }
+    requires { ⌜ n ≤ 255 ⌝ }
+    ensures { λ r. ⌜ ((cl : List ℕ) → r ≡ allAccessible (viewed cl (now (run .entry)) n count)) ⌝ }
+{
+    let mut marks = [0u8; MARK_COUNT];
+    while reach_all(run, count, &mut marks) {}
+    all_marked(&marks, 1, n + 1)
+}

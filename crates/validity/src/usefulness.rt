@@ -1,0 +1,119 @@
+// Condition 10: states are marked from outputs to arguments, from the accepting ones on, until nothing changes.
+ghost use mathlib.Core.Bool.{true};
+ghost use mathlib.Core.List.{[]};
+ghost use mathlib.Core.Path.{_≡_};
+ghost use Prim.Native.Nat.{_<_};
+ghost use lib.ListN.{length};
+ghost use Rattle.automata.specs.Automaton.{accepting};
+ghost use Rattle.automata.specs.Coaccessible.{allCoaccessible, coaccessible};
+ghost use Rattle.fields.specs.Fields.{Readable, Runs};
+ghost use Rattle.fields.specs.View.{Viewed, viewed};
+ghost use Rattle.marking.specs.Marks.{bit, marked};
+ghost use Rattle.table.specs.Layout.{outOf};
+ghost use Rattle.validity.specs.Rules.{Down, nthDown};
+ghost use Rattle.validity.specs.Spread.{Exactly, Spread, UpTo, markCount};
+use crate::marks::MARK_COUNT;
+use crate::marks::all_marked;
+use crate::marks::mark;
+use crate::transitions::arg_of;
+use crate::transitions::arity_of;
+use crate::transitions::out_of;
+use format::TRANSITION_BYTES;
+
+// Marks the arguments of a transition whose output is marked. Answers whether a mark is new.
+fn use_args(run: &[u8], at: usize, marks: &mut [u8; MARK_COUNT]) -> bool
+    requires { ⌜ Readable (now run) at ⌝ }
+    requires { ⌜ length (now marks) ≡ markCount ⌝ }
+    requires { ⌜ marked (now marks) (outOf (now run) at) ≡ true ⌝ }
+    ensures { λ r. ⌜ Spread (Down (now (run .entry)) at) (now (marks .entry)) (now (marks .exit)) r ⌝ }
+{
+    let arity = arity_of(run, at);
+    let mut changed = false;
+    let mut k = 0;
+    while k < arity {
+        let q = arg_of(run, at, k);
+        let r = mark(marks, q);
+        changed = changed | r;
+        k += 1;
+    }
+    changed
+}
+
+// One transition: marks its arguments where its output is marked.
+fn use_transition(run: &[u8], at: usize, marks: &mut [u8; MARK_COUNT]) -> bool
+    requires { ⌜ Readable (now run) at ⌝ }
+    requires { ⌜ length (now marks) ≡ markCount ⌝ }
+    ensures { λ r. ⌜ Spread (Down (now (run .entry)) at) (now (marks .entry)) (now (marks .exit)) r ⌝ }
+{
+    let out = out_of(run, at);
+    if marks[out] == 0 {
+        return false;
+    }
+    use_args(run, at, marks)
+}
+
+fn use_all(run: &[u8], count: usize, marks: &mut [u8; MARK_COUNT]) -> bool
+    requires { ⌜ Runs (now run) count ⌝ }
+    requires { ⌜ length (now marks) ≡ markCount ⌝ }
+    ensures { λ r. ⌜ Spread (UpTo (nthDown (now (run .entry))) count) (now (marks .entry)) (now (marks .exit)) r ⌝ }
+{
+    let mut changed = false;
+    let mut i = 0;
+    while i < count {
+        let r = use_transition(run, TRANSITION_BYTES * i, marks);
+        changed = changed | r;
+        i += 1;
+    }
+    changed
+}
+
+// 1 where q is an accepting state of 1 to n, else 0.
+fn class_mark(classes: &[u8], n: usize, q: usize) -> u8
+    requires { ⌜ n < length (now classes) ⌝ }
+    ensures { λ r. ⌜ r ≡ bit (accepting (viewed (now (classes .entry)) [] n 0) q) ⌝ }
+{
+    if q == 0 {
+        return 0;
+    }
+    if q > n {
+        return 0;
+    }
+    if classes[q] == 1 {
+        return 1;
+    }
+    0
+}
+
+// Marks the accepting states and no others, whatever was marked before.
+fn mark_accepting(classes: &[u8], n: usize, marks: &mut [u8; MARK_COUNT])
+    requires { ⌜ n < length (now classes) ⌝ }
+    requires { ⌜ n < markCount ⌝ }
+    requires { ⌜ length (now marks) ≡ markCount ⌝ }
+    ensures { λ _. ⌜ Exactly (accepting (viewed (now (classes .entry)) [] n 0)) (now (marks .exit)) ⌝ }
+{
+    let mut q = 0;
+    while q < MARK_COUNT {
+        marks[q] = class_mark(classes, n, q);
+        q += 1;
+    }
+}
+
+// Marks the states that some subtree of an accepted tree runs to and no others, whatever was marked before.
+pub fn useful(classes: &[u8], run: &[u8], count: usize, n: usize, marks: &mut [u8; MARK_COUNT])
+    requires { ⌜ Viewed (now classes) (now run) n count ⌝ }
+    requires { ⌜ length (now marks) ≡ markCount ⌝ }
+    ensures { λ _. ⌜ Exactly (coaccessible (viewed (now (classes .entry)) (now (run .entry)) n count)) (now (marks .exit)) ⌝ }
+{
+    mark_accepting(classes, n, marks);
+    while use_all(run, count, marks) {}
+}
+
+// Condition 10: some subtree of an accepted tree runs to each state.
+pub fn all_coaccessible(classes: &[u8], run: &[u8], count: usize, n: usize) -> bool
+    requires { ⌜ Viewed (now classes) (now run) n count ⌝ }
+    ensures { λ r. ⌜ r ≡ allCoaccessible (viewed (now (classes .entry)) (now (run .entry)) n count) ⌝ }
+{
+    let mut marks = [0u8; MARK_COUNT];
+    useful(classes, run, count, n, &mut marks);
+    all_marked(&marks, 1, n + 1)
+}
