@@ -3,3 +3,4 @@ pub mod Searched
 pub mod Moved
 pub mod Placed
 pub mod Inserted
+pub mod States
