@@ -15,7 +15,7 @@ use Rattle.listing.proofs.Reader.{part, part-length}
 use Rattle.trees.proofs.Listing.{read-trees}
 
 -- what the part &s[a..] holds
-part-drop : (s : List ℕ) (a : ℕ) → part s a ≡ drop a s
+pub part-drop : (s : List ℕ) (a : ℕ) → part s a ≡ drop a s
 part-drop s a = take-all (length s - a) (drop a s) (simp length-drop (omega arith))
 
 first-whole : (f g : Forest) → firstTrees (count f) (f ⧺ g) ≡ f
@@ -24,7 +24,8 @@ first-whole (cons t f) g = ap (cons t) (first-whole f g)
 
 -- the trees ahead are those that are read
 pub ahead-first : {s : List ℕ} {k depth : ℕ} (v : Ahead s k depth) → firstTrees k (readTrees s) ≡ v .trees
-ahead-first {s} v = rw (v .bytes, read-trees (v .trees) (v .rest), ← v .many) (first-whole (v .trees) (readTrees (v .rest)))
+ahead-first v =
+    rw (v .bytes, read-trees (v .trees) (v .rest), ← v .many) (first-whole (v .trees) (readTrees (v .rest)))
 
 pub ahead-within : {s : List ℕ} {k depth : ℕ} → Ahead s k depth →
     length (listings (firstTrees k (readTrees s))) ≤ length s
@@ -85,7 +86,8 @@ module _ {s : List ℕ} {j depth : ℕ} (v : Ahead s j depth) (i : ℕ) (e : j �
 
     pub first-within : m ≤ length s
     first-within =
-        omega (arith, d, ap (λ t. length (listing t)) (parts .reads), simp length-append at (ap length (parts .bytes)))
+        let l = ap (λ t. length (listing t)) (parts .reads) in
+        omega (arith, d, simp length-append at (ap length (parts .bytes)))
 
     pub first-some : nodeBytes ≤ m
     first-some = omega (arith, d, tree-some (readTree s))
@@ -119,8 +121,8 @@ module _ {s : List ℕ} {depth : ℕ} (v : Ahead s 1 depth) where
   root : Root
   root = go (split v) (split v .tree) (split v .legal) (split v .bytes) (split v .reads)
     where
-      go : (w : Split s 0) (t : Tree) → Legal t → s ≡ listing t ++ (listings (w .others) ++ w .rest) → readTree s ≡ t →
-          Root
+      go : (w : Split s 0) (t : Tree) → Legal t → s ≡ listing t ++ (listings (w .others) ++ w .rest) →
+          readTree s ≡ t → Root
       go w (node a f) l e r =
           let d : getD s 0 0 ≡ a = ap (λ b. getD b 0 0) e in
           record {

@@ -1,15 +1,23 @@
 -- The answers of a run in both directions: a state, which is not 0, or none; a state for each child, or not.
 use mathlib.Core.Bool.{Bool, cond, false, true}
 use mathlib.Core.List.{List}
-use mathlib.Core.Path.{_≡_, refl}
+use mathlib.Core.Path.{_≡_, refl, sym}
 use Prim.Native.Nat.{ℕ}
 use native.Mathlib.Omega.{arith}
 use lib.Dec.{eqb}
 use borrow.Author.Tests.{eq-eqb, eqb-false, eqb-true, ne-eqb}
 use Rattle.lists.specs.Tests.{any}
-use Rattle.running.specs.Running.{filledBy, ranTo}
+use Rattle.running.specs.Running.{filledBy, ranState, ranTo}
 use Rattle.running.specs.declared.Filled.the-variants.{Row, Short}
 use Rattle.running.specs.declared.Ran.the-variants.{Nothing, State}
+
+pub ran-to : (q m : ℕ) → ranState (ranTo q m) ≡ q
+unfolding ranTo
+ran-to q m = go (eqb q 0) refl
+  where
+    go : (b : Bool) → eqb q 0 ≡ b → ranState (cond b Nothing (State q m)) ≡ q
+    go true d = sym (eqb-true q 0 d)
+    go false d = refl
 
 pub nothing-ran : (q m : ℕ) → q ≡ 0 → Nothing ≡ ranTo q m
 unfolding ranTo

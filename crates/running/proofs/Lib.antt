@@ -3,3 +3,4 @@ pub mod Ahead
 pub mod ChildRows
 pub mod Nodes
 pub mod Tables
+pub mod Parts

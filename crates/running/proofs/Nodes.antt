@@ -2,6 +2,7 @@
 use mathlib.Core.Bool.{Bool, _||_, cond, false, false≢true, true}
 use mathlib.Core.List.{List, [], _∷_}
 use mathlib.Core.Logic.{inl, inr}
+use mathlib.Core.Option.{some}
 use mathlib.Core.Path.{_∙_, _≡_, ap, refl, sym}
 use Prim.Native.Nat.{_+_, _≤_, suc, ℕ}
 use native.Mathlib.Omega.{arith}
@@ -44,7 +45,9 @@ found-some {s} {n} v a qs = lookup-some (transitionsIn s n) a qs out
 
 -- ---- a tree
 
-module _ (τs : List ℕ) (n : ℕ) {s : List ℕ} {depth : ℕ} (v : Ahead s 1 depth) (k : ℕ) (e : k ≡ getD s labelBytes 0) where
+-- k is the number of children
+module _ (τs : List ℕ) (n : ℕ) {s : List ℕ} {depth : ℕ} (v : Ahead s 1 depth) (k : ℕ)
+    (e : k ≡ getD s labelBytes 0) where
   -- the states of its children, and their bytes
   abbrev below : List ℕ
   below = childStates τs n (part s nodeBytes) k

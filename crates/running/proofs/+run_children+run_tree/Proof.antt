@@ -1,14 +1,20 @@
-use Rattle.format.specs.Format.{maxNodes}
+-- A tree is run by its root, then its children one after another. What is left of the bytes falls: twice their
+-- number, and one more for the children.
+use Rattle.running.specs.declared.Ran.the-variants.{Nothing, State}
+use Rattle.running.specs.declared.Filled.the-variants.{Row, Short}
+use Rattle.format.specs.Format.{maxNodes, nodeBytes, labelBytes}
 use Rattle.fields.specs.Fields.{foundState, isFound}
 use native.Mathlib.Omega.{arith}
 use mathlib.Core.Path.{_≡_, _∙_, ap, sym}
-use Rattle.running.proofs.Ahead.{ahead-within, children-ahead, first-ahead, first-some, first-within, others-ahead, root-arity, root-row, root-size}
+use Rattle.running.proofs.Ahead.{ahead-within, children-ahead, first-ahead, first-some, first-within}
+use Rattle.running.proofs.Ahead.{others-ahead, root-arity, root-row, root-size}
 use Rattle.running.proofs.Answers.{filled-row}
 use Rattle.running.proofs.ChildRows.{noted-lost, noted-next, noted-none, rows-put}
-use Rattle.running.proofs.Nodes.{child-bytes, child-lost, child-states, children-lost, children-none, children-row, children-short, states-none, tree-lost, tree-short, tree-state}
-use Rattle.running.specs.Running.{childStates}
-use Rattle.listing.proofs.Reader.{part-length}
-use lib.ListN.{length}
+use Rattle.running.proofs.Nodes.{child-bytes, child-lost, child-states, children-lost, children-none}
+use Rattle.running.proofs.Nodes.{children-row, children-short, states-none, tree-lost, tree-short, tree-state}
+use Rattle.running.specs.Running.{childStates, childrenFilled, treeRan}
+use Rattle.listing.proofs.Reader.{part-length, part}
+use lib.ListN.{length, getD}
 use borrow.Author.Needs.{needs}
 use Prim.Native.Nat.{ℕ, _<_, _+_, _*_, _-_, suc}
 use borrow.Fn.Kinds.{In}
@@ -57,7 +63,14 @@ run-children-returns : (t : ℕ) → run-children-lts.Need-returns (
   run-children.Post,
 ) (run-children-at t) run-children.Post
 run-children-returns t c =
-    (children-none ((c .before .before .before .args .transitions .now)) ((c .before .before .before .args .count)) ((c .before .before .before .args .s .now)) ((c .before .before .before .args .arity - (c .before .before .before .args) .k)) (omega arith), noted-none (c .before .before .before .pre .1 .1 .1 .0) (c .if1 .taken) (states-none ((c .before .before .before .args .transitions .now)) ((c .before .before .before .args .count)) ((c .before .before .before .args .s .now)) ((c .before .before .before .args .arity - (c .before .before .before .args) .k)) (omega arith)))
+    let b = c .before in
+    let a = b .before .before .args in
+    let p = b .before .before .pre .1 in
+    let j = a .arity - a .k in
+    let none = states-none (a .transitions .now) (a .count) (a .s .now) j (omega arith) in (
+      children-none (a .transitions .now) (a .count) (a .s .now) j (omega arith),
+      noted-none (p .1 .1 .0) (c .if1 .taken) none,
+    )
 
 -- src/lib.rt:92:71
 run-children-add-run-tree : (t : ℕ) → run-children-lts.Need-add-run-tree (
@@ -76,7 +89,12 @@ run-children-run-tree-requires : (t : ℕ) → run-children-lts.Need-run-tree-re
   run-children.Post,
 ) (run-children-at t) run-children.Post
 run-children-run-tree-requires t c κs =
-    (omega (arith, c .before .before .before .before .pre .0), (c .before .before .before .before .pre .1 .0, (first-ahead ((c .before .before .before .before .pre .1 .1 .0)) ((c .before .before .before .before .args .arity - (c .before .before .before .before .args .k + 1))) (omega arith), c .before .before .before .before .pre .1 .1 .1 .0)))
+    let b = c .before .before in
+    let a = b .before .before .args in
+    let p = b .before .before .pre .1 in
+    let i = a .arity - (a .k + 1) in
+    let e : a .arity - a .k ≡ suc i = omega arith in
+    (omega (arith, b .before .before .pre .0), (p .0, (first-ahead (p .1 .0) i e, p .1 .1 .0)))
 
 -- src/lib.rt:92:22
 run-children-enum-known-q : (t : ℕ) → run-children-lts.Need-enum-known-q (
@@ -104,8 +122,16 @@ run-children-returns-2 : (t : ℕ) → run-children-lts.Need-returns-2 (
   run-children.Post,
 ) (run-children-at t) run-children.Post
 run-children-returns-2 t c =
-    let r = sym (c .before .before .run-tree .ensures .0) ∙ c .enum-told .given .1 in
-    (children-lost ((c .before .before .before .before .before .before .before .args .transitions .now)) ((c .before .before .before .before .before .before .before .args .count)) ((c .before .before .before .before .before .before .before .pre .1 .1 .0)) ((c .before .before .before .before .before .before .before .args .arity - (c .before .before .before .before .before .before .before .args .k + 1))) (omega arith) r, noted-lost (c .before .before .run-tree .ensures .1) (child-lost ((c .before .before .before .before .before .before .before .args .transitions .now)) ((c .before .before .before .before .before .before .before .args .count)) ((c .before .before .before .before .before .before .before .pre .1 .1 .0)) ((c .before .before .before .before .before .before .before .args .arity - (c .before .before .before .before .before .before .before .args .k + 1))) (omega arith) r))
+    let b = c .before .before .before in
+    let a = b .before .before .before .before .args in
+    let p = b .before .before .before .before .pre .1 in
+    let i = a .arity - (a .k + 1) in
+    let e : a .arity - a .k ≡ suc i = omega arith in
+    let t = c .before .before .run-tree .ensures in
+    let r : treeRan (a .transitions .now) (a .count) (a .s .now) ≡ Nothing = sym (t .0) ∙ c .enum-told .given .1 in (
+      children-lost (a .transitions .now) (a .count) (p .1 .0) i e r,
+      noted-lost (t .1) (child-lost (a .transitions .now) (a .count) (p .1 .0) i e r),
+    )
 
 -- src/lib.rt:95:5
 run-children-mul-rows : (t : ℕ) → run-children-lts.Need-mul-rows (
@@ -142,7 +168,17 @@ run-children-sub-run-children : (t : ℕ) → run-children-lts.Need-sub-run-chil
   run-children.Post,
 ) (run-children-at t) run-children.Post
 run-children-sub-run-children t c =
-    first-within ((c .before .before .before .before .before .before .before .before .pre .1 .1 .0)) ((c .before .before .before .before .before .before .before .before .args .arity - (c .before .before .before .before .before .before .before .before .args .k + 1))) (omega arith) ((c .before .q .given .0 .1 .0)) (child-bytes ((c .before .before .before .before .before .before .before .before .args .transitions .now)) ((c .before .before .before .before .before .before .before .before .args .count)) ((c .before .before .before .before .before .before .before .before .pre .1 .1 .0)) ((c .before .before .before .before .before .before .before .before .args .arity - (c .before .before .before .before .before .before .before .before .args .k + 1))) (omega arith) ((c .before .q .given .0 .0)) ((c .before .q .given .0 .1 .0)) ((sym (c .before .before .before .run-tree .ensures .0) ∙ c .before .q .given .1)))
+    let b = c .before .before .before .before in
+    let a = b .before .before .before .before .args in
+    let p = b .before .before .before .before .pre .1 in
+    let i = a .arity - (a .k + 1) in
+    let e : a .arity - a .k ≡ suc i = omega arith in
+    let t = c .before .before .before .run-tree .ensures in
+    let g = c .before .q .given in
+    let m = g .0 .1 .0 in
+    let r : treeRan (a .transitions .now) (a .count) (a .s .now) ≡ State (g .0 .0) m = sym (t .0) ∙ g .1 in
+    let d = child-bytes (a .transitions .now) (a .count) (p .1 .0) i e (g .0 .0) m r in
+    first-within (p .1 .0) i e m d
 
 -- src/lib.rt:97:9
 run-children-part-run-children-start : (t : ℕ) → run-children-lts.Need-part-run-children-start (
@@ -152,7 +188,17 @@ run-children-part-run-children-start : (t : ℕ) → run-children-lts.Need-part-
   run-children.Post,
 ) (run-children-at t) run-children.Post
 run-children-part-run-children-start t c =
-    first-within ((c .before .before .before .before .before .before .before .before .pre .1 .1 .0)) ((c .before .before .before .before .before .before .before .before .args .arity - (c .before .before .before .before .before .before .before .before .args .k + 1))) (omega arith) ((c .before .q .given .0 .1 .0)) (child-bytes ((c .before .before .before .before .before .before .before .before .args .transitions .now)) ((c .before .before .before .before .before .before .before .before .args .count)) ((c .before .before .before .before .before .before .before .before .pre .1 .1 .0)) ((c .before .before .before .before .before .before .before .before .args .arity - (c .before .before .before .before .before .before .before .before .args .k + 1))) (omega arith) ((c .before .q .given .0 .0)) ((c .before .q .given .0 .1 .0)) ((sym (c .before .before .before .run-tree .ensures .0) ∙ c .before .q .given .1)))
+    let b = c .before .before .before .before in
+    let a = b .before .before .before .before .args in
+    let p = b .before .before .before .before .pre .1 in
+    let i = a .arity - (a .k + 1) in
+    let e : a .arity - a .k ≡ suc i = omega arith in
+    let t = c .before .before .before .run-tree .ensures in
+    let g = c .before .q .given in
+    let m = g .0 .1 .0 in
+    let r : treeRan (a .transitions .now) (a .count) (a .s .now) ≡ State (g .0 .0) m = sym (t .0) ∙ g .1 in
+    let d = child-bytes (a .transitions .now) (a .count) (p .1 .0) i e (g .0 .0) m r in
+    first-within (p .1 .0) i e m d
 
 -- src/lib.rt:97:9
 run-children-part-run-children-end : (t : ℕ) → run-children-lts.Need-part-run-children-end (
@@ -180,10 +226,23 @@ run-children-run-children-requires : (t : ℕ) → run-children-lts.Need-run-chi
   run-children.Post,
 ) (run-children-at t) run-children.Post
 run-children-run-children-requires t c κs =
-    let e : ((c .before .before .before .before .before .before .before .before .before .before .args .arity - (c .before .before .before .before .before .before .before .before .before .before .args) .k)) ≡ suc ((c .before .before .before .before .before .before .before .before .before .before .args .arity - (c .before .before .before .before .before .before .before .before .before .before .args .k + 1))) = omega arith in
-    let deep : c .before .before .before .before .before .before .before .before .before .before .args .depth < maxNodes = omega (arith, root-row (first-ahead ((c .before .before .before .before .before .before .before .before .before .before .pre .1 .1 .0)) ((c .before .before .before .before .before .before .before .before .before .before .args .arity - (c .before .before .before .before .before .before .before .before .before .before .args .k + 1))) e)) in
-    let d = child-bytes ((c .before .before .before .before .before .before .before .before .before .before .args .transitions .now)) ((c .before .before .before .before .before .before .before .before .before .before .args .count)) ((c .before .before .before .before .before .before .before .before .before .before .pre .1 .1 .0)) ((c .before .before .before .before .before .before .before .before .before .before .args .arity - (c .before .before .before .before .before .before .before .before .before .before .args .k + 1))) e ((c .before .before .before .q .given .0 .0)) ((c .before .before .before .q .given .0 .1 .0)) ((sym (c .before .before .before .before .before .run-tree .ensures .0) ∙ c .before .before .before .q .given .1)) in
-    (omega (arith, first-some ((c .before .before .before .before .before .before .before .before .before .before .pre .1 .1 .0)) ((c .before .before .before .before .before .before .before .before .before .before .args .arity - (c .before .before .before .before .before .before .before .before .before .before .args .k + 1))) e ((c .before .before .before .q .given .0 .1 .0)) d, first-within ((c .before .before .before .before .before .before .before .before .before .before .pre .1 .1 .0)) ((c .before .before .before .before .before .before .before .before .before .before .args .arity - (c .before .before .before .before .before .before .before .before .before .before .args .k + 1))) e ((c .before .before .before .q .given .0 .1 .0)) d, part-length ((c .before .before .before .before .before .before .before .before .before .before .args .s .now)) ((c .before .before .before .q .given .0 .1 .0)), c .before .before .before .before .before .before .before .before .before .before .pre .0), (c .before .before .before .before .before .before .before .before .before .before .pre .1 .0, (others-ahead ((c .before .before .before .before .before .before .before .before .before .before .pre .1 .1 .0)) ((c .before .before .before .before .before .before .before .before .before .before .args .arity - (c .before .before .before .before .before .before .before .before .before .before .args .k + 1))) e ((c .before .before .before .q .given .0 .1 .0)) d, (rows-put (c .before .before .before .before .before .run-tree .ensures .1 .rows) (c .before .before .before .before .before .before .before .before .before .before .args .depth) (c .before .before .before .before .before .before .before .before .before .before .args .k) ((c .before .before .before .q .given .0 .0)) deep, (omega arith, c .before .before .before .before .before .before .before .before .before .before .pre .1 .1 .1 .1 .1)))))
+    let b = c .before .before .before .before .before in
+    let a = b .before .before .before .before .before .args in
+    let p = b .before .before .before .before .before .pre .1 in
+    let i = a .arity - (a .k + 1) in
+    let e : a .arity - a .k ≡ suc i = omega arith in
+    let t = c .before .before .before .before .before .run-tree .ensures in
+    let g = c .before .before .before .q .given in
+    let m = g .0 .1 .0 in
+    let r : treeRan (a .transitions .now) (a .count) (a .s .now) ≡ State (g .0 .0) m = sym (t .0) ∙ g .1 in
+    let d = child-bytes (a .transitions .now) (a .count) (p .1 .0) i e (g .0 .0) m r in
+    let some = first-some (p .1 .0) i e m d in
+    let within = first-within (p .1 .0) i e m d in
+    let less = part-length (a .s .now) m in
+    let deep : a .depth < maxNodes = omega (arith, root-row (first-ahead (p .1 .0) i e)) in
+    let falls = b .before .before .before .before .before .pre .0 in
+    let rest = others-ahead (p .1 .0) i e m d in
+    (omega arith, (p .0, (rest, (rows-put (t .1 .rows) (a .depth) _ _ deep, (omega arith, p .1 .1 .1 .1)))))
 
 -- src/lib.rt:96:28
 run-children-enum-known-more : (t : ℕ) → run-children-lts.Need-enum-known-more (
@@ -211,9 +270,23 @@ run-children-returns-3 : (t : ℕ) → run-children-lts.Need-returns-3 (
   run-children.Post,
 ) (run-children-at t) run-children.Post
 run-children-returns-3 t c =
-    let e : ((c .before .before .before .before .before .before .before .before .before .before .before .before .before .args .arity - (c .before .before .before .before .before .before .before .before .before .before .before .before .before .args) .k)) ≡ suc ((c .before .before .before .before .before .before .before .before .before .before .before .before .before .args .arity - (c .before .before .before .before .before .before .before .before .before .before .before .before .before .args .k + 1))) = omega arith in
-    let deep : c .before .before .before .before .before .before .before .before .before .before .before .before .before .args .depth < maxNodes = omega (arith, root-row (first-ahead ((c .before .before .before .before .before .before .before .before .before .before .before .before .before .pre .1 .1 .0)) ((c .before .before .before .before .before .before .before .before .before .before .before .before .before .args .arity - (c .before .before .before .before .before .before .before .before .before .before .before .before .before .args .k + 1))) e)) in
-    (children-short ((c .before .before .before .before .before .before .before .before .before .before .before .before .before .args .transitions .now)) ((c .before .before .before .before .before .before .before .before .before .before .before .before .before .args .count)) ((c .before .before .before .before .before .before .before .before .before .before .before .before .before .pre .1 .1 .0)) ((c .before .before .before .before .before .before .before .before .before .before .before .before .before .args .arity - (c .before .before .before .before .before .before .before .before .before .before .before .before .before .args .k + 1))) e ((c .before .before .before .before .before .before .q .given .0 .0)) ((c .before .before .before .before .before .before .q .given .0 .1 .0)) ((sym (c .before .before .before .before .before .before .before .before .run-tree .ensures .0) ∙ c .before .before .before .before .before .before .q .given .1)) (sym (c .before .before .run-children .ensures .0) ∙ c .enum-told2 .given .1), (noted-next deep (omega arith) (child-states ((c .before .before .before .before .before .before .before .before .before .before .before .before .before .args .transitions .now)) ((c .before .before .before .before .before .before .before .before .before .before .before .before .before .args .count)) ((c .before .before .before .before .before .before .before .before .before .before .before .before .before .pre .1 .1 .0)) ((c .before .before .before .before .before .before .before .before .before .before .before .before .before .args .arity - (c .before .before .before .before .before .before .before .before .before .before .before .before .before .args .k + 1))) e ((c .before .before .before .before .before .before .q .given .0 .0)) ((c .before .before .before .before .before .before .q .given .0 .1 .0)) ((sym (c .before .before .before .before .before .before .before .before .run-tree .ensures .0) ∙ c .before .before .before .before .before .before .q .given .1))) (c .before .before .before .before .before .before .before .before .run-tree .ensures .1) (c .before .before .run-children .ensures .1)))
+    let b = c .before .before .before .before .before .before in
+    let a = b .before .before .before .before .before .before .before .args in
+    let p = b .before .before .before .before .before .before .before .pre .1 in
+    let i = a .arity - (a .k + 1) in
+    let e : a .arity - a .k ≡ suc i = omega arith in
+    let t = c .before .before .before .before .before .before .before .before .run-tree .ensures in
+    let g = c .before .before .before .before .before .before .q .given in
+    let m = g .0 .1 .0 in
+    let r : treeRan (a .transitions .now) (a .count) (a .s .now) ≡ State (g .0 .0) m = sym (t .0) ∙ g .1 in
+    let h = c .before .before .run-children .ensures in
+    let f : childrenFilled (a .transitions .now) (a .count) (part (a .s .now) m) i ≡ Short =
+    sym (h .0) ∙ c .enum-told2 .given .1 in
+    let deep : a .depth < maxNodes = omega (arith, root-row (first-ahead (p .1 .0) i e)) in
+    let states = child-states (a .transitions .now) (a .count) (p .1 .0) i e (g .0 .0) m r in (
+      children-short (a .transitions .now) (a .count) (p .1 .0) i e (g .0 .0) m r f,
+      noted-next deep (omega arith) states (t .1) (h .1),
+    )
 
 -- src/lib.rt:107:24
 run-children-add-t14 : (t : ℕ) → run-children-lts.Need-add-t14 (
@@ -223,10 +296,25 @@ run-children-add-t14 : (t : ℕ) → run-children-lts.Need-add-t14 (
   run-children.Post,
 ) (run-children-at t) run-children.Post
 run-children-add-t14 t c =
-    let e : ((c .before .before .before .before .before .before .before .before .before .before .before .before .before .before .args .arity - (c .before .before .before .before .before .before .before .before .before .before .before .before .before .before .args) .k)) ≡ suc ((c .before .before .before .before .before .before .before .before .before .before .before .before .before .before .args .arity - (c .before .before .before .before .before .before .before .before .before .before .before .before .before .before .args .k + 1))) = omega arith in
-    let deep : c .before .before .before .before .before .before .before .before .before .before .before .before .before .before .args .depth < maxNodes = omega (arith, root-row (first-ahead ((c .before .before .before .before .before .before .before .before .before .before .before .before .before .before .pre .1 .1 .0)) ((c .before .before .before .before .before .before .before .before .before .before .before .before .before .before .args .arity - (c .before .before .before .before .before .before .before .before .before .before .before .before .before .before .args .k + 1))) e)) in
-    let d = child-bytes ((c .before .before .before .before .before .before .before .before .before .before .before .before .before .before .args .transitions .now)) ((c .before .before .before .before .before .before .before .before .before .before .before .before .before .before .args .count)) ((c .before .before .before .before .before .before .before .before .before .before .before .before .before .before .pre .1 .1 .0)) ((c .before .before .before .before .before .before .before .before .before .before .before .before .before .before .args .arity - (c .before .before .before .before .before .before .before .before .before .before .before .before .before .before .args .k + 1))) e ((c .before .before .before .before .before .before .before .q .given .0 .0)) ((c .before .before .before .before .before .before .before .q .given .0 .1 .0)) ((sym (c .before .before .before .before .before .before .before .before .before .run-tree .ensures .0) ∙ c .before .before .before .before .before .before .before .q .given .1)) in
-    omega (arith, first-within ((c .before .before .before .before .before .before .before .before .before .before .before .before .before .before .pre .1 .1 .0)) ((c .before .before .before .before .before .before .before .before .before .before .before .before .before .before .args .arity - (c .before .before .before .before .before .before .before .before .before .before .before .before .before .before .args .k + 1))) e ((c .before .before .before .before .before .before .before .q .given .0 .1 .0)) d, part-length ((c .before .before .before .before .before .before .before .before .before .before .before .before .before .before .args .s .now)) ((c .before .before .before .before .before .before .before .q .given .0 .1 .0)), ahead-within (others-ahead ((c .before .before .before .before .before .before .before .before .before .before .before .before .before .before .pre .1 .1 .0)) ((c .before .before .before .before .before .before .before .before .before .before .before .before .before .before .args .arity - (c .before .before .before .before .before .before .before .before .before .before .before .before .before .before .args .k + 1))) e ((c .before .before .before .before .before .before .before .q .given .0 .1 .0)) d), filled-row _ _ (c .before .more .given .0 .0) ((sym (c .before .before .before .run-children .ensures .0) ∙ c .before .more .given .1)) .1, c .before .before .before .before .before .before .before .before .before .before .before .before .before .before .good .0 .0)
+    let b = c .before .before .before .before .before .before .before in
+    let a = b .before .before .before .before .before .before .before .args in
+    let p = b .before .before .before .before .before .before .before .pre .1 in
+    let i = a .arity - (a .k + 1) in
+    let e : a .arity - a .k ≡ suc i = omega arith in
+    let t = c .before .before .before .before .before .before .before .before .before .run-tree .ensures in
+    let g = c .before .before .before .before .before .before .before .q .given in
+    let m = g .0 .1 .0 in
+    let r : treeRan (a .transitions .now) (a .count) (a .s .now) ≡ State (g .0 .0) m = sym (t .0) ∙ g .1 in
+    let l = c .before .more .given in
+    let h = c .before .before .before .run-children .ensures in
+    let f : childrenFilled (a .transitions .now) (a .count) (part (a .s .now) m) i ≡ Row (l .0 .0) =
+    sym (h .0) ∙ l .1 in
+    let d = child-bytes (a .transitions .now) (a .count) (p .1 .0) i e (g .0 .0) m r in
+    let within = first-within (p .1 .0) i e m d in
+    let rest = ahead-within (others-ahead (p .1 .0) i e m d) in
+    let less = part-length (a .s .now) m in
+    let good = b .before .before .before .before .before .before .before .good .0 .0 in
+    omega (arith, filled-row _ _ (l .0 .0) f .1)
 
 -- src/lib.rt:72:1
 run-children-returns-4 : (t : ℕ) → run-children-lts.Need-returns-4 (
@@ -236,9 +324,24 @@ run-children-returns-4 : (t : ℕ) → run-children-lts.Need-returns-4 (
   run-children.Post,
 ) (run-children-at t) run-children.Post
 run-children-returns-4 t c =
-    let e : ((c .before .before .before .before .before .before .before .before .before .before .before .before .before .before .args .arity - (c .before .before .before .before .before .before .before .before .before .before .before .before .before .before .args) .k)) ≡ suc ((c .before .before .before .before .before .before .before .before .before .before .before .before .before .before .args .arity - (c .before .before .before .before .before .before .before .before .before .before .before .before .before .before .args .k + 1))) = omega arith in
-    let deep : c .before .before .before .before .before .before .before .before .before .before .before .before .before .before .args .depth < maxNodes = omega (arith, root-row (first-ahead ((c .before .before .before .before .before .before .before .before .before .before .before .before .before .before .pre .1 .1 .0)) ((c .before .before .before .before .before .before .before .before .before .before .before .before .before .before .args .arity - (c .before .before .before .before .before .before .before .before .before .before .before .before .before .before .args .k + 1))) e)) in
-    (children-row ((c .before .before .before .before .before .before .before .before .before .before .before .before .before .before .args .transitions .now)) ((c .before .before .before .before .before .before .before .before .before .before .before .before .before .before .args .count)) ((c .before .before .before .before .before .before .before .before .before .before .before .before .before .before .pre .1 .1 .0)) ((c .before .before .before .before .before .before .before .before .before .before .before .before .before .before .args .arity - (c .before .before .before .before .before .before .before .before .before .before .before .before .before .before .args .k + 1))) e ((c .before .before .before .before .before .before .before .q .given .0 .0)) ((c .before .before .before .before .before .before .before .q .given .0 .1 .0)) ((sym (c .before .before .before .before .before .before .before .before .before .run-tree .ensures .0) ∙ c .before .before .before .before .before .before .before .q .given .1)) (c .before .more .given .0 .0) ((sym (c .before .before .before .run-children .ensures .0) ∙ c .before .more .given .1)), (noted-next deep (omega arith) (child-states ((c .before .before .before .before .before .before .before .before .before .before .before .before .before .before .args .transitions .now)) ((c .before .before .before .before .before .before .before .before .before .before .before .before .before .before .args .count)) ((c .before .before .before .before .before .before .before .before .before .before .before .before .before .before .pre .1 .1 .0)) ((c .before .before .before .before .before .before .before .before .before .before .before .before .before .before .args .arity - (c .before .before .before .before .before .before .before .before .before .before .before .before .before .before .args .k + 1))) e ((c .before .before .before .before .before .before .before .q .given .0 .0)) ((c .before .before .before .before .before .before .before .q .given .0 .1 .0)) ((sym (c .before .before .before .before .before .before .before .before .before .run-tree .ensures .0) ∙ c .before .before .before .before .before .before .before .q .given .1))) (c .before .before .before .before .before .before .before .before .before .run-tree .ensures .1) (c .before .before .before .run-children .ensures .1)))
+    let b = c .before .before .before .before .before .before .before in
+    let a = b .before .before .before .before .before .before .before .args in
+    let p = b .before .before .before .before .before .before .before .pre .1 in
+    let i = a .arity - (a .k + 1) in
+    let e : a .arity - a .k ≡ suc i = omega arith in
+    let t = c .before .before .before .before .before .before .before .before .before .run-tree .ensures in
+    let g = c .before .before .before .before .before .before .before .q .given in
+    let m = g .0 .1 .0 in
+    let r : treeRan (a .transitions .now) (a .count) (a .s .now) ≡ State (g .0 .0) m = sym (t .0) ∙ g .1 in
+    let l = c .before .more .given in
+    let h = c .before .before .before .run-children .ensures in
+    let f : childrenFilled (a .transitions .now) (a .count) (part (a .s .now) m) i ≡ Row (l .0 .0) =
+    sym (h .0) ∙ l .1 in
+    let deep : a .depth < maxNodes = omega (arith, root-row (first-ahead (p .1 .0) i e)) in
+    let states = child-states (a .transitions .now) (a .count) (p .1 .0) i e (g .0 .0) m r in (
+      children-row (a .transitions .now) (a .count) (p .1 .0) i e (g .0 .0) m r (l .0 .0) f,
+      noted-next deep (omega arith) states (t .1) (h .1),
+    )
 
 -- src/lib.rt:50:22
 run-tree-shared-slice-read-wide : (t : ℕ) → run-tree-lts.Need-shared-slice-read-wide (
@@ -249,7 +352,7 @@ run-tree-shared-slice-read-wide : (t : ℕ) → run-tree-lts.Need-shared-slice-r
   find-reads.Asked,
   find-reads.Learnt,
 ) (run-tree-at t) run-tree.Post
-run-tree-shared-slice-read-wide t c = omega (arith, root-size ((c .before .before .before .pre .1 .1 .0)))
+run-tree-shared-slice-read-wide t c = omega (arith, root-size (c .before .before .before .pre .1 .1 .0))
 
 -- src/lib.rt:50:9
 run-tree-wide-requires : (t : ℕ) → run-tree-lts.Need-wide-requires (
@@ -271,7 +374,7 @@ run-tree-sub-run-children : (t : ℕ) → run-tree-lts.Need-sub-run-children (
   find-reads.Asked,
   find-reads.Learnt,
 ) (run-tree-at t) run-tree.Post
-run-tree-sub-run-children t c = root-size ((c .before .before .before .before .pre .1 .1 .0))
+run-tree-sub-run-children t c = root-size (c .before .before .before .before .pre .1 .1 .0)
 
 -- src/lib.rt:52:9
 run-tree-part-run-children-start : (t : ℕ) → run-tree-lts.Need-part-run-children-start (
@@ -282,7 +385,7 @@ run-tree-part-run-children-start : (t : ℕ) → run-tree-lts.Need-part-run-chil
   find-reads.Asked,
   find-reads.Learnt,
 ) (run-tree-at t) run-tree.Post
-run-tree-part-run-children-start t c = root-size ((c .before .before .before .before .pre .1 .1 .0))
+run-tree-part-run-children-start t c = root-size (c .before .before .before .before .pre .1 .1 .0)
 
 -- src/lib.rt:52:9
 run-tree-part-run-children-end : (t : ℕ) → run-tree-lts.Need-part-run-children-end (
@@ -305,7 +408,17 @@ run-tree-run-children-requires : (t : ℕ) → run-tree-lts.Need-run-children-re
   find-reads.Learnt,
 ) (run-tree-at t) run-tree.Post
 run-tree-run-children-requires t c κs =
-    (omega (arith, root-size ((c .before .before .before .before .before .before .pre .1 .1 .0)), part-length ((c .before .before .before .before .before .before .args .s .now)) 2, c .before .before .before .before .before .before .pre .0), (c .before .before .before .before .before .before .pre .1 .0, (children-ahead ((c .before .before .before .before .before .before .pre .1 .1 .0)) ((c .before .before .wide .result - 0)) ((omega (arith, c .before .before .wide .ensures))), (c .before .before .before .before .before .before .pre .1 .1 .1, (omega arith, omega (arith, root-arity ((c .before .before .before .before .before .before .pre .1 .1 .0)), c .before .before .wide .ensures))))))
+    let b = c .before .before .before in
+    let a = b .before .before .before .args in
+    let p = b .before .before .before .pre .1 in
+    let w = c .before .before .wide in
+    let k = w .result - 0 in
+    let e : k ≡ getD (a .s .now) labelBytes 0 = omega (arith, w .ensures) in
+    let narrow = root-arity (p .1 .0) in
+    let size = root-size (p .1 .0) in
+    let less = part-length (a .s .now) nodeBytes in
+    let falls = b .before .before .before .pre .0 in
+    (omega arith, (p .0, (children-ahead (p .1 .0) k e, (p .1 .1, (omega arith, omega arith)))))
 
 -- src/lib.rt:51:23
 run-tree-enum-known-len : (t : ℕ) → run-tree-lts.Need-enum-known-len (
@@ -339,7 +452,16 @@ run-tree-returns : (t : ℕ) → run-tree-lts.Need-returns (
   find-reads.Learnt,
 ) (run-tree-at t) run-tree.Post
 run-tree-returns t c =
-    (tree-short ((c .before .before .before .before .before .before .before .before .before .args .transitions .now)) ((c .before .before .before .before .before .before .before .before .before .args .count)) ((c .before .before .before .before .before .before .before .before .before .pre .1 .1 .0)) ((c .before .before .before .before .before .wide .result - 0)) ((omega (arith, c .before .before .before .before .before .wide .ensures))) (sym (c .before .before .run-children .ensures .0) ∙ c .enum-told .given .1), c .before .before .run-children .ensures .1 .kept)
+    let b = c .before .before .before .before in
+    let a = b .before .before .before .before .before .args in
+    let p = b .before .before .before .before .before .pre .1 in
+    let w = c .before .before .before .before .before .wide in
+    let k = w .result - 0 in
+    let e : k ≡ getD (a .s .now) labelBytes 0 = omega (arith, w .ensures) in
+    let h = c .before .before .run-children .ensures in
+    let f : childrenFilled (a .transitions .now) (a .count) (part (a .s .now) nodeBytes) k ≡ Short =
+    sym (h .0) ∙ c .enum-told .given .1 in
+    (tree-short (a .transitions .now) (a .count) (p .1 .0) k e f, h .1 .kept)
 
 -- src/lib.rt:62:52
 run-tree-shared-slice-read-find : (t : ℕ) → run-tree-lts.Need-shared-slice-read-find (
@@ -351,7 +473,10 @@ run-tree-shared-slice-read-find : (t : ℕ) → run-tree-lts.Need-shared-slice-r
   find-reads.Learnt,
 ) (run-tree-at t) run-tree.Post
 run-tree-shared-slice-read-find t c =
-    omega (arith, root-size ((c .before .before .before .before .before .before .before .before .before .before .before .pre .1 .1 .0)))
+    let b = c .before .before .before .before .before in
+    let a = b .before .before .before .before .before .before .args in
+    let p = b .before .before .before .before .before .before .pre .1 in
+    omega (arith, root-size (p .1 .0))
 
 -- src/lib.rt:62:65
 run-tree-mul-find : (t : ℕ) → run-tree-lts.Need-mul-find (
@@ -374,7 +499,10 @@ run-tree-element-copy-out-find : (t : ℕ) → run-tree-lts.Need-element-copy-ou
   find-reads.Learnt,
 ) (run-tree-at t) run-tree.Post
 run-tree-element-copy-out-find t c =
-    root-row ((c .before .before .before .before .before .before .before .before .before .before .before .pre .1 .1 .0))
+    let b = c .before .before .before .before .before in
+    let a = b .before .before .before .before .before .before .args in
+    let p = b .before .before .before .before .before .before .pre .1 in
+    omega (arith, root-row (p .1 .0))
 
 -- src/lib.rt:62:27
 run-tree-find-requires : (t : ℕ) → run-tree-lts.Need-find-requires (
@@ -386,7 +514,11 @@ run-tree-find-requires : (t : ℕ) → run-tree-lts.Need-find-requires (
   find-reads.Learnt,
 ) (run-tree-at t) run-tree.Post
 run-tree-find-requires t c κs =
-    (c .before .before .before .before .before .before .before .before .before .before .before .before .pre .1 .0 .runs, omega (arith, root-arity ((c .before .before .before .before .before .before .before .before .before .before .before .before .pre .1 .1 .0)), c .before .before .before .before .before .before .before .before .wide .ensures))
+    let b = c .before .before .before .before .before .before in
+    let a = b .before .before .before .before .before .before .args in
+    let p = b .before .before .before .before .before .before .pre .1 in
+    let w = c .before .before .before .before .before .before .before .before .wide in
+    (p .0 .runs, omega (arith, root-arity (p .1 .0), w .ensures))
 
 -- src/lib.rt:62:22
 run-tree-enum-known-q : (t : ℕ) → run-tree-lts.Need-enum-known-q (
@@ -420,7 +552,18 @@ run-tree-returns-2 : (t : ℕ) → run-tree-lts.Need-returns-2 (
   find-reads.Learnt,
 ) (run-tree-at t) run-tree.Post
 run-tree-returns-2 t c =
-    (tree-lost ((c .before .before .before .before .before .before .before .before .before .before .before .before .before .before .before .args .transitions .now)) ((c .before .before .before .before .before .before .before .before .before .before .before .before .before .before .before .args .count)) ((c .before .before .before .before .before .before .before .before .before .before .before .before .before .before .before .pre .1 .1 .0)) ((c .before .before .before .before .before .before .before .before .before .before .before .wide .result - 0)) ((omega (arith, c .before .before .before .before .before .before .before .before .before .before .before .wide .ensures))) (c .before .before .before .before .before .before .len .given .0 .0) ((sym (c .before .before .before .before .before .before .before .before .run-children .ensures .0) ∙ c .before .before .before .before .before .before .len .given .1)) _ (c .before .before .before .before .before .before .before .before .run-children .ensures .1 .row) (ap foundState (sym (c .enum-told2 .given .1)) ∙ c .before .before .find .ensures .0), c .before .before .before .before .before .before .before .before .run-children .ensures .1 .kept)
+    let b = c .before .before .before .before .before .before .before in
+    let a = b .before .before .before .before .before .before .before .before .args in
+    let p = b .before .before .before .before .before .before .before .before .pre .1 in
+    let w = c .before .before .before .before .before .before .before .before .before .before .before .wide in
+    let k = w .result - 0 in
+    let e : k ≡ getD (a .s .now) labelBytes 0 = omega (arith, w .ensures) in
+    let h = c .before .before .before .before .before .before .before .before .run-children .ensures in
+    let l = c .before .before .before .before .before .before .len .given in
+    let f : childrenFilled (a .transitions .now) (a .count) (part (a .s .now) nodeBytes) k ≡ Row (l .0 .0) =
+    sym (h .0) ∙ l .1 in
+    let none = ap foundState (sym (c .enum-told2 .given .1)) ∙ c .before .before .find .ensures .0 in
+    (tree-lost (a .transitions .now) (a .count) (p .1 .0) k e (l .0 .0) f _ (h .1 .row) none, h .1 .kept)
 
 -- src/lib.rt:67:14
 run-tree-add-t13 : (t : ℕ) → run-tree-lts.Need-add-t13 (
@@ -432,7 +575,21 @@ run-tree-add-t13 : (t : ℕ) → run-tree-lts.Need-add-t13 (
   find-reads.Learnt,
 ) (run-tree-at t) run-tree.Post
 run-tree-add-t13 t c =
-    omega (arith, root-size ((c .before .before .before .before .before .before .before .before .before .before .before .before .before .before .before .before .pre .1 .1 .0)), part-length ((c .before .before .before .before .before .before .before .before .before .before .before .before .before .before .before .before .args .s .now)) 2, ahead-within (children-ahead ((c .before .before .before .before .before .before .before .before .before .before .before .before .before .before .before .before .pre .1 .1 .0)) ((c .before .before .before .before .before .before .before .before .before .before .before .before .wide .result - 0)) ((omega (arith, c .before .before .before .before .before .before .before .before .before .before .before .before .wide .ensures)))), filled-row _ _ (c .before .before .before .before .before .before .before .len .given .0 .0) ((sym (c .before .before .before .before .before .before .before .before .before .run-children .ensures .0) ∙ c .before .before .before .before .before .before .before .len .given .1)) .1, c .before .before .before .before .before .before .before .before .before .before .before .before .before .before .before .before .good .0 .0)
+    let b = c .before .before .before .before .before .before .before .before in
+    let a = b .before .before .before .before .before .before .before .before .args in
+    let p = b .before .before .before .before .before .before .before .before .pre .1 in
+    let w = c .before .before .before .before .before .before .before .before .before .before .before .before .wide in
+    let k = w .result - 0 in
+    let e : k ≡ getD (a .s .now) labelBytes 0 = omega (arith, w .ensures) in
+    let h = c .before .before .before .before .before .before .before .before .before .run-children .ensures in
+    let l = c .before .before .before .before .before .before .before .len .given in
+    let f : childrenFilled (a .transitions .now) (a .count) (part (a .s .now) nodeBytes) k ≡ Row (l .0 .0) =
+    sym (h .0) ∙ l .1 in
+    let size = root-size (p .1 .0) in
+    let less = part-length (a .s .now) nodeBytes in
+    let within = ahead-within (children-ahead (p .1 .0) k e) in
+    let good = b .before .before .before .before .before .before .before .before .good .0 .0 in
+    omega (arith, filled-row _ _ (l .0 .0) f .1)
 
 -- src/lib.rt:37:1
 run-tree-returns-3 : (t : ℕ) → run-tree-lts.Need-returns-3 (
@@ -444,7 +601,21 @@ run-tree-returns-3 : (t : ℕ) → run-tree-lts.Need-returns-3 (
   find-reads.Learnt,
 ) (run-tree-at t) run-tree.Post
 run-tree-returns-3 t c =
-    (tree-state ((c .before .before .before .before .before .before .before .before .before .before .before .before .before .before .before .before .args .transitions .now)) ((c .before .before .before .before .before .before .before .before .before .before .before .before .before .before .before .before .args .count)) ((c .before .before .before .before .before .before .before .before .before .before .before .before .before .before .before .before .pre .1 .1 .0)) ((c .before .before .before .before .before .before .before .before .before .before .before .before .wide .result - 0)) ((omega (arith, c .before .before .before .before .before .before .before .before .before .before .before .before .wide .ensures))) (c .before .before .before .before .before .before .before .len .given .0 .0) ((sym (c .before .before .before .before .before .before .before .before .before .run-children .ensures .0) ∙ c .before .before .before .before .before .before .before .len .given .1)) _ (c .before .before .before .before .before .before .before .before .before .run-children .ensures .1 .row) (c .before .before .before .before .before .before .before .before .before .before .before .before .before .before .before .before .pre .1 .0) (c .before .q .given .0 .0) (ap foundState (sym (c .before .q .given .1)) ∙ c .before .before .before .find .ensures .0) (ap isFound (sym (c .before .q .given .1)) ∙ c .before .before .before .find .ensures .1), c .before .before .before .before .before .before .before .before .before .run-children .ensures .1 .kept)
+    let b = c .before .before .before .before .before .before .before .before in
+    let a = b .before .before .before .before .before .before .before .before .args in
+    let p = b .before .before .before .before .before .before .before .before .pre .1 in
+    let w = c .before .before .before .before .before .before .before .before .before .before .before .before .wide in
+    let k = w .result - 0 in
+    let e : k ≡ getD (a .s .now) labelBytes 0 = omega (arith, w .ensures) in
+    let h = c .before .before .before .before .before .before .before .before .before .run-children .ensures in
+    let l = c .before .before .before .before .before .before .before .len .given in
+    let f : childrenFilled (a .transitions .now) (a .count) (part (a .s .now) nodeBytes) k ≡ Row (l .0 .0) =
+    sym (h .0) ∙ l .1 in
+    let q = c .before .q .given in
+    let state = ap foundState (sym (q .1)) ∙ c .before .before .before .find .ensures .0 in
+    let found = ap isFound (sym (q .1)) ∙ c .before .before .before .find .ensures .1 in
+    let answer = tree-state (a .transitions .now) (a .count) (p .1 .0) k e (l .0 .0) f _ (h .1 .row) (p .0) in
+    (answer (q .0 .0) state found, h .1 .kept)
 
 pub +run-children+run-tree-spec : {M : Type 1} → statement M
 +run-children+run-tree-spec = close μ-run-children μ-run-tree (λ t. run-children-lts.spec (
