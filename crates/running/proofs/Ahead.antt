@@ -10,7 +10,6 @@ use Rattle.running.specs.Running.{Ahead}
 use Rattle.trees.specs.Legal.{AllLegal, Legal, LegalNode}
 use Rattle.trees.specs.Listing.{firstTree, firstTrees, listing, listings, readTree, readTrees}
 use Rattle.trees.specs.Tree.{Forest, Tree, _⧺_, cons, count, nil, node}
-use Rattle.automata.proofs.Unique.{children}
 use Rattle.listing.proofs.Reader.{part, part-length}
 use Rattle.trees.proofs.Listing.{read-trees}
 

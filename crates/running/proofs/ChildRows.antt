@@ -10,10 +10,8 @@ use lib.Dec.{eqb}
 use lib.ListN.{getD, length, length-set, set, take}
 use lib.Seq.{getD-set-other, getD-set-same, getD-take, take-set-le, take-suc-set, take-take}
 use Rattle.format.specs.Format.{maxArity, maxNodes}
-use Rattle.lists.specs.Positions.{row}
 use Rattle.lists.specs.Tests.{any}
 use Rattle.running.specs.Running.{Kept, Noted, Rows}
-use Rattle.listing.proofs.Checks.{kept}
 use Rattle.lists.proofs.Tests.{or-none-right}
 
 module _ (depth : ℕ) {old new : List (List ℕ)} (v : Kept (depth + 1) old new) where

@@ -5,7 +5,6 @@ use mathlib.Core.Path.{_∙_, _≡_, ap, refl, sym}
 use Prim.Native.Nat.{_*_, _+_, _<_, _≤_, suc, zero, ℕ}
 use native.Mathlib.Omega.{arith}
 use lib.ListN.{drop, length, length-drop}
-use Rattle.automata.specs.Product.{lists, nodes}
 use Rattle.format.specs.Format.{AllBytes, maxListing, nodeBytes}
 use Rattle.running.specs.Running.{Ahead}
 use Rattle.trees.specs.Listing.{listing, listingRefusal, listings, listsTrees, nodesIn, oneTree, readTrees}

@@ -1,24 +1,22 @@
 -- A tree is run by its root, then its children one after another. What is left of the bytes falls: twice their
 -- number, and one more for the children.
-use Rattle.running.specs.declared.Ran.the-variants.{Nothing, State}
-use Rattle.running.specs.declared.Filled.the-variants.{Row, Short}
-use Rattle.format.specs.Format.{maxNodes, nodeBytes, labelBytes}
-use Rattle.fields.specs.Fields.{foundState, isFound}
+use mathlib.Core.Path.{_≡_}
+use Prim.Native.Nat.{_*_, _+_, _-_, _<_, suc, ℕ}
 use native.Mathlib.Omega.{arith}
-use mathlib.Core.Path.{_≡_, _∙_, ap, sym}
-use Rattle.running.proofs.Ahead.{ahead-within, children-ahead, first-ahead, first-some, first-within}
-use Rattle.running.proofs.Ahead.{others-ahead, root-arity, root-row, root-size}
-use Rattle.running.proofs.Answers.{filled-row}
+use lib.ListN.{getD, length}
+use borrow.Author.Needs.{needs}
+use borrow.Fn.Kinds.{In}
+use borrow.Fn.PlainCycle.{Measures, and, falls, is}
+use Rattle.format.specs.Format.{labelBytes, maxNodes, nodeBytes}
+use Rattle.listing.proofs.Reader.{part-length}
+use Rattle.running.proofs.+run_children+run_tree.{statement}
+use Rattle.running.proofs.+run_children+run_tree.Tie.{close}
+use Rattle.running.proofs.Ahead.{children-ahead, first-ahead, first-some, first-within, others-ahead}
+use Rattle.running.proofs.Ahead.{root-arity, root-row, root-size}
 use Rattle.running.proofs.ChildRows.{noted-lost, noted-next, noted-none, rows-put}
 use Rattle.running.proofs.Nodes.{child-bytes, child-lost, child-states, children-lost, children-none}
-use Rattle.running.proofs.Nodes.{children-row, children-short, states-none, tree-lost, tree-short, tree-state}
-use Rattle.running.specs.Running.{childStates, childrenFilled, treeRan}
-use Rattle.listing.proofs.Reader.{part-length, part}
-use lib.ListN.{length, getD}
-use borrow.Author.Needs.{needs}
-use Prim.Native.Nat.{ℕ, _<_, _+_, _*_, _-_, suc}
-use borrow.Fn.Kinds.{In}
-use borrow.Fn.PlainCycle.{Measures, is, falls, and}
+use Rattle.running.proofs.Nodes.{children-row, children-short, children-within, states-none, tree-lost}
+use Rattle.running.proofs.Nodes.{tree-short, tree-state, tree-within}
 use Rattle.running.proofs.run_children.Reads as run-children
 use Rattle.running.proofs.run_children.Kinds as run-children-kinds
 use Rattle.running.proofs.+run_children+run_tree.Lts-run_children as run-children-lts
@@ -27,8 +25,6 @@ use Rattle.running.proofs.run_tree.Kinds as run-tree-kinds
 use Rattle.running.proofs.+run_children+run_tree.Lts-run_tree as run-tree-lts
 use Rattle.fields.proofs.find.Reads as find-reads
 use Rattle.fields.proofs.wide.Reads as wide-reads
-use Rattle.running.proofs.+run_children+run_tree.{statement}
-use Rattle.running.proofs.+run_children+run_tree.Tie.{close}
 
 abbrev μ-run-children : Measures 3 run-children-kinds.ps ℕ
 μ-run-children κs a = 2 * length (a .0 .now) + 1
@@ -55,7 +51,6 @@ abbrev run-tree-below : ℕ → In 3 run-tree-kinds.ps
 run-tree-below t =
     and 3 run-tree-kinds.ps (falls 3 run-tree-kinds.ps _<_ μ-run-tree t) run-tree.Pre
 
--- src/lib.rt:90:9
 run-children-returns : (t : ℕ) → run-children-lts.Need-returns (
   run-tree-below t,
   run-tree.Post,
@@ -72,7 +67,6 @@ run-children-returns t c =
       noted-none (p .1 .1 .0) (c .if1 .taken) none,
     )
 
--- src/lib.rt:92:71
 run-children-add-run-tree : (t : ℕ) → run-children-lts.Need-add-run-tree (
   run-tree-below t,
   run-tree.Post,
@@ -81,7 +75,6 @@ run-children-add-run-tree : (t : ℕ) → run-children-lts.Need-add-run-tree (
 ) (run-children-at t) run-children.Post
 run-children-add-run-tree t c = search needs
 
--- src/lib.rt:92:33
 run-children-run-tree-requires : (t : ℕ) → run-children-lts.Need-run-tree-requires (
   run-tree-below t,
   run-tree.Post,
@@ -96,7 +89,6 @@ run-children-run-tree-requires t c κs =
     let e : a .arity - a .k ≡ suc i = omega arith in
     (omega (arith, b .before .before .pre .0), (p .0, (first-ahead (p .1 .0) i e, p .1 .1 .0)))
 
--- src/lib.rt:92:22
 run-children-enum-known-q : (t : ℕ) → run-children-lts.Need-enum-known-q (
   run-tree-below t,
   run-tree.Post,
@@ -105,7 +97,6 @@ run-children-enum-known-q : (t : ℕ) → run-children-lts.Need-enum-known-q (
 ) (run-children-at t) run-children.Post
 run-children-enum-known-q t c = search needs
 
--- src/lib.rt:93:9
 run-children-enum-told : (t : ℕ) → run-children-lts.Need-enum-told (
   run-tree-below t,
   run-tree.Post,
@@ -114,7 +105,6 @@ run-children-enum-told : (t : ℕ) → run-children-lts.Need-enum-told (
 ) (run-children-at t) run-children.Post
 run-children-enum-told t c = search needs
 
--- src/lib.rt:93:9
 run-children-returns-2 : (t : ℕ) → run-children-lts.Need-returns-2 (
   run-tree-below t,
   run-tree.Post,
@@ -128,12 +118,11 @@ run-children-returns-2 t c =
     let i = a .arity - (a .k + 1) in
     let e : a .arity - a .k ≡ suc i = omega arith in
     let t = c .before .before .run-tree .ensures in
-    let r : treeRan (a .transitions .now) (a .count) (a .s .now) ≡ Nothing = sym (t .0) ∙ c .enum-told .given .1 in (
-      children-lost (a .transitions .now) (a .count) (p .1 .0) i e r,
-      noted-lost (t .1) (child-lost (a .transitions .now) (a .count) (p .1 .0) i e r),
+    let z = c .enum-told .given .1 in (
+      children-lost (a .transitions .now) (a .count) (p .1 .0) i e (t .0) z,
+      noted-lost (t .1) (child-lost (a .transitions .now) (a .count) (p .1 .0) i e (t .0) z),
     )
 
--- src/lib.rt:95:5
 run-children-mul-rows : (t : ℕ) → run-children-lts.Need-mul-rows (
   run-tree-below t,
   run-tree.Post,
@@ -142,7 +131,6 @@ run-children-mul-rows : (t : ℕ) → run-children-lts.Need-mul-rows (
 ) (run-children-at t) run-children.Post
 run-children-mul-rows t c = search needs
 
--- src/lib.rt:95:5
 run-children-index-1-rows : (t : ℕ) → run-children-lts.Need-index-1-rows (
   run-tree-below t,
   run-tree.Post,
@@ -151,7 +139,6 @@ run-children-index-1-rows : (t : ℕ) → run-children-lts.Need-index-1-rows (
 ) (run-children-at t) run-children.Post
 run-children-index-1-rows t c = search needs
 
--- src/lib.rt:95:5
 run-children-index-2-rows : (t : ℕ) → run-children-lts.Need-index-2-rows (
   run-tree-below t,
   run-tree.Post,
@@ -160,7 +147,6 @@ run-children-index-2-rows : (t : ℕ) → run-children-lts.Need-index-2-rows (
 ) (run-children-at t) run-children.Post
 run-children-index-2-rows t c = search needs
 
--- src/lib.rt:97:9
 run-children-sub-run-children : (t : ℕ) → run-children-lts.Need-sub-run-children (
   run-tree-below t,
   run-tree.Post,
@@ -176,11 +162,9 @@ run-children-sub-run-children t c =
     let t = c .before .before .before .run-tree .ensures in
     let g = c .before .q .given in
     let m = g .0 .1 .0 in
-    let r : treeRan (a .transitions .now) (a .count) (a .s .now) ≡ State (g .0 .0) m = sym (t .0) ∙ g .1 in
-    let d = child-bytes (a .transitions .now) (a .count) (p .1 .0) i e (g .0 .0) m r in
+    let d = child-bytes (a .transitions .now) (a .count) (p .1 .0) i e (t .0) (g .0 .0) m (g .1) in
     first-within (p .1 .0) i e m d
 
--- src/lib.rt:97:9
 run-children-part-run-children-start : (t : ℕ) → run-children-lts.Need-part-run-children-start (
   run-tree-below t,
   run-tree.Post,
@@ -196,11 +180,9 @@ run-children-part-run-children-start t c =
     let t = c .before .before .before .run-tree .ensures in
     let g = c .before .q .given in
     let m = g .0 .1 .0 in
-    let r : treeRan (a .transitions .now) (a .count) (a .s .now) ≡ State (g .0 .0) m = sym (t .0) ∙ g .1 in
-    let d = child-bytes (a .transitions .now) (a .count) (p .1 .0) i e (g .0 .0) m r in
+    let d = child-bytes (a .transitions .now) (a .count) (p .1 .0) i e (t .0) (g .0 .0) m (g .1) in
     first-within (p .1 .0) i e m d
 
--- src/lib.rt:97:9
 run-children-part-run-children-end : (t : ℕ) → run-children-lts.Need-part-run-children-end (
   run-tree-below t,
   run-tree.Post,
@@ -209,7 +191,6 @@ run-children-part-run-children-end : (t : ℕ) → run-children-lts.Need-part-ru
 ) (run-children-at t) run-children.Post
 run-children-part-run-children-end t c = search needs
 
--- src/lib.rt:102:9
 run-children-add-run-children : (t : ℕ) → run-children-lts.Need-add-run-children (
   run-tree-below t,
   run-tree.Post,
@@ -218,7 +199,6 @@ run-children-add-run-children : (t : ℕ) → run-children-lts.Need-add-run-chil
 ) (run-children-at t) run-children.Post
 run-children-add-run-children t c = search needs
 
--- src/lib.rt:96:37
 run-children-run-children-requires : (t : ℕ) → run-children-lts.Need-run-children-requires (
   run-tree-below t,
   run-tree.Post,
@@ -234,8 +214,7 @@ run-children-run-children-requires t c κs =
     let t = c .before .before .before .before .before .run-tree .ensures in
     let g = c .before .before .before .q .given in
     let m = g .0 .1 .0 in
-    let r : treeRan (a .transitions .now) (a .count) (a .s .now) ≡ State (g .0 .0) m = sym (t .0) ∙ g .1 in
-    let d = child-bytes (a .transitions .now) (a .count) (p .1 .0) i e (g .0 .0) m r in
+    let d = child-bytes (a .transitions .now) (a .count) (p .1 .0) i e (t .0) (g .0 .0) m (g .1) in
     let some = first-some (p .1 .0) i e m d in
     let within = first-within (p .1 .0) i e m d in
     let less = part-length (a .s .now) m in
@@ -244,7 +223,6 @@ run-children-run-children-requires t c κs =
     let rest = others-ahead (p .1 .0) i e m d in
     (omega arith, (p .0, (rest, (rows-put (t .1 .rows) (a .depth) _ _ deep, (omega arith, p .1 .1 .1 .1)))))
 
--- src/lib.rt:96:28
 run-children-enum-known-more : (t : ℕ) → run-children-lts.Need-enum-known-more (
   run-tree-below t,
   run-tree.Post,
@@ -253,7 +231,6 @@ run-children-enum-known-more : (t : ℕ) → run-children-lts.Need-enum-known-mo
 ) (run-children-at t) run-children.Post
 run-children-enum-known-more t c = search needs
 
--- src/lib.rt:105:9
 run-children-enum-told-2 : (t : ℕ) → run-children-lts.Need-enum-told-2 (
   run-tree-below t,
   run-tree.Post,
@@ -262,7 +239,6 @@ run-children-enum-told-2 : (t : ℕ) → run-children-lts.Need-enum-told-2 (
 ) (run-children-at t) run-children.Post
 run-children-enum-told-2 t c = search needs
 
--- src/lib.rt:105:9
 run-children-returns-3 : (t : ℕ) → run-children-lts.Need-returns-3 (
   run-tree-below t,
   run-tree.Post,
@@ -278,17 +254,12 @@ run-children-returns-3 t c =
     let t = c .before .before .before .before .before .before .before .before .run-tree .ensures in
     let g = c .before .before .before .before .before .before .q .given in
     let m = g .0 .1 .0 in
-    let r : treeRan (a .transitions .now) (a .count) (a .s .now) ≡ State (g .0 .0) m = sym (t .0) ∙ g .1 in
     let h = c .before .before .run-children .ensures in
-    let f : childrenFilled (a .transitions .now) (a .count) (part (a .s .now) m) i ≡ Short =
-    sym (h .0) ∙ c .enum-told2 .given .1 in
     let deep : a .depth < maxNodes = omega (arith, root-row (first-ahead (p .1 .0) i e)) in
-    let states = child-states (a .transitions .now) (a .count) (p .1 .0) i e (g .0 .0) m r in (
-      children-short (a .transitions .now) (a .count) (p .1 .0) i e (g .0 .0) m r f,
-      noted-next deep (omega arith) states (t .1) (h .1),
-    )
+    let states = child-states (a .transitions .now) (a .count) (p .1 .0) i e (t .0) (g .0 .0) m (g .1) in
+    let short = children-short (a .transitions .now) (a .count) (p .1 .0) i e (t .0) (g .0 .0) m (g .1) in
+    (short (h .0) (c .enum-told2 .given .1), noted-next deep (omega arith) states (t .1) (h .1))
 
--- src/lib.rt:107:24
 run-children-add-t14 : (t : ℕ) → run-children-lts.Need-add-t14 (
   run-tree-below t,
   run-tree.Post,
@@ -304,19 +275,12 @@ run-children-add-t14 t c =
     let t = c .before .before .before .before .before .before .before .before .before .run-tree .ensures in
     let g = c .before .before .before .before .before .before .before .q .given in
     let m = g .0 .1 .0 in
-    let r : treeRan (a .transitions .now) (a .count) (a .s .now) ≡ State (g .0 .0) m = sym (t .0) ∙ g .1 in
-    let l = c .before .more .given in
     let h = c .before .before .before .run-children .ensures in
-    let f : childrenFilled (a .transitions .now) (a .count) (part (a .s .now) m) i ≡ Row (l .0 .0) =
-    sym (h .0) ∙ l .1 in
-    let d = child-bytes (a .transitions .now) (a .count) (p .1 .0) i e (g .0 .0) m r in
-    let within = first-within (p .1 .0) i e m d in
-    let rest = ahead-within (others-ahead (p .1 .0) i e m d) in
-    let less = part-length (a .s .now) m in
-    let good = b .before .before .before .before .before .before .before .good .0 .0 in
-    omega (arith, filled-row _ _ (l .0 .0) f .1)
+    let l = c .before .more .given in
+    let within = children-within (a .transitions .now) (a .count) (p .1 .0) i e (t .0) (g .0 .0) m (g .1)
+    (h .0) (l .0 .0) (l .1) in
+    omega (arith, b .before .before .before .before .before .before .before .good .0 .0)
 
--- src/lib.rt:72:1
 run-children-returns-4 : (t : ℕ) → run-children-lts.Need-returns-4 (
   run-tree-below t,
   run-tree.Post,
@@ -332,18 +296,13 @@ run-children-returns-4 t c =
     let t = c .before .before .before .before .before .before .before .before .before .run-tree .ensures in
     let g = c .before .before .before .before .before .before .before .q .given in
     let m = g .0 .1 .0 in
-    let r : treeRan (a .transitions .now) (a .count) (a .s .now) ≡ State (g .0 .0) m = sym (t .0) ∙ g .1 in
-    let l = c .before .more .given in
     let h = c .before .before .before .run-children .ensures in
-    let f : childrenFilled (a .transitions .now) (a .count) (part (a .s .now) m) i ≡ Row (l .0 .0) =
-    sym (h .0) ∙ l .1 in
+    let l = c .before .more .given in
     let deep : a .depth < maxNodes = omega (arith, root-row (first-ahead (p .1 .0) i e)) in
-    let states = child-states (a .transitions .now) (a .count) (p .1 .0) i e (g .0 .0) m r in (
-      children-row (a .transitions .now) (a .count) (p .1 .0) i e (g .0 .0) m r (l .0 .0) f,
-      noted-next deep (omega arith) states (t .1) (h .1),
-    )
+    let states = child-states (a .transitions .now) (a .count) (p .1 .0) i e (t .0) (g .0 .0) m (g .1) in
+    let row = children-row (a .transitions .now) (a .count) (p .1 .0) i e (t .0) (g .0 .0) m (g .1) in
+    (row (h .0) (l .0 .0) (l .1), noted-next deep (omega arith) states (t .1) (h .1))
 
--- src/lib.rt:50:22
 run-tree-shared-slice-read-wide : (t : ℕ) → run-tree-lts.Need-shared-slice-read-wide (
   wide-reads.Asked,
   wide-reads.Learnt,
@@ -354,7 +313,6 @@ run-tree-shared-slice-read-wide : (t : ℕ) → run-tree-lts.Need-shared-slice-r
 ) (run-tree-at t) run-tree.Post
 run-tree-shared-slice-read-wide t c = omega (arith, root-size (c .before .before .before .pre .1 .1 .0))
 
--- src/lib.rt:50:9
 run-tree-wide-requires : (t : ℕ) → run-tree-lts.Need-wide-requires (
   wide-reads.Asked,
   wide-reads.Learnt,
@@ -365,7 +323,6 @@ run-tree-wide-requires : (t : ℕ) → run-tree-lts.Need-wide-requires (
 ) (run-tree-at t) run-tree.Post
 run-tree-wide-requires t c κs = search needs
 
--- src/lib.rt:52:9
 run-tree-sub-run-children : (t : ℕ) → run-tree-lts.Need-sub-run-children (
   wide-reads.Asked,
   wide-reads.Learnt,
@@ -376,7 +333,6 @@ run-tree-sub-run-children : (t : ℕ) → run-tree-lts.Need-sub-run-children (
 ) (run-tree-at t) run-tree.Post
 run-tree-sub-run-children t c = root-size (c .before .before .before .before .pre .1 .1 .0)
 
--- src/lib.rt:52:9
 run-tree-part-run-children-start : (t : ℕ) → run-tree-lts.Need-part-run-children-start (
   wide-reads.Asked,
   wide-reads.Learnt,
@@ -387,7 +343,6 @@ run-tree-part-run-children-start : (t : ℕ) → run-tree-lts.Need-part-run-chil
 ) (run-tree-at t) run-tree.Post
 run-tree-part-run-children-start t c = root-size (c .before .before .before .before .pre .1 .1 .0)
 
--- src/lib.rt:52:9
 run-tree-part-run-children-end : (t : ℕ) → run-tree-lts.Need-part-run-children-end (
   wide-reads.Asked,
   wide-reads.Learnt,
@@ -398,7 +353,6 @@ run-tree-part-run-children-end : (t : ℕ) → run-tree-lts.Need-part-run-childr
 ) (run-tree-at t) run-tree.Post
 run-tree-part-run-children-end t c = search needs
 
--- src/lib.rt:51:31
 run-tree-run-children-requires : (t : ℕ) → run-tree-lts.Need-run-children-requires (
   wide-reads.Asked,
   wide-reads.Learnt,
@@ -420,7 +374,6 @@ run-tree-run-children-requires t c κs =
     let falls = b .before .before .before .pre .0 in
     (omega arith, (p .0, (children-ahead (p .1 .0) k e, (p .1 .1, (omega arith, omega arith)))))
 
--- src/lib.rt:51:23
 run-tree-enum-known-len : (t : ℕ) → run-tree-lts.Need-enum-known-len (
   wide-reads.Asked,
   wide-reads.Learnt,
@@ -431,7 +384,6 @@ run-tree-enum-known-len : (t : ℕ) → run-tree-lts.Need-enum-known-len (
 ) (run-tree-at t) run-tree.Post
 run-tree-enum-known-len t c = search needs
 
--- src/lib.rt:60:9
 run-tree-enum-told : (t : ℕ) → run-tree-lts.Need-enum-told (
   wide-reads.Asked,
   wide-reads.Learnt,
@@ -442,7 +394,6 @@ run-tree-enum-told : (t : ℕ) → run-tree-lts.Need-enum-told (
 ) (run-tree-at t) run-tree.Post
 run-tree-enum-told t c = search needs
 
--- src/lib.rt:60:9
 run-tree-returns : (t : ℕ) → run-tree-lts.Need-returns (
   wide-reads.Asked,
   wide-reads.Learnt,
@@ -459,11 +410,9 @@ run-tree-returns t c =
     let k = w .result - 0 in
     let e : k ≡ getD (a .s .now) labelBytes 0 = omega (arith, w .ensures) in
     let h = c .before .before .run-children .ensures in
-    let f : childrenFilled (a .transitions .now) (a .count) (part (a .s .now) nodeBytes) k ≡ Short =
-    sym (h .0) ∙ c .enum-told .given .1 in
-    (tree-short (a .transitions .now) (a .count) (p .1 .0) k e f, h .1 .kept)
+    let short = tree-short (a .transitions .now) (a .count) (p .1 .0) k e in
+    (short (h .0) (c .enum-told .given .1), h .1 .kept)
 
--- src/lib.rt:62:52
 run-tree-shared-slice-read-find : (t : ℕ) → run-tree-lts.Need-shared-slice-read-find (
   wide-reads.Asked,
   wide-reads.Learnt,
@@ -478,7 +427,6 @@ run-tree-shared-slice-read-find t c =
     let p = b .before .before .before .before .before .before .pre .1 in
     omega (arith, root-size (p .1 .0))
 
--- src/lib.rt:62:65
 run-tree-mul-find : (t : ℕ) → run-tree-lts.Need-mul-find (
   wide-reads.Asked,
   wide-reads.Learnt,
@@ -489,7 +437,6 @@ run-tree-mul-find : (t : ℕ) → run-tree-lts.Need-mul-find (
 ) (run-tree-at t) run-tree.Post
 run-tree-mul-find t c = search needs
 
--- src/lib.rt:62:65
 run-tree-element-copy-out-find : (t : ℕ) → run-tree-lts.Need-element-copy-out-find (
   wide-reads.Asked,
   wide-reads.Learnt,
@@ -504,7 +451,6 @@ run-tree-element-copy-out-find t c =
     let p = b .before .before .before .before .before .before .pre .1 in
     omega (arith, root-row (p .1 .0))
 
--- src/lib.rt:62:27
 run-tree-find-requires : (t : ℕ) → run-tree-lts.Need-find-requires (
   wide-reads.Asked,
   wide-reads.Learnt,
@@ -520,7 +466,6 @@ run-tree-find-requires t c κs =
     let w = c .before .before .before .before .before .before .before .before .wide in
     (p .0 .runs, omega (arith, root-arity (p .1 .0), w .ensures))
 
--- src/lib.rt:62:22
 run-tree-enum-known-q : (t : ℕ) → run-tree-lts.Need-enum-known-q (
   wide-reads.Asked,
   wide-reads.Learnt,
@@ -531,7 +476,6 @@ run-tree-enum-known-q : (t : ℕ) → run-tree-lts.Need-enum-known-q (
 ) (run-tree-at t) run-tree.Post
 run-tree-enum-known-q t c = search needs
 
--- src/lib.rt:63:9
 run-tree-enum-told-2 : (t : ℕ) → run-tree-lts.Need-enum-told-2 (
   wide-reads.Asked,
   wide-reads.Learnt,
@@ -542,7 +486,6 @@ run-tree-enum-told-2 : (t : ℕ) → run-tree-lts.Need-enum-told-2 (
 ) (run-tree-at t) run-tree.Post
 run-tree-enum-told-2 t c = search needs
 
--- src/lib.rt:63:9
 run-tree-returns-2 : (t : ℕ) → run-tree-lts.Need-returns-2 (
   wide-reads.Asked,
   wide-reads.Learnt,
@@ -560,12 +503,9 @@ run-tree-returns-2 t c =
     let e : k ≡ getD (a .s .now) labelBytes 0 = omega (arith, w .ensures) in
     let h = c .before .before .before .before .before .before .before .before .run-children .ensures in
     let l = c .before .before .before .before .before .before .len .given in
-    let f : childrenFilled (a .transitions .now) (a .count) (part (a .s .now) nodeBytes) k ≡ Row (l .0 .0) =
-    sym (h .0) ∙ l .1 in
-    let none = ap foundState (sym (c .enum-told2 .given .1)) ∙ c .before .before .find .ensures .0 in
-    (tree-lost (a .transitions .now) (a .count) (p .1 .0) k e (l .0 .0) f _ (h .1 .row) none, h .1 .kept)
+    let lost = tree-lost (a .transitions .now) (a .count) (p .1 .0) k e (h .0) (l .0 .0) (l .1) (h .1 .row) in
+    (lost (c .before .before .find .ensures .0) (c .enum-told2 .given .1), h .1 .kept)
 
--- src/lib.rt:67:14
 run-tree-add-t13 : (t : ℕ) → run-tree-lts.Need-add-t13 (
   wide-reads.Asked,
   wide-reads.Learnt,
@@ -583,15 +523,9 @@ run-tree-add-t13 t c =
     let e : k ≡ getD (a .s .now) labelBytes 0 = omega (arith, w .ensures) in
     let h = c .before .before .before .before .before .before .before .before .before .run-children .ensures in
     let l = c .before .before .before .before .before .before .before .len .given in
-    let f : childrenFilled (a .transitions .now) (a .count) (part (a .s .now) nodeBytes) k ≡ Row (l .0 .0) =
-    sym (h .0) ∙ l .1 in
-    let size = root-size (p .1 .0) in
-    let less = part-length (a .s .now) nodeBytes in
-    let within = ahead-within (children-ahead (p .1 .0) k e) in
-    let good = b .before .before .before .before .before .before .before .before .good .0 .0 in
-    omega (arith, filled-row _ _ (l .0 .0) f .1)
+    let within = tree-within (a .transitions .now) (a .count) (p .1 .0) k e (h .0) (l .0 .0) (l .1) in
+    omega (arith, b .before .before .before .before .before .before .before .before .good .0 .0)
 
--- src/lib.rt:37:1
 run-tree-returns-3 : (t : ℕ) → run-tree-lts.Need-returns-3 (
   wide-reads.Asked,
   wide-reads.Learnt,
@@ -609,13 +543,11 @@ run-tree-returns-3 t c =
     let e : k ≡ getD (a .s .now) labelBytes 0 = omega (arith, w .ensures) in
     let h = c .before .before .before .before .before .before .before .before .before .run-children .ensures in
     let l = c .before .before .before .before .before .before .before .len .given in
-    let f : childrenFilled (a .transitions .now) (a .count) (part (a .s .now) nodeBytes) k ≡ Row (l .0 .0) =
-    sym (h .0) ∙ l .1 in
+    let f = c .before .before .before .find .ensures in
     let q = c .before .q .given in
-    let state = ap foundState (sym (q .1)) ∙ c .before .before .before .find .ensures .0 in
-    let found = ap isFound (sym (q .1)) ∙ c .before .before .before .find .ensures .1 in
-    let answer = tree-state (a .transitions .now) (a .count) (p .1 .0) k e (l .0 .0) f _ (h .1 .row) (p .0) in
-    (answer (q .0 .0) state found, h .1 .kept)
+    let state = tree-state (a .transitions .now) (a .count) (p .1 .0) k e (h .0) (l .0 .0) (l .1) (h .1 .row)
+    (p .0) in
+    (state (q .0 .0) (f .0) (f .1) (q .1), h .1 .kept)
 
 pub +run-children+run-tree-spec : {M : Type 1} → statement M
 +run-children+run-tree-spec = close μ-run-children μ-run-tree (λ t. run-children-lts.spec (
