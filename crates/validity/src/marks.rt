@@ -16,7 +16,6 @@ pub const MARK_COUNT: usize = 256;
 
 // Whether the states from one up to, not including, another are all marked.
 pub fn all_marked(marks: &[u8; MARK_COUNT], from: usize, end: usize) -> bool
-    requires { ⌜ from ≤ end ⌝ }
     requires { ⌜ end ≤ markCount ⌝ }
     ensures { λ r. ⌜ r ≡ every (marked (now (marks .entry))) (upFrom from (end - from)) ⌝ }
 {

@@ -1,5 +1,6 @@
+use mathlib.Core.Path.{refl}
 use native.Mathlib.Omega.{arith}
-use Prim.Native.Nat.{_-_}
+use Prim.Native.Nat.{_-_, _+_, _≤_}
 use Rattle.lists.specs.Positions.{upFrom}
 use Rattle.lists.specs.Tests.{every}
 use Rattle.marking.specs.Marks.{marked}
@@ -12,14 +13,15 @@ use Rattle.validity.proofs.marks.all_marked.Reads as reads
 use Rattle.validity.proofs.marks.all_marked.Lts as lts
 
 abbrev Inv-loop : tie.InvT-loop
-Inv-loop marks from end q₀ q = EveryFrom (every (marked marks) (upFrom from (end - from))) (marked marks) end q
+Inv-loop marks from end q₀ q =
+    (from ≤ q) × EveryFrom (every (marked marks) (upFrom from (end - from))) (marked marks) (from + (end - from)) q
 
 abbrev μ-loop : tie.MeasureT-loop
 μ-loop marks from end q₀ q = end - q
 
 -- src/marks.rt:24:5
 loop-holds : tie.Need-loop-holds Inv-loop μ-loop
-loop-holds c = every-start (c .args .end - (c .args) .from) (omega arith)
+loop-holds c = (omega arith, every-start (c .args .end - (c .args) .from) refl)
 
 -- src/marks.rt:25:12
 element-copy-out-if1 : tie.Need-element-copy-out-if1 Inv-loop μ-loop
@@ -27,7 +29,8 @@ element-copy-out-if1 c = search needs
 
 -- src/marks.rt:26:13
 returns : tie.Need-returns Inv-loop μ-loop
-returns c = every-broken (c .before .before .before .loop .inv) (omega arith) (nonzero-false _ (c .if1 .taken))
+returns c =
+    every-broken (c .before .before .before .loop .inv .1) (omega arith) (nonzero-false _ (c .if1 .taken))
 
 -- src/marks.rt:28:9
 add-q : tie.Need-add-q Inv-loop μ-loop
@@ -39,11 +42,12 @@ loop-less c = search needs
 
 -- src/marks.rt:24:5
 loop-again : tie.Need-loop-again Inv-loop μ-loop
-loop-again c = every-next (c .before .before .before .loop .inv) (omega arith) (nonzero-true _ (c .if1 .left))
+loop-again c =
+    (omega arith, every-next (c .before .before .before .loop .inv .1) (omega arith) (nonzero-true _ (c .if1 .left)))
 
 -- src/marks.rt:18:1
 returns-2 : tie.Need-returns-2 Inv-loop μ-loop
-returns-2 c = every-end (c .before .loop .inv) (omega arith)
+returns-2 c = every-end (c .before .loop .inv .1) (omega arith)
 
 pub all-marked-spec : {M : Type 1} → statement M
 all-marked-spec =
