@@ -1,0 +1,122 @@
+-- Loops that fill eight bytes, look for the first that passes, and store eight bytes in an array.
+use mathlib.Core.Bool.{Bool, _||_, false}
+use mathlib.Core.List.{List, [], _∷_, map}
+use mathlib.Core.Path.{_∙_, _≡_, ap, refl, subst, sym}
+use Prim.Native.Nat.{_*_, _+_, _<_, _≤_, suc, zero, ℕ}
+use native.Mathlib.Nat.{zero-add}
+use native.Mathlib.Omega.{arith}
+use lib.Dec.{eqb}
+use lib.ListN.{getD, length, length-set, replicate, set, take}
+use lib.Seq.{ext-getD, getD-set-other, getD-set-same, getD-take, length-take-le}
+use borrow.Author.Count.{below-more}
+use borrow.Author.Tests.{eq-eqb, ne-eqb}
+use Rattle.format.specs.Format.{maxArity}
+use Rattle.lists.specs.Positions.{upFrom}
+use Rattle.lists.specs.Tests.{any, every}
+use Rattle.subtrees.specs.Steps.{ChildrenStored, Filled, sameChild, sameNode}
+use Rattle.subtrees.specs.Store.{childAt}
+use Rattle.lists.proofs.Intervals.{length-tabulated, tabulated}
+use Rattle.lists.proofs.Loops.{tabulated-at}
+
+-- ---- eight bytes, filled from the first
+
+module _ {f : ℕ → ℕ} where
+  pub filled-start : Filled f 0 (replicate maxArity 0)
+  filled-start = record {
+    size = refl;
+    filled = λ k h. absurd (omega arith);
+    beyond = λ k h. zeros maxArity k;
+  }
+    where
+      zeros : (n k : ℕ) → _≡_ {A = ℕ} (getD (replicate n 0) k 0) 0
+      zeros zero k = refl
+      zeros (suc n) zero = refl
+      zeros (suc n) (suc k) = zeros n k
+
+  pub filled-next : {k : ℕ} {r : List ℕ} → Filled f k r → k < maxArity → Filled f (k + 1) (set r k (f k))
+  filled-next {k} {r} inv h = record {
+    size = length-set r k (f k) ∙ inv .size;
+    filled = below-more (λ j. getD (set r k (f k)) j 0 ≡ f j) k
+        (λ j l. getD-set-other r k j (f k) 0 (λ e. omega arith) ∙ inv .filled j l)
+        (getD-set-same r k (f k) 0 (omega (arith, inv .size)));
+    beyond = λ j l. getD-set-other r k j (f k) 0 (λ e. omega arith) ∙ inv .beyond j (omega arith);
+  }
+
+  pub filled-at : {k n : ℕ} {r : List ℕ} → Filled f k r → k ≡ n → Filled f n r
+  filled-at {k} {n} {r} inv e = subst (λ (m : ℕ). Filled f m r) e inv
+
+  pub filled-end : {k n : ℕ} {r : List ℕ} → Filled f k r → k ≤ n → n ≤ k → Filled f n r
+  filled-end inv h l = filled-at inv (omega arith)
+
+-- the first n of eight bytes are the first n values
+pub filled-take : {f : ℕ → ℕ} {n : ℕ} {r : List ℕ} → Filled f n r → n ≤ maxArity → take n r ≡ map f (upFrom 0 n)
+filled-take {f} {n} {r} inv h =
+    ext-getD 0 (take n r) (map f (upFrom 0 n)) (size ∙ sym (length-tabulated f 0 n))
+    (λ k l. let b : k < n = omega (arith, size) in
+    getD-take n r k 0 b ∙ inv .filled k b ∙ sym (tabulated-at f 0 n k 0 b ∙ ap f (zero-add k)))
+  where
+    size : length (take n r) ≡ n
+    size = length-take-le n r (omega (arith, inv .size))
+
+-- ---- a test over the first bytes
+
+-- byte k is 0
+abbrev pub noneAt : List ℕ → ℕ → Bool
+noneAt s k = eqb 0 (getD s k 0)
+
+pub any-take : (n : ℕ) (s : List ℕ) → n ≤ length s → any (noneAt s) (upFrom 0 n) ≡ any (eqb 0) (take n s)
+any-take n s h = any-map (upFrom 0 n) ∙ ap (any (eqb 0)) (tabulated-take n s h)
+  where
+    any-map : (xs : List ℕ) → any (noneAt s) xs ≡ any (eqb 0) (map (λ k. getD s k 0) xs)
+    any-map [] = refl
+    any-map (x ∷ xs) = ap (λ b. noneAt s x || b) (any-map xs)
+
+    tabulated-take : (n : ℕ) (s : List ℕ) → n ≤ length s → map (λ k. getD s k 0) (upFrom 0 n) ≡ take n s
+    tabulated-take n s h = tabulated (λ k. getD s k 0) 0 n 0 (take n s) (length-take-le n s h)
+        (λ k l. ap (λ i. getD s i 0) (zero-add k) ∙ sym (getD-take n s k 0 l))
+
+-- ---- a node is compared by its label, its number of children and its children
+
+module _ (l r c : List ℕ) (a n : ℕ) (ns : List ℕ) (j : ℕ) where
+  pub other-label : (getD l j 0 ≡ a → ⊥) → false ≡ sameNode l r c a n ns j
+  other-label h = rw (ne-eqb (getD l j 0) a h)
+
+  pub other-arity : getD l j 0 ≡ a → (getD r j 0 ≡ n → ⊥) → false ≡ sameNode l r c a n ns j
+  other-arity e h = rw (eq-eqb (getD l j 0) a e, ne-eqb (getD r j 0) n h)
+
+  pub by-children : (b : Bool) (m : ℕ) → getD l j 0 ≡ a → getD r j 0 ≡ n → m ≡ n →
+      b ≡ every (sameChild c j ns) (upFrom 0 m) → b ≡ sameNode l r c a n ns j
+  by-children b m e d z q =
+      q ∙ rw (eq-eqb (getD l j 0) a e, eq-eqb (getD r j 0) n d) (ap (λ i. every (sameChild c j ns) (upFrom 0 i)) z)
+
+-- ---- eight bytes stored behind others
+
+-- the first k of the child numbers of index j are stored
+pub record StoredTo (c : List ℕ) (j : ℕ) (ns c' : List ℕ) (k : ℕ) : Type 0 where
+  pub within : k ≤ maxArity
+  pub size : length c' ≡ length c
+  pub stored : (i : ℕ) → i < k → childAt c' j i ≡ getD ns i 0
+  pub before : (i : ℕ) → i < maxArity * j → getD c' i 0 ≡ getD c i 0
+
+pub stored-start : (c : List ℕ) (j : ℕ) (ns : List ℕ) → StoredTo c j ns c 0
+stored-start c j ns = record {
+  within = omega arith;
+  size = refl;
+  stored = λ i h. absurd (omega arith);
+  before = λ i h. refl;
+}
+
+module _ {c : List ℕ} {j : ℕ} {ns c' : List ℕ} {k : ℕ} (inv : StoredTo c j ns c' k) where
+  pub stored-next : maxArity * j + k < length c → k < maxArity →
+      StoredTo c j ns (set c' (maxArity * j + k) (getD ns k 0)) (k + 1)
+  stored-next h l = let v = getD ns k 0 in let at = maxArity * j + k in record {
+    within = omega arith;
+    size = length-set c' at v ∙ inv .size;
+    stored = below-more (λ i. childAt (set c' at v) j i ≡ getD ns i 0) k
+        (λ i m. getD-set-other c' at (maxArity * j + i) v 0 (λ e. omega arith) ∙ inv .stored i m)
+        (getD-set-same c' at v 0 (omega (arith, inv .size)));
+    before = λ i m. getD-set-other c' at i v 0 (λ e. omega arith) ∙ inv .before i m;
+  }
+
+  pub stored-end : maxArity ≤ k → ChildrenStored c j ns c'
+  stored-end h = record { size = inv .size; stored = λ i l. inv .stored i (omega arith); before = inv .before }

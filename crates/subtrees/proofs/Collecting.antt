@@ -1,0 +1,263 @@
+-- The pass over the nodes: the trees from node i on are those of the numbers on the stack, and the arrays hold
+-- their distinct subtrees.
+use mathlib.Core.Bool.{Bool, cond, false, true}
+use mathlib.Core.List.{List, [], _++_, _∷_}
+use mathlib.Core.Path.{_∙_, _≡_, ap, ap₂, refl, subst, sym}
+use Prim.Native.Nat.{_+_, _-_, _<_, _≤_, suc, ℕ}
+use native.Mathlib.Omega.{arith}
+use lib.ListN.{drop, drop-of-length-le, getD, length, length-drop, length-set, set, take}
+use lib.Seq.{drop-cons, drop-drop, drop-set-lt, ext-getD, getD-drop, getD-set-same, getD-take, length-take-le}
+use Rattle.automata.specs.Automaton.{Automaton, Transition}
+use Rattle.automata.specs.Change.{subtrees}
+use Rattle.format.specs.Format.{maxArity, maxNodes}
+use Rattle.lists.specs.Closure.{elem}
+use Rattle.subtrees.specs.Steps.{Children, Entered, Filled, Numbered, Sized, addLast, byteFrom}
+use Rattle.subtrees.specs.Store.{Lists, Stored, bottomUp, foundIn, treeNumbered, treesNumbered}
+use Rattle.table.specs.Layout.{transitionsIn}
+use Rattle.trees.specs.Listing.{childrenAt, firstTrees, labelAt, laterTrees, nodesIn, readTree, readTrees}
+use Rattle.trees.specs.Tree.{Forest, Tree, cons, count, eqTree, nil, node}
+use Rattle.subtrees.proofs.Numbers.{Among, among-drop, among-index, among-more, numbered-append}
+use Rattle.subtrees.proofs.Numbers.{numbered-count, numbered-first, numbered-later}
+use Rattle.subtrees.proofs.Orders.{found-node, in-reverse, reverse-in}
+use Rattle.subtrees.proofs.Suffixes.{Passed, children-there, nodes-end, nodesFrom, read-next, read-whole}
+
+-- the label and the number of children of the node before node i
+abbrev pub labelBefore : List ℕ → ℕ → ℕ
+labelBefore s i = labelAt s (i - 1)
+
+abbrev pub arityBefore : List ℕ → ℕ → ℕ
+arityBefore s i = childrenAt s (i - 1)
+
+-- the subtrees found from node i on
+abbrev pub foundFrom : List ℕ → ℕ → List Tree
+foundFrom s i = foundIn (readTrees (nodesFrom s i))
+
+pub record Collecting (s run : List ℕ) (many i top found : ℕ) (stack l r c q : List ℕ) : Type 0 where
+  pub left : i ≤ nodesIn s
+  pub below : i ≤ top
+  pub within : top ≤ maxNodes
+  pub room : found + i ≤ maxNodes
+  pub stacked : length stack ≡ maxNodes
+  pub sized : Sized l r c q
+  pub numbers : Among found (drop top stack)
+  pub trees : readTrees (nodesFrom s i) ≡ treesNumbered (foundFrom s i) (drop top stack)
+  pub stored : (A : Automaton) → A .transitions ≡ transitionsIn run many → Stored A (foundFrom s i) found l r c q
+
+nothing-stored : (A : Automaton) (l r c q : List ℕ) → Stored A [] 0 l r c q
+nothing-stored A l r c q = record {
+  size = refl;
+  distinct = tt;
+  tree = λ j h. absurd (omega arith);
+  narrow = λ j h. absurd (omega arith);
+  child-some = λ j k h. absurd (omega arith);
+  child-before = λ j k h. absurd (omega arith);
+  child-beyond = λ j k h. absurd (omega arith);
+  state = λ j h. absurd (omega arith);
+}
+
+pub collecting-start : {s : List ℕ} → Passed s → (run : List ℕ) (many : ℕ) {l r c q : List ℕ} → Sized l r c q →
+    {stack : List ℕ} → length stack ≡ maxNodes → Collecting s run many (nodesIn s) maxNodes 0 stack l r c q
+collecting-start {s} ok run many {l} {r} {c} {q} sz {stack} e =
+    let z = ap readTrees (nodes-end ok) in
+    let d = drop-of-length-le stack {i = maxNodes} (omega arith) in
+    record {
+      left = omega arith;
+      below = ok .short;
+      within = omega arith;
+      room = omega (arith, ok .short);
+      stacked = e;
+      sized = sz;
+      numbers = rw d tt;
+      trees = rw (d, z);
+      stored = λ A h. rw z (nothing-stored A l r c q);
+    }
+
+-- the automaton of the run's transitions alone
+abbrev bare : List Transition → Automaton
+bare τs = record { classes = []; transitions = τs }
+
+popped-take : (s : List ℕ) (at k : ℕ) {r : List ℕ} → Filled (byteFrom s at) k r → k ≤ maxArity →
+    at + k ≤ length s → take k r ≡ take k (drop at s)
+popped-take s at k {r} f h b =
+    ext-getD 0 (take k r) (take k (drop at s)) (size ∙ sym other)
+    (λ i l. let m : i < k = omega (arith, size) in
+    getD-take k r i 0 m ∙ f .filled i m ∙ sym (getD-take k (drop at s) i 0 m ∙ getD-drop at s i 0))
+  where
+    size : length (take k r) ≡ k
+    size = length-take-le k r (omega (arith, f .size))
+
+    other : length (take k (drop at s)) ≡ k
+    other = length-take-le k (drop at s) (omega (arith, length-drop at s))
+
+-- a tree put behind a list changes none of its numbers
+numbered-last : (ts : List Tree) (t : Tree) (ns : List ℕ) → Among (length ts) ns →
+    treesNumbered (addLast ts t) ns ≡ treesNumbered ts ns
+numbered-last ts t ns w = go (elem eqTree t ts)
+  where
+    go : (b : Bool) → treesNumbered (cond b ts (ts ++ (t ∷ []))) ns ≡ treesNumbered ts ns
+    go true = refl
+    go false = numbered-append ts (t ∷ []) ns w
+
+drop-set : (s : List ℕ) (p v : ℕ) → p < length s → drop p (set s p v) ≡ v ∷ drop (p + 1) s
+drop-set s p v h =
+    drop-cons (set s p v) p 0 (rw (length-set s p v) h) ∙
+    (let z : suc p ≡ p + 1 = omega arith in
+    rw (getD-set-same s p v 0 h, z, drop-set-lt (p + 1) s p v (omega arith)))
+
+module _ {s run : List ℕ} {many i top found : ℕ} {stack l r c q : List ℕ}
+    (inv : Collecting s run many i top found stack l r c q) where
+  pub collecting-at : (j : ℕ) → i ≡ j → Collecting s run many j top found stack l r c q
+  collecting-at j e = subst (λ (n : ℕ). Collecting s run many n top found stack l r c q) e inv
+
+  found-length : length (foundFrom s i) ≡ found
+  found-length = inv .stored (bare (transitionsIn run many)) refl .size
+
+  stack-length : length (drop top stack) ≡ maxNodes - top
+  stack-length = length-drop top stack ∙ ap (λ n. n - top) (inv .stacked)
+
+  trees-count : count (readTrees (nodesFrom s i)) ≡ maxNodes - top
+  trees-count = ap count (inv .trees) ∙ numbered-count (foundFrom s i) (drop top stack) ∙ stack-length
+
+-- the node before those that are done
+module _ {s run : List ℕ} {many i top found : ℕ} {stack l r c q : List ℕ} (ok : Passed s)
+    (done : Collecting s run many i top found stack l r c q) (more : 0 < i) where
+  inv : Collecting s run many (i - 1 + 1) top found stack l r c q
+  inv = collecting-at done (i - 1 + 1) (omega arith)
+
+  pub pop-room : top + arityBefore s i ≤ maxNodes
+  pop-room = omega (arith, children-there ok (i - 1) (omega (arith, inv .left)), trees-count inv, inv .within)
+
+  pub pop-narrow : arityBefore s i ≤ maxArity
+  pop-narrow = ok .narrow (i - 1) (omega (arith, inv .left))
+
+  module _ {ns : List ℕ} (filled : Filled (byteFrom stack top) (arityBefore s i) ns) where
+    pub pop-children : Children ns (arityBefore s i) found
+    pop-children = record {
+      narrow = pop-narrow;
+      some = λ k b. rw (at k b) (among k b .0);
+      known = λ k b. rw (at k b) (among k b .1);
+      beyond = filled .beyond;
+    }
+      where
+        at : (k : ℕ) → k < arityBefore s i → getD ns k 0 ≡ getD (drop top stack) k 0
+        at k b = filled .filled k b ∙ sym (getD-drop top stack k 0)
+
+        among : (k : ℕ) → k < arityBefore s i → (1 ≤ getD (drop top stack) k 0) × (getD (drop top stack) k 0 ≤ found)
+        among k b =
+            among-index found (drop top stack) (inv .numbers) k (omega (arith, stack-length inv, pop-room))
+
+    -- the node's number takes the place of its children's
+    module _ {m num : ℕ} (given : Numbered found m num) {l' r' c' q' : List ℕ} (sz : Sized l' r' c' q')
+        (holds : (A : Automaton) (ts : List Tree) → A .transitions ≡ transitionsIn run many →
+        Stored A ts found l r c q →
+        Entered A ts (node (labelBefore s i) (treesNumbered ts (take (arityBefore s i) ns))) m num l' r' c' q') where
+      abbrev place : ℕ
+      place = top + arityBefore s i - 1
+
+      abbrev before : List Tree
+      before = foundFrom s (i - 1 + 1)
+
+      abbrev entrant : Tree
+      entrant = node (labelBefore s i) (treesNumbered before (take (arityBefore s i) ns))
+
+      children : treesNumbered before (take (arityBefore s i) ns) ≡
+          firstTrees (arityBefore s i) (readTrees (nodesFrom s (i - 1 + 1)))
+      children =
+          ap (treesNumbered before)
+          (popped-take stack top (arityBefore s i) filled pop-narrow (omega (arith, pop-room, inv .stacked))) ∙
+          sym (numbered-first before (arityBefore s i) (drop top stack)) ∙
+          ap (firstTrees (arityBefore s i)) (sym (inv .trees))
+
+      found-next : foundFrom s (i - 1) ≡ addLast before entrant
+      found-next =
+          ap foundIn (read-next ok (i - 1) (omega (arith, inv .left))) ∙
+          found-node (labelBefore s i) (arityBefore s i) (readTrees (nodesFrom s (i - 1 + 1))) ∙
+          ap (λ f. addLast before (node (labelBefore s i) f)) (sym children)
+
+      dropped : drop place (set stack place num) ≡ num ∷ drop (arityBefore s i) (drop top stack)
+      dropped =
+          let z : place + 1 ≡ top + arityBefore s i = omega (arith, inv .below) in
+          drop-set stack place num (omega (arith, pop-room, inv .stacked, inv .below)) ∙
+          ap (λ n. num ∷ drop n stack) z ∙ ap (λ ns. num ∷ ns) (sym (drop-drop (arityBefore s i) top stack))
+
+      later : Among found (drop (arityBefore s i) (drop top stack))
+      later = among-drop found (arityBefore s i) (drop top stack) (inv .numbers)
+
+      trees-next : readTrees (nodesFrom s (i - 1)) ≡
+          treesNumbered (foundFrom s (i - 1)) (drop place (set stack place num))
+      trees-next =
+          read-next ok (i - 1) (omega (arith, inv .left)) ∙ (λ i. cons (first i) (rest i)) ∙
+          sym (ap₂ treesNumbered found-next dropped)
+        where
+          A : Automaton
+          A = bare (transitionsIn run many)
+
+          first : node (labelBefore s i) (firstTrees (arityBefore s i) (readTrees (nodesFrom s (i - 1 + 1)))) ≡
+              treeNumbered (addLast before entrant) num
+          first =
+              ap (node (labelBefore s i)) (sym children) ∙
+              sym (holds A before refl (inv .stored A refl) .numbered)
+
+          rest : laterTrees (arityBefore s i) (readTrees (nodesFrom s (i - 1 + 1))) ≡
+              treesNumbered (addLast before entrant) (drop (arityBefore s i) (drop top stack))
+          rest =
+              ap (laterTrees (arityBefore s i)) (inv .trees) ∙
+              numbered-later before (arityBefore s i) (drop top stack) ∙
+              sym (numbered-last before entrant (drop (arityBefore s i) (drop top stack))
+              (rw (found-length inv) later))
+
+      pub collecting-next : Collecting s run many (i - 1) place m (set stack place num) l' r' c' q'
+      collecting-next = record {
+        left = omega (arith, inv .left);
+        below = omega (arith, inv .below);
+        within = omega (arith, pop-room);
+        room = omega (arith, inv .room, given .one-more);
+        stacked = length-set stack place num ∙ inv .stacked;
+        sized = sz;
+        numbers = rw dropped (
+          (given .some, given .known),
+          among-more found m (drop (arityBefore s i) (drop top stack)) (given .grows) later,
+        );
+        trees = trees-next;
+        stored = λ A h. subst (λ (ts : List Tree). Stored A ts m l' r' c' q') (sym found-next)
+            (holds A before h (inv .stored A h) .stored);
+      }
+
+-- no node is left
+module _ {s run : List ℕ} {many top found : ℕ} {stack l r c q : List ℕ} (ok : Passed s)
+    (inv : Collecting s run many 0 top found stack l r c q) where
+  pub end-top : top < maxNodes
+  end-top = omega (arith, trees-count inv, ap count (read-whole ok))
+
+  pub collecting-end : (A : Automaton) → A .transitions ≡ transitionsIn run many →
+      Lists A (readTree s) (bottomUp (readTree s)) (record {
+        count = found;
+        root = getD stack top 0;
+        labels = l;
+        arities = r;
+        children = c;
+        states = q;
+      })
+  collecting-end A h = record {
+    few = omega (arith, inv .room);
+    stored = rw (read-whole ok) at (inv .stored A h);
+    subtree = λ x m. reverse-in (subtrees (readTree s)) x m;
+    every-subtree = λ x m. in-reverse (subtrees (readTree s)) x m;
+    root-some = root-among .0;
+    root-known = root-among .1;
+    root = sym (first-tree _ _ _ _ trees);
+  }
+    where
+      split : drop top stack ≡ getD stack top 0 ∷ drop (suc top) stack
+      split = drop-cons stack top 0 (omega (arith, end-top, inv .stacked))
+
+      root-among : (1 ≤ getD stack top 0) × (getD stack top 0 ≤ found)
+      root-among = (rw split at (inv .numbers)) .0
+
+      trees : cons (readTree s) nil ≡ treesNumbered (bottomUp (readTree s)) (getD stack top 0 ∷ drop (suc top) stack)
+      trees =
+          sym (read-whole ok) ∙ inv .trees ∙
+          ap₂ treesNumbered (ap foundIn (read-whole ok)) split
+
+      first-tree : (t u : Tree) (f g : Forest) → cons t f ≡ cons u g → t ≡ u
+      first-tree t u f g e = cc

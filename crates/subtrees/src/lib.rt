@@ -1,0 +1,289 @@
+// The distinct subtrees of a listed tree, and the state that each runs to. The nodes are gone through from the
+// last to the first: a node's children are on top of a stack of numbers, its own number takes their place.
+ghost use mathlib.Core.Path.{_≡_};
+ghost use mathlib.Core.List.{List};
+ghost use Prim.Native.Nat.{_*_, _+_, _<_, _≤_};
+ghost use lib.Dec.{eqb};
+ghost use lib.ListN.{length, take};
+ghost use Rattle.automata.specs.Automaton.{Automaton, lookup};
+ghost use Rattle.fields.specs.Fields.{Runs};
+ghost use Rattle.format.specs.Format.{maxArity, maxNodes};
+ghost use Rattle.lists.specs.Positions.{upFrom};
+ghost use Rattle.lists.specs.Tests.{any, every};
+ghost use Rattle.table.specs.Layout.{transitionsIn};
+ghost use Rattle.trees.specs.Listing.{listingRefusal, readTree};
+ghost use Rattle.trees.specs.Tree.{Tree, node};
+ghost use Rattle.subtrees.specs.Steps.{Children, ChildrenStored, Entered, Filled, First, Numbered, Sized};
+ghost use Rattle.subtrees.specs.Steps.{byteFrom, childState, sameChild, sameNode, stateFrom};
+ghost use Rattle.subtrees.specs.Store.{Lists, Stored, bottomUp, treesNumbered};
+use fields::Found;
+use fields::find;
+use fields::wide;
+use format::MAX_ARITY;
+use format::MAX_NODES;
+use format::NODE_BYTES;
+
+// A node's label comes before its child count.
+const LABEL_BYTES: usize = NODE_BYTES - 1;
+
+const CHILD_NUMBERS: usize = MAX_NODES * MAX_ARITY;
+
+// Subtree j, from 1 to count, stands at index j - 1; its child k at 8 (j - 1) + k, 0 beyond the arity.
+pub struct Subtrees {
+    pub count: usize,
+    pub root: u8,
+    pub labels: [u8; MAX_NODES],
+    pub arities: [u8; MAX_NODES],
+    pub children: [u8; CHILD_NUMBERS],
+    pub states: [u8; MAX_NODES],
+}
+
+// The number of a subtree, and how many there are with it.
+struct Place {
+    number: u8,
+    found: usize,
+}
+
+// The numbers on top of a stack that grows downwards.
+fn popped(stack: &[u8; MAX_NODES], top: usize, arity: usize) -> [u8; MAX_ARITY]
+    requires { ⌜ top + arity ≤ maxNodes ⌝ }
+    requires { ⌜ arity ≤ maxArity ⌝ }
+    ensures { λ r. ⌜ Filled (byteFrom (now (stack .entry)) top) arity r ⌝ }
+{
+    let mut numbers = [0u8; MAX_ARITY];
+    let mut k = 0;
+    while k < arity {
+        numbers[k] = stack[top + k];
+        k += 1;
+    }
+    numbers
+}
+
+// Whether the first children of the subtree at index j are those of numbers.
+fn same_children(
+    children: &[u8; CHILD_NUMBERS],
+    j: usize,
+    arity: usize,
+    numbers: [u8; MAX_ARITY],
+) -> bool
+    requires { ⌜ j < maxNodes ⌝ }
+    requires { ⌜ arity ≤ maxArity ⌝ }
+    ensures { λ r. ⌜ r ≡ every (sameChild (now (children .entry)) j numbers) (upFrom 0 arity) ⌝ }
+{
+    let mut k = 0;
+    while k < arity {
+        if children[MAX_ARITY * j + k] != numbers[k] {
+            return false;
+        }
+        k += 1;
+    }
+    true
+}
+
+// Whether the subtree at index j has this label and these children.
+fn same_node(
+    labels: &[u8; MAX_NODES],
+    arities: &[u8; MAX_NODES],
+    children: &[u8; CHILD_NUMBERS],
+    j: usize,
+    label: u8,
+    arity: u8,
+    numbers: [u8; MAX_ARITY],
+) -> bool
+    requires { ⌜ j < maxNodes ⌝ }
+    requires { ⌜ arity ≤ maxArity ⌝ }
+    ensures { λ r. ⌜ r ≡ sameNode (now (labels .entry)) (now (arities .entry)) (now (children .entry)) label arity
+        numbers j ⌝ }
+{
+    if labels[j] != label {
+        return false;
+    }
+    if arities[j] != arity {
+        return false;
+    }
+    same_children(children, j, wide(arity), numbers)
+}
+
+// The index of the subtree with this label and these children; found where there is none.
+fn search(
+    labels: &[u8; MAX_NODES],
+    arities: &[u8; MAX_NODES],
+    children: &[u8; CHILD_NUMBERS],
+    found: usize,
+    label: u8,
+    arity: u8,
+    numbers: [u8; MAX_ARITY],
+) -> usize
+    requires { ⌜ found ≤ maxNodes ⌝ }
+    requires { ⌜ arity ≤ maxArity ⌝ }
+    ensures { λ r. ⌜ First (sameNode (now (labels .entry)) (now (arities .entry)) (now (children .entry)) label arity
+        numbers) found r ⌝ }
+{
+    let mut j = 0;
+    while j < found {
+        if same_node(labels, arities, children, j, label, arity, numbers) {
+            return j;
+        }
+        j += 1;
+    }
+    found
+}
+
+// The states of the children with these numbers.
+fn child_states(states: &[u8; MAX_NODES], arity: usize, numbers: [u8; MAX_ARITY]) -> [u8; MAX_ARITY]
+    requires { ⌜ Children numbers arity maxNodes ⌝ }
+    ensures { λ r. ⌜ Filled (childState (now (states .entry)) numbers) arity r ⌝ }
+{
+    let mut args = [0u8; MAX_ARITY];
+    let mut k = 0;
+    while k < arity {
+        let n = wide(numbers[k]);
+        args[k] = states[n - 1];
+        k += 1;
+    }
+    args
+}
+
+// Whether a child has no state.
+fn some_none(arity: usize, args: [u8; MAX_ARITY]) -> bool
+    requires { ⌜ arity ≤ maxArity ⌝ }
+    ensures { λ r. ⌜ r ≡ any (eqb 0) (take arity args) ⌝ }
+{
+    let mut k = 0;
+    while k < arity {
+        if args[k] == 0 {
+            return true;
+        }
+        k += 1;
+    }
+    false
+}
+
+// The output of the first transition with this label and these arguments; 0 where there is none.
+fn output(run: &[u8], count: usize, label: u8, arity: usize, args: [u8; MAX_ARITY]) -> u8
+    requires { ⌜ Runs (now run) count ⌝ }
+    requires { ⌜ arity ≤ maxArity ⌝ }
+    ensures { λ r. ⌜ r ≡ lookup label (take arity args) (transitionsIn (now (run .entry)) count) ⌝ }
+{
+    let Found::State(q) = find(run, count, label, arity, args) else {
+        return 0;
+    };
+    q
+}
+
+// The state of a node with this label whose children have these states.
+fn state(run: &[u8], count: usize, label: u8, arity: usize, args: [u8; MAX_ARITY]) -> u8
+    requires { ⌜ Runs (now run) count ⌝ }
+    requires { ⌜ arity ≤ maxArity ⌝ }
+    ensures { λ r. ⌜ r ≡ stateFrom (transitionsIn (now (run .entry)) count) label (take arity args) ⌝ }
+{
+    if some_none(arity, args) {
+        return 0;
+    }
+    output(run, count, label, arity, args)
+}
+
+fn store_children(children: &mut [u8; CHILD_NUMBERS], j: usize, numbers: [u8; MAX_ARITY])
+    requires { ⌜ length (now children) ≡ maxNodes * maxArity ⌝ }
+    requires { ⌜ j < maxNodes ⌝ }
+    ensures { λ r. ⌜ ChildrenStored (now (children .entry)) j numbers (now (children .exit)) ⌝ }
+{
+    let mut k = 0;
+    while k < MAX_ARITY {
+        children[MAX_ARITY * j + k] = numbers[k];
+        k += 1;
+    }
+}
+
+// The number of the subtree with this label and these children, which is stored where it was not found before.
+fn enter(
+    run: &[u8],
+    count: usize,
+    labels: &mut [u8; MAX_NODES],
+    arities: &mut [u8; MAX_NODES],
+    children: &mut [u8; CHILD_NUMBERS],
+    states: &mut [u8; MAX_NODES],
+    found: usize,
+    label: u8,
+    arity: u8,
+    numbers: [u8; MAX_ARITY],
+) -> Place
+    requires { ⌜ Runs (now run) count ⌝ }
+    requires { ⌜ Sized (now labels) (now arities) (now children) (now states) ⌝ }
+    requires { ⌜ found < maxNodes ⌝ }
+    requires { ⌜ Children numbers arity found ⌝ }
+    ensures { λ r. ⌜ Sized (now (labels .exit)) (now (arities .exit)) (now (children .exit)) (now (states .exit)) ⌝ }
+    ensures { λ r. ⌜ Numbered found (r .found) (r .number) ⌝ }
+    ensures { λ r. ⌜ ((A : Automaton) (ts : List Tree) → A .transitions ≡ transitionsIn (now (run .entry)) count →
+        Stored A ts found (now (labels .entry)) (now (arities .entry)) (now (children .entry)) (now (states .entry)) →
+        Entered A ts (node label (treesNumbered ts (take arity numbers))) (r .found) (r .number)
+        (now (labels .exit)) (now (arities .exit)) (now (children .exit)) (now (states .exit))) ⌝ }
+{
+    let j = search(labels, arities, children, found, label, arity, numbers);
+    if j < found {
+        let old = (j + 1) as u8;
+        return Place {
+            number: old,
+            found: found,
+        };
+    }
+    let width = wide(arity);
+    let args = child_states(states, width, numbers);
+    let q = state(run, count, label, width, args);
+    labels[found] = label;
+    arities[found] = arity;
+    store_children(children, found, numbers);
+    states[found] = q;
+    let new = (found + 1) as u8;
+    Place {
+        number: new,
+        found: found + 1,
+    }
+}
+
+// The distinct subtrees of the tree that is listed, and their states over the transitions of a run.
+pub fn collect(tree: &[u8], run: &[u8], count: usize) -> Subtrees
+    requires { ⌜ listingRefusal (now tree) ≡ 0 ⌝ }
+    requires { ⌜ Runs (now run) count ⌝ }
+    ensures { λ r. ⌜ ((A : Automaton) → A .transitions ≡ transitionsIn (now (run .entry)) count →
+        Lists A (readTree (now (tree .entry))) (bottomUp (readTree (now (tree .entry)))) r) ⌝ }
+{
+    let mut labels = [0u8; MAX_NODES];
+    let mut arities = [0u8; MAX_NODES];
+    let mut children = [0u8; CHILD_NUMBERS];
+    let mut states = [0u8; MAX_NODES];
+    let mut stack = [0u8; MAX_NODES];
+    let mut top = MAX_NODES;
+    let mut found = 0;
+    let mut i = tree.len() / NODE_BYTES;
+    while i > 0 {
+        i -= 1;
+        let label = tree[NODE_BYTES * i];
+        let arity = tree[NODE_BYTES * i + LABEL_BYTES];
+        let width = wide(arity);
+        let numbers = popped(&stack, top, width);
+        let place = enter(
+            run,
+            count,
+            &mut labels,
+            &mut arities,
+            &mut children,
+            &mut states,
+            found,
+            label,
+            arity,
+            numbers,
+        );
+        found = place.found;
+        top = top + width - 1;
+        stack[top] = place.number;
+    }
+    Subtrees {
+        count: found,
+        root: stack[top],
+        labels: labels,
+        arities: arities,
+        children: children,
+        states: states,
+    }
+}
