@@ -1,0 +1,11 @@
+pub mod Scan
+pub mod Labels
+pub mod Text
+pub mod Places
+pub mod Forms
+pub mod Laws
+pub mod Heads
+pub mod Sizes
+pub mod Readers
+pub mod Lines
+pub mod Samples

@@ -1,0 +1,129 @@
+-- Scanning and the grammar: the text of a tree is scanned to its end, and what was scanned up to a place is the text
+-- that stands before it.
+use mathlib.Core.Bool.{false, true}
+use mathlib.Core.List.{List, [], _++_, _∷_, append-assoc}
+use mathlib.Core.Logic.{_⊎_, inl, inr}
+use mathlib.Core.Path.{_∙_, _≡_, ap, refl, subst}
+use Prim.Native.Nat.{_%_, _+_, _-_, _/_, _<_, _≤_, suc, ℕ}
+use native.Mathlib.Nat.{add-zero}
+use native.Mathlib.Numerals.{add-one}
+use native.Mathlib.Omega.{arith}
+use lib.Dec.{ltb}
+use lib.ListN.{length, length-append}
+use borrow.Author.Tests.{le-leb, lt-ltb, ltb-false, ltb-true}
+use Rattle.format.specs.Format.{maxLabel}
+use Rattle.text.specs.Grammar.{AllLabelled, Labelled, childrenText, closeBracket, digit, labelText}
+use Rattle.text.specs.Grammar.{openBracket, treeText}
+use Rattle.text.specs.Reader.{Open, among, behind, expecting, extended, naming, next, onward, scan}
+use Rattle.trees.specs.Tree.{Forest, Tree, _⧺_, cons, nil, node}
+use Rattle.lists.proofs.Tests.{test}
+use Rattle.text.proofs.Labels.{Extends, label-extended, true-extends}
+use Rattle.trees.proofs.Trees.{snoc-append}
+
+-- ---- the text of a tree is scanned to its end
+
+module _ (os : List Open) where
+  -- the text of a label is scanned
+  abbrev pub Scanned : ℕ → Type 0
+  Scanned a = (s : List ℕ) (n : ℕ) →
+      scan (labelText a ++ s) n (expecting [] os) ≡ scan s (n + length (labelText a)) (naming a os)
+
+  scanned-digit : (a : ℕ) → a < 10 → Scanned a
+  unfolding scan next labelText
+  scanned-digit a h s n =
+      let e : digit a - digit 0 ≡ a = omega arith in
+      rw (lt-ltb a 10 h, le-leb (digit 0) (digit a) (omega arith), le-leb (digit a) (digit 9) (omega arith), e, add-one n)
+
+  scanned-more : (a b : ℕ) → Extends a b → Scanned a → Scanned (extended a b)
+  unfolding scan next
+  scanned-more a b x ih s n =
+      let e : n + (length (labelText a) + 1) ≡ suc (n + length (labelText a)) = omega arith in
+      rw (label-extended a b x, append-assoc (labelText a) (b ∷ []) s, length-append (labelText a) (b ∷ []), e)
+      (ih (b ∷ s) n ∙ rw (true-extends a b x))
+
+  last-digit : (a : ℕ) → 10 ≤ a → a ≤ maxLabel → Extends (a / 10) (digit (a % 10)) × (extended (a / 10) (digit (a % 10)) ≡ a)
+  last-digit a h k =
+      let e : extended (a / 10) (digit (a % 10)) ≡ a = omega arith in
+      (record { low = omega arith; high = omega arith; nonzero = omega arith; fits = omega arith }, e)
+
+  -- a number is scanned where that without its last digit is
+  scanned-last : (a : ℕ) → 10 ≤ a → a ≤ maxLabel → Scanned (a / 10) → Scanned a
+  scanned-last a h k ih =
+      let d = last-digit a h k in
+      subst Scanned (d .1) (scanned-more (a / 10) (digit (a % 10)) (d .0) ih)
+
+  pub scan-label : (a : ℕ) → a ≤ maxLabel → Scanned a
+  scan-label a k = go (test (ltb a 10)) (test (ltb a 100))
+    where
+      go : (ltb a 10 ≡ true) ⊎ (ltb a 10 ≡ false) → (ltb a 100 ≡ true) ⊎ (ltb a 100 ≡ false) → Scanned a
+      go (inl h) r = scanned-digit a (ltb-true a 10 h)
+      go (inr h) (inl l) =
+          let h' = ltb-false a 10 h in
+          let l' = ltb-true a 100 l in
+          scanned-last a h' k (scanned-digit (a / 10) (omega arith))
+      go (inr h) (inr l) =
+          let l' = ltb-false a 100 l in
+          scanned-last a (ltb-false a 10 h) k
+          (scanned-last (a / 10) (omega arith) (omega arith) (scanned-digit (a / 10 / 10) (omega arith)))
+
+append-none : (f : Forest) → f ⧺ nil ≡ f
+append-none nil = refl
+append-none (cons t f) = ap (cons t) (append-none f)
+
+-- behind a label children are read as behind a child
+naming-children : (f : Forest) (s : List ℕ) (n a : ℕ) (os : List Open) →
+    scan (childrenText f ++ (closeBracket ∷ s)) n (naming a os) ≡
+    scan (childrenText f ++ (closeBracket ∷ s)) n (among a nil os)
+unfolding scan next
+naming-children nil s n a os = refl
+naming-children (cons t f) s n a os = refl
+
+-- where the whole tree is behind, the nodes around it go on
+mutual
+  unfolding scan next onward
+
+  pub scan-tree : (t : Tree) (s : List ℕ) (n : ℕ) (os : List Open) → Labelled t →
+      scan (treeText t ++ s) n (expecting (openBracket ∷ []) os) ≡ scan s (n + length (treeText t)) (behind t os)
+  scan-tree (node a f) s n os h = go (λ m. scan-children f (closeBracket ∷ s) m a nil os (h .1))
+    where
+      go : ((m : ℕ) → scan (childrenText f ++ (closeBracket ∷ s)) m (among a nil os) ≡
+          scan (closeBracket ∷ s) (m + length (childrenText f)) (among a f os)) →
+          scan ((labelText a ++ (childrenText f ++ (closeBracket ∷ []))) ++ s) (suc n) (expecting [] os) ≡
+          scan s (n + suc (length (labelText a ++ (childrenText f ++ (closeBracket ∷ []))))) (behind (node a f) os)
+      go ih =
+          let l = labelText a in
+          let k = suc n + length l in
+          let e : n + suc (length l + (length (childrenText f) + 1)) ≡ suc (k + length (childrenText f)) = omega arith in
+          rw (
+            append-assoc l (childrenText f ++ (closeBracket ∷ [])) s,
+            append-assoc (childrenText f) (closeBracket ∷ []) s,
+            length-append l (childrenText f ++ (closeBracket ∷ [])),
+            length-append (childrenText f) (closeBracket ∷ []),
+            e,
+          )
+          (scan-label os a (h .0) (childrenText f ++ (closeBracket ∷ s)) (suc n) ∙ naming-children f s k a os ∙ ih k)
+
+  pub scan-children : (f : Forest) (s : List ℕ) (n a : ℕ) (g : Forest) (os : List Open) → AllLabelled f →
+      scan (childrenText f ++ s) n (among a g os) ≡ scan s (n + length (childrenText f)) (among a (g ⧺ f) os)
+  scan-children nil s n a g os h = rw (add-zero n, append-none g)
+  scan-children (cons t f) s n a g os h =
+      go (scan-tree t (childrenText f ++ s) (suc n) (record { label = a; children = g } ∷ os) (h .0))
+      (λ m. scan-children f s m a (g ⧺ cons t nil) os (h .1))
+    where
+      go : scan (treeText t ++ (childrenText f ++ s)) (suc n)
+          (expecting (openBracket ∷ []) (record { label = a; children = g } ∷ os)) ≡
+          scan (childrenText f ++ s) (suc n + length (treeText t)) (among a (g ⧺ cons t nil) os) →
+          ((m : ℕ) → scan (childrenText f ++ s) m (among a (g ⧺ cons t nil) os) ≡
+          scan s (m + length (childrenText f)) (among a ((g ⧺ cons t nil) ⧺ f) os)) →
+          scan ((treeText t ++ childrenText f) ++ s) (suc n)
+          (expecting (openBracket ∷ []) (record { label = a; children = g } ∷ os)) ≡
+          scan s (n + suc (length (treeText t ++ childrenText f))) (among a (g ⧺ cons t f) os)
+      go d ih =
+          let k = suc n + length (treeText t) in
+          let e : n + suc (length (treeText t) + length (childrenText f)) ≡ k + length (childrenText f) = omega arith in
+          rw (
+            append-assoc (treeText t) (childrenText f) s,
+            length-append (treeText t) (childrenText f),
+            e,
+            ← snoc-append g t f,
+          ) (d ∙ ih k)

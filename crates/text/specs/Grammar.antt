@@ -1,0 +1,79 @@
+-- The text of a line of the bench program, as document 01 words it: (add TREE), (drop TREE) or (ask TREE).
+use mathlib.Core.Bool.{cond}
+use mathlib.Core.List.{List, [], _++_, _∷_}
+use mathlib.Core.Path.{_≡_}
+use Prim.Native.Nat.{_%_, _+_, _-_, _/_, _≤_, suc, ℕ}
+use lib.Dec.{ltb}
+use lib.ListN.{length, take}
+use Rattle.format.specs.Format.{maxLabel}
+use Rattle.trees.specs.Tree.{Forest, Tree, cons, nil, node}
+
+abbrev pub openBracket : ℕ
+openBracket = 40
+
+abbrev pub closeBracket : ℕ
+closeBracket = 41
+
+abbrev pub space : ℕ
+space = 32
+
+-- the byte of a decimal digit
+abbrev pub digit : ℕ → ℕ
+digit d = 48 + d
+
+-- a label in decimal without leading zeros; a label of a well-formed line has at most three digits
+unfoldable pub labelText : ℕ → List ℕ
+labelText a =
+    cond (ltb a 10) (digit a ∷ []) (cond (ltb a 100) (digit (a / 10) ∷ digit (a % 10) ∷ [])
+    (digit (a / 100) ∷ digit (a / 10 % 10) ∷ digit (a % 10) ∷ []))
+
+-- an opening bracket, a label, then for each child a space and a tree, then a closing bracket
+abbrev mutual
+  pub treeText : Tree → List ℕ
+  treeText (node a f) = openBracket ∷ (labelText a ++ (childrenText f ++ (closeBracket ∷ [])))
+
+  pub childrenText : Forest → List ℕ
+  childrenText nil = []
+  childrenText (cons t f) = space ∷ (treeText t ++ childrenText f)
+
+pub data Command : Type 0 where
+  toAdd toDrop toAsk : Command
+
+-- an opening bracket, the word (add, drop, ask) and exactly one space
+abbrev pub head : Command → List ℕ
+head toAdd = openBracket ∷ 97 ∷ 100 ∷ 100 ∷ space ∷ []
+head toDrop = openBracket ∷ 100 ∷ 114 ∷ 111 ∷ 112 ∷ space ∷ []
+head toAsk = openBracket ∷ 97 ∷ 115 ∷ 107 ∷ space ∷ []
+
+-- one bracketed form
+abbrev pub lineText : Command → Tree → List ℕ
+lineText c t = head c ++ (treeText t ++ (closeBracket ∷ []))
+
+-- every label of a tree is 0 to 255
+abbrev mutual
+  pub Labelled : Tree → Type 0
+  Labelled (node a f) = (a ≤ maxLabel) × AllLabelled f
+
+  pub AllLabelled : Forest → Type 0
+  AllLabelled nil = Unit {0}
+  AllLabelled (cons t f) = Labelled t × AllLabelled f
+
+-- a line is the text of a command and a tree, of any size, with labels 0 to 255
+pub record WellFormed (s : List ℕ) : Type 0 where
+  pub command : Command
+  pub tree : Tree
+  pub labels : Labelled tree
+  pub text : s ≡ lineText command tree
+
+-- s is the beginning of a well-formed line
+pub record Begins (s : List ℕ) : Type 0 where
+  pub rest : List ℕ
+  pub line : WellFormed (s ++ rest)
+
+-- Column m is that of the first byte that no well-formed line has there after the bytes before it; the end of the line
+-- counts as such a byte.
+pub record FirstBad (s : List ℕ) (m : ℕ) : Type 0 where
+  pub within : (1 ≤ m) × (m ≤ suc (length s))
+  pub before : Begins (take (m - 1) s)
+  pub there : m ≤ length s → Begins (take m s) → ⊥
+  pub malformed : WellFormed s → ⊥

@@ -1,0 +1,296 @@
+// Lines of the bench program: a line of text to a command and the listing of its tree.
+ghost use mathlib.Core.Path.{_≡_};
+ghost use Prim.Native.Nat.{_≤_, max, suc};
+ghost use lib.ListN.{length, set};
+ghost use Rattle.text.specs.Answers.{ChildrenRead, FormRead, LabelRead, LineEnd, Room, TreeRead, agreed};
+ghost use Rattle.text.specs.Answers.{blank, shortestHead, listed, listingBytes, parsed};
+ghost use Rattle.text.specs.Reader.{extends, isDigit, maxLine, readLine};
+use format::NODE_BYTES;
+
+const MAX_LINE: usize = 512;
+
+const LISTING_BYTES: usize = 252;
+
+const OPEN: u8 = 40;
+
+const CLOSE: u8 = 41;
+
+const SPACE: u8 = 32;
+
+const ZERO: u8 = 48;
+
+const NINE: u8 = 57;
+
+// What a line is: a command with the length of its tree's listing, malformed from a column on, or above 512 bytes.
+pub enum Parsed {
+    Add { len: usize },
+    Drop { len: usize },
+    Ask { len: usize },
+    Form { column: usize },
+    Long,
+}
+
+// A label and its number of digits.
+enum Label {
+    Number { value: u8, len: usize },
+    Nothing,
+}
+
+// Trees in a row: how many, their bytes in the text and those of their listings; or the first byte that is not allowed.
+enum Read {
+    Trees { count: u8, len: usize, used: usize },
+    Bad { at: usize },
+}
+
+// One form of a line: the bytes of its tree's listing, or the first byte that is not allowed.
+enum Found {
+    Whole { len: usize },
+    Broken { at: usize },
+}
+
+fn wide(x: u8) -> usize
+    ensures { λ r. ⌜ r ≡ x ⌝ }
+{
+    x as usize
+}
+
+fn is_digit(b: u8) -> bool
+    ensures { λ r. ⌜ r ≡ isDigit b ⌝ }
+{
+    if b < ZERO {
+        return false;
+    }
+    b <= NINE
+}
+
+// Whether a label may go on with this byte.
+fn extends(value: u8, b: u8) -> bool
+    ensures { λ r. ⌜ r ≡ extends value b ⌝ }
+{
+    if !is_digit(b) {
+        return false;
+    }
+    if value == 0 {
+        return false;
+    }
+    10 * wide(value) + wide(b - ZERO) <= 255
+}
+
+// Reads the longest label that s starts with.
+fn read_label(s: &[u8]) -> Label
+    ensures { λ r. ⌜ LabelRead (now (s .entry)) r ⌝ }
+{
+    if s.len() < 1 {
+        return Label::Nothing;
+    }
+    if !is_digit(s[0]) {
+        return Label::Nothing;
+    }
+    let mut value = s[0] - ZERO;
+    let mut i = 1;
+    while i < s.len() {
+        if !extends(value, s[i]) {
+            return Label::Number { value, len: i };
+        }
+        value = 10 * value + (s[i] - ZERO);
+        i += 1;
+    }
+    Label::Number { value, len: i }
+}
+
+// Stores a byte, where there is room for it.
+fn put(listing: &mut [u8; 252], i: usize, value: u8)
+    requires { ⌜ length (now listing) ≡ listingBytes ⌝ }
+    ensures { λ _. ⌜ now (listing .exit) ≡ set (now (listing .entry)) i value ⌝ }
+{
+    if i < LISTING_BYTES {
+        listing[i] = value;
+    }
+}
+
+// Reads the tree that s starts with, and writes its listing from byte `at` on.
+fn tree(s: &[u8], listing: &mut [u8; 252], at: usize) -> Read
+    requires { ⌜ Room (now s) (now listing) at ⌝ }
+    ensures { λ r. ⌜ TreeRead (now (s .entry)) (now (listing .entry)) at (now (listing .exit)) r ⌝ }
+{
+    if s.len() < 1 {
+        return Read::Bad { at: 0 };
+    }
+    if s[0] != OPEN {
+        return Read::Bad { at: 0 };
+    }
+    let Label::Number { value, len } = read_label(&s[1..]) else {
+        return Read::Bad { at: 1 };
+    };
+    put(listing, at, value);
+    let start = 1 + len;
+    match children(&s[start..], listing, at + NODE_BYTES) {
+        Read::Trees {
+            count,
+            len: more,
+            used,
+        } => {
+            put(listing, at + 1, count);
+            Read::Trees {
+                count: 1,
+                len: start + more,
+                used: NODE_BYTES + used,
+            }
+        }
+        Read::Bad { at: place } => Read::Bad { at: start + place },
+    }
+}
+
+// Reads children, each after a space, and the closing bracket behind them, and writes their listings from byte `at` on.
+fn children(s: &[u8], listing: &mut [u8; 252], at: usize) -> Read
+    requires { ⌜ Room (now s) (now listing) at ⌝ }
+    ensures { λ r. ⌜ ChildrenRead (now (s .entry)) (now (listing .entry)) at (now (listing .exit)) r ⌝ }
+{
+    if s.len() < 1 {
+        return Read::Bad { at: 0 };
+    }
+    if s[0] == CLOSE {
+        return Read::Trees {
+            count: 0,
+            len: 1,
+            used: 0,
+        };
+    }
+    if s[0] != SPACE {
+        return Read::Bad { at: 0 };
+    }
+    match tree(&s[1..], listing, at) {
+        Read::Trees {
+            count: _,
+            len,
+            used,
+        } => {
+            let start = 1 + len;
+            match children(&s[start..], listing, at + used) {
+                Read::Trees {
+                    count,
+                    len: more,
+                    used: rest,
+                } => Read::Trees {
+                    count: count + 1,
+                    len: start + more,
+                    used: used + rest,
+                },
+                Read::Bad { at: place } => Read::Bad { at: start + place },
+            }
+        }
+        Read::Bad { at: place } => Read::Bad { at: 1 + place },
+    }
+}
+
+// The number of first bytes in which s and w agree.
+fn agreeing(s: &[u8], w: &[u8]) -> usize
+    ensures { λ r. ⌜ r ≡ agreed (now (s .entry)) (now (w .entry)) ⌝ }
+{
+    let mut i = 0;
+    while i < w.len() {
+        if i >= s.len() {
+            return i;
+        }
+        if s[i] != w[i] {
+            return i;
+        }
+        i += 1;
+    }
+    i
+}
+
+fn clear(listing: &mut [u8; 252])
+    requires { ⌜ length (now listing) ≡ listingBytes ⌝ }
+    ensures { λ _. ⌜ now (listing .exit) ≡ blank ⌝ }
+{
+    let mut i = 0;
+    while i < LISTING_BYTES {
+        listing[i] = 0;
+        i += 1;
+    }
+}
+
+// Whether a line whose tree ends before byte `end` ends as it must: with a closing bracket.
+fn close_line(line: &[u8], end: usize, len: usize) -> Found
+    requires { ⌜ end ≤ length (now line) ⌝ }
+    ensures { λ r. ⌜ LineEnd (now (line .entry)) end len r ⌝ }
+{
+    if end >= line.len() {
+        return Found::Broken { at: end };
+    }
+    if line[end] != CLOSE {
+        return Found::Broken { at: end };
+    }
+    if end + 1 < line.len() {
+        return Found::Broken { at: end + 1 };
+    }
+    Found::Whole { len }
+}
+
+// Reads a line that is to start with `head` and a tree, and writes the tree's listing.
+fn read_form(line: &[u8], head: &[u8], listing: &mut [u8; 252]) -> Found
+    requires { ⌜ length (now line) ≤ maxLine ⌝ }
+    requires { ⌜ shortestHead ≤ length (now head) ⌝ }
+    requires { ⌜ length (now listing) ≡ listingBytes ⌝ }
+    ensures { λ r. ⌜ FormRead (now (head .entry)) (now (line .entry)) (now (listing .exit)) r ⌝ }
+{
+    let start = agreeing(line, head);
+    if start < head.len() {
+        return Found::Broken { at: start };
+    }
+    clear(listing);
+    match tree(&line[start..], listing, 0) {
+        Read::Trees {
+            count: _,
+            len,
+            used,
+        } => close_line(line, start + len, used),
+        Read::Bad { at } => Found::Broken { at: start + at },
+    }
+}
+
+fn larger(x: usize, y: usize) -> usize
+    ensures { λ r. ⌜ r ≡ max x y ⌝ }
+{
+    if x < y {
+        return y;
+    }
+    x
+}
+
+// The column of the byte at a place in a line.
+fn column_at(place: usize) -> usize
+    requires { ⌜ place ≤ maxLine ⌝ }
+    ensures { λ r. ⌜ r ≡ suc place ⌝ }
+{
+    place + 1
+}
+
+// Reads a line. The listing of its tree goes to `listing`, with zeros behind it; all zeros where there is none.
+pub fn read_line(line: &[u8], listing: &mut [u8; 252]) -> Parsed
+    requires { ⌜ length (now listing) ≡ listingBytes ⌝ }
+    ensures answer { λ r. ⌜ r ≡ parsed (readLine (now (line .entry))) ⌝ }
+    ensures listing { λ r. ⌜ now (listing .exit) ≡ listed (readLine (now (line .entry))) ⌝ }
+{
+    if line.len() > MAX_LINE {
+        clear(listing);
+        return Parsed::Long;
+    }
+    let add = match read_form(line, b"(add ", listing) {
+        Found::Whole { len } => return Parsed::Add { len },
+        Found::Broken { at } => at,
+    };
+    let drop = match read_form(line, b"(drop ", listing) {
+        Found::Whole { len } => return Parsed::Drop { len },
+        Found::Broken { at } => at,
+    };
+    let ask = match read_form(line, b"(ask ", listing) {
+        Found::Whole { len } => return Parsed::Ask { len },
+        Found::Broken { at } => at,
+    };
+    clear(listing);
+    Parsed::Form {
+        column: column_at(larger(add, larger(drop, ask))),
+    }
+}
