@@ -1,4 +1,4 @@
--- Loops that fill eight bytes, look for the first that passes, and store eight bytes in an array.
+-- Loops that fill eight bytes, test bytes, compare nodes, and store eight bytes in an array.
 use mathlib.Core.Bool.{Bool, _||_, false}
 use mathlib.Core.List.{List, [], _∷_, map}
 use mathlib.Core.Path.{_∙_, _≡_, ap, refl, subst, sym}

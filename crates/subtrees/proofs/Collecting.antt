@@ -12,13 +12,13 @@ use Rattle.automata.specs.Change.{subtrees}
 use Rattle.format.specs.Format.{maxArity, maxNodes}
 use Rattle.lists.specs.Closure.{elem}
 use Rattle.subtrees.specs.Steps.{Children, Entered, Filled, Numbered, Sized, addLast, byteFrom}
-use Rattle.subtrees.specs.Store.{Lists, Stored, bottomUp, foundIn, treeNumbered, treesNumbered}
+use Rattle.subtrees.specs.Store.{Lists, Stored, bottomUp, treeNumbered, treesNumbered}
 use Rattle.table.specs.Layout.{transitionsIn}
 use Rattle.trees.specs.Listing.{childrenAt, firstTrees, labelAt, laterTrees, nodesIn, readTree, readTrees}
 use Rattle.trees.specs.Tree.{Forest, Tree, cons, count, eqTree, nil, node}
 use Rattle.subtrees.proofs.Numbers.{Among, among-drop, among-index, among-more, numbered-append}
 use Rattle.subtrees.proofs.Numbers.{numbered-count, numbered-first, numbered-later}
-use Rattle.subtrees.proofs.Orders.{found-node, in-reverse, reverse-in}
+use Rattle.subtrees.proofs.Orders.{found-node, foundIn, in-reverse, reverse-in}
 use Rattle.subtrees.proofs.Suffixes.{Passed, children-there, nodes-end, nodesFrom, read-next, read-whole}
 
 -- the label and the number of children of the node before node i

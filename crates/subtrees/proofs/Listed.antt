@@ -27,7 +27,8 @@ getD-reverse (x ∷ xs) j h =
     ap (λ ys. getD ys j noTree) (reverse-cons x xs) ∙ go (λ b. getD-reverse xs j b) (ltb j (length xs)) refl
   where
     go : (j < length xs → getD (reverse xs) j noTree ≡ getD xs (length xs - 1 - j) noTree) → (b : Bool) →
-        ltb j (length xs) ≡ b → getD (reverse xs ++ (x ∷ [])) j noTree ≡ getD (x ∷ xs) (suc (length xs) - 1 - j) noTree
+        ltb j (length xs) ≡ b →
+        getD (reverse xs ++ (x ∷ [])) j noTree ≡ getD (x ∷ xs) (suc (length xs) - 1 - j) noTree
     go ih true e =
         let l : j < length xs = ltb-true j (length xs) e in
         let z : suc (length xs) - 1 - j ≡ suc (length xs - 1 - j) = omega arith in

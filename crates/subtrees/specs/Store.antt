@@ -6,7 +6,7 @@ use mathlib.Core.Path.{_≡_}
 use Prim.Native.Nat.{_*_, _+_, _-_, _<_, _≤_, ℕ}
 use lib.ListN.{getD, length}
 use Rattle.automata.specs.Automaton.{Automaton, run}
-use Rattle.automata.specs.Change.{collects, subtrees}
+use Rattle.automata.specs.Change.{subtrees}
 use Rattle.format.specs.Format.{maxArity, maxNodes}
 use Rattle.lists.specs.Positions.{upFrom}
 use Rattle.lists.specs.Tests.{_∈_}
@@ -15,10 +15,6 @@ use Rattle.trees.specs.Tree.{Forest, Tree, cons, nil, node}
 use Rattle.lists.proofs.Distinct.{Distinct}
 
 -- ---- trees by number
-
--- the distinct subtrees of a list of trees, in the order in which a pass from the last node finds them
-abbrev pub foundIn : Forest → List Tree
-foundIn f = reverse (collects f [])
 
 -- the distinct subtrees of a tree, children before parents
 abbrev pub bottomUp : Tree → List Tree

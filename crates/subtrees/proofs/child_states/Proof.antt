@@ -44,7 +44,8 @@ loop-less c = search needs
 loop-again : tie.Need-loop-again Inv-loop μ-loop
 loop-again c =
     let head = c .before .before .before in
-    (omega arith, rw (c .before .wide .ensures) (filled-next (head .loop .inv .1) (omega (arith, head .before .pre .narrow))))
+    let next = filled-next (head .loop .inv .1) (omega (arith, head .before .pre .narrow)) in
+    (omega arith, rw (c .before .wide .ensures) next)
 
 returns : tie.Need-returns Inv-loop μ-loop
 returns c = filled-end (c .before .loop .inv .1) (c .before .loop .inv .0) (omega arith)
