@@ -12,7 +12,8 @@ use Rattle.table.specs.Layout.{argOf, arityOf, transitionAt}
 use Rattle.automata.proofs.NumberedPass.{top}
 use Rattle.lists.proofs.Loops.{EveryFrom, every-start, upFrom-next, upFrom-none}
 
-pub every-mapped : {A B : Type 0} (p : B → Bool) (f : A → B) (xs : List A) → every p (map f xs) ≡ every (λ x. p (f x)) xs
+pub every-mapped : {A B : Type 0} (p : B → Bool) (f : A → B) (xs : List A) →
+    every p (map f xs) ≡ every (λ x. p (f x)) xs
 every-mapped p f [] = refl
 every-mapped p f (x ∷ xs) = rw (every-mapped p f xs)
 

@@ -62,8 +62,9 @@ module _ (cl s : List ℕ) (n c : ℕ) (over : RunsOver s c n) where
   accessible-up i h e =
       closed eqb eqb-true eqb-same (accessibleRule A) (upFrom 1 (states A)) (outOf s (transitionBytes * i))
       (out-in-states i h)
-      (in-any (λ τ. every (accessible A) (τ .args) && eqb (outOf s (transitionBytes * i)) (τ .out)) (transitionsIn s c)
-      (nthTransition s i) (transitionsIn-nth s c i h) (and-both e (eqb-same (outOf s (transitionBytes * i)))))
+      (in-any (λ τ. every (accessible A) (τ .args) && eqb (outOf s (transitionBytes * i)) (τ .out))
+      (transitionsIn s c) (nthTransition s i) (transitionsIn-nth s c i h)
+      (and-both e (eqb-same (outOf s (transitionBytes * i)))))
 
   accessible-marked : (m : ℕ → Bool) → UpTo (nthUp s) c m → (q : ℕ) → accessible A q ≡ true → m q ≡ true
   accessible-marked m up =
@@ -131,7 +132,8 @@ module _ (cl s : List ℕ) (n c : ℕ) (over : RunsOver s c n) where
           coaccessibleRule A p k ≡ true → m k ≡ true
       made p ih k _ e = go (or-cases (accepting A k) _ e)
         where
-          used : (τ : Transition) × (τ ∈ transitionsIn s c) × ((p (τ .out) && elem eqb k (τ .args)) ≡ true) → m k ≡ true
+          used : (τ : Transition) × (τ ∈ transitionsIn s c) × ((p (τ .out) && elem eqb k (τ .args)) ≡ true) →
+              m k ≡ true
           used (τ, j, d) =
               let (i, h, f) = in-transitionsIn s c τ j in
               let v : m (outOf s (transitionBytes * i)) ≡ true =
@@ -180,7 +182,8 @@ module _ (cl s : List ℕ) (n c : ℕ) (over : RunsOver s c n) where
       r ≡ false → every (marked m') (upFrom 1 n) ≡ acyclic A
   acyclic-end {m' = m'} g t e =
       ap (λ k. every (marked m') (upFrom 1 k)) (sym (viewed-states cl s n c))
-      ∙ grounded-acyclic A (viewed-ranged cl s n c over) (marked m') follows (growing-more returnless-ground g t .within)
+      ∙ grounded-acyclic A (viewed-ranged cl s n c over) (marked m') follows
+      (growing-more returnless-ground g t .within)
     where
       follows : (q : ℕ) → 1 ≤ q → q ≤ states A → Grounded A (marked m') q → marked m' q ≡ true
       follows zero h l f = absurd (omega arith)

@@ -56,12 +56,14 @@ module _ (s : List ℕ) (i : ℕ) where
 
     -- its output gets a number: all between have theirs
     pub read-next : top (τ .args) < τ .out → τ .out < markCount →
-        every (marked m) (upFrom (top (τ .args) + 1) (τ .out - (top (τ .args) + 1))) ≡ true → Read s i (set m (τ .out) 1) true
+        every (marked m) (upFrom (top (τ .args) + 1) (τ .out - (top (τ .args) + 1))) ≡ true →
+        Read s i (set m (τ .out) 1) true
     read-next h l e = record {
       size = length-set m (τ .out) 1 ∙ size;
       passed = λ _. rw one-more
           (passed-next passed τ (marked (set m (τ .out) 1)) h
-          (λ j a b. every-at (marked m) (top (τ .args) + 1) (τ .out - (top (τ .args) + 1)) e j (omega arith) (omega arith))
+          (λ j a b. every-at (marked m) (top (τ .args) + 1) (τ .out - (top (τ .args) + 1)) e j
+          (omega arith) (omega arith))
           (marked-here m (τ .out) (omega arith)) (λ j n. marked-there m (τ .out) j n));
       broken = λ d. absurd (true≢false d);
     }
@@ -96,11 +98,13 @@ firstOpen-later s k j i (suc c) h e = go (λ l. firstOpen-later s k j i c l e) (
         firstOpen k (transitionsIn s (suc c)) ≡ suc j
     go ih true d = rw (eqb-true i (suc c) d) at e
     go ih false d = let ne = eqb-false i (suc c) d in
-        rw (transitionsIn-suc s c) (firstOpen-kept k j (transitionsIn s c) (nthTransition s c ∷ []) (ih (omega arith)))
+        rw (transitionsIn-suc s c)
+        (firstOpen-kept k j (transitionsIn s c) (nthTransition s c ∷ []) (ih (omega arith)))
 
 module _ (cl s : List ℕ) (n c : ℕ) where
   -- a transition that breaks the rule
-  pub pass-broken : RunsOver s c n → (i : ℕ) {m : List ℕ} → i < c → Read s i m false → false ≡ numbered (viewed cl s n c)
+  pub pass-broken : RunsOver s c n → (i : ℕ) {m : List ℕ} → i < c → Read s i m false →
+      false ≡ numbered (viewed cl s n c)
   pass-broken over i h r = go (r .broken refl)
     where
       go : (k : ℕ) × (suc k < outOf s (transitionBytes * i)) ×
@@ -111,10 +115,12 @@ module _ (cl s : List ℕ) (n c : ℕ) where
           last zero d = absurd (omega arith)
           last (suc j) d =
               let f = firstOpen-later s k j (i + 1) c (omega arith) (e ∙ d) in
-              sym (broken-numbered (viewed cl s n c) k (omega (arith, viewed-states cl s n c, over .out-state i h)) (omega arith))
+              sym (broken-numbered (viewed cl s n c) k
+              (omega (arith, viewed-states cl s n c, over .out-state i h)) (omega arith))
 
   -- all were read
   pub pass-end : (m : List ℕ) → Passed (transitionsIn s c) (marked m) →
       every (marked m) (upFrom 1 n) ≡ numbered (viewed cl s n c)
   pass-end m passed =
-      ap (λ k. every (marked m) (upFrom 1 k)) (sym (viewed-states cl s n c)) ∙ passed-numbered (viewed cl s n c) (marked m) passed
+      ap (λ k. every (marked m) (upFrom 1 k)) (sym (viewed-states cl s n c))
+      ∙ passed-numbered (viewed cl s n c) (marked m) passed

@@ -7,7 +7,7 @@ use Prim.Native.Nat.{_+_, _-_, _<_, suc, zero, ℕ}
 use native.Mathlib.Omega.{arith}
 use lib.ListN.{length, length-replicate, replicate, set}
 use Rattle.marking.specs.Marks.{marked, marks}
-use Rattle.validity.specs.Spread.{Covers, Rule, Spread, UpTo, markCount}
+use Rattle.validity.specs.Spread.{Covers, Rule, Spread, UpTo, fromLast, markCount}
 use Rattle.automata.proofs.Subtrees.{Closed}
 use Rattle.lists.proofs.Closure.{closed}
 use Rattle.marking.proofs.Sweeps.{swept-closed, swept-less, swept-mark, swept-next, swept-none}
@@ -21,7 +21,8 @@ pub spread-mark : {C : Rule} {m : List ℕ} (i : ℕ) → i < length m → marke
     ((p : ℕ → Bool) → C p → Covers p m → p i ≡ true) → Spread C m (set m i 1) true
 spread-mark {C} {m} i h e f = record {
   swept = swept-mark i h e (λ w. tt);
-  sound = λ p c w. swept-mark {P = λ q. p q ≡ true} {Closed = λ k. C (marked k)} {m = m} i h e (λ v. f p c v) .sound w;
+  sound = λ p c w.
+      swept-mark {P = λ q. p q ≡ true} {Closed = λ k. C (marked k)} {m = m} i h e (λ v. f p c v) .sound w;
 }
 
 -- another rule, which says the same of these marks
@@ -39,6 +40,15 @@ spread-next C i s t = record {
   swept = swept-next (λ j k. C j (marked k)) i (s .swept) (t .swept);
   sound = λ p h w. t .sound p (h i (omega arith)) (s .sound p (λ j l. h j (omega arith)) w);
 }
+
+-- a loop from the last step on
+pub spread-back : (C : ℕ → Rule) (n : ℕ) {m m' : List ℕ} {r : Bool} → Spread (UpTo (fromLast C n) n) m m' r →
+    Spread (UpTo C n) m m' r
+spread-back C n {m} s = spread-if (λ p w d j h. d (n - 1 - j) (omega arith)) turned s
+  where
+    turned : UpTo (fromLast C n) n (marked m) → UpTo C n (marked m)
+    turned u i h = let e : n - 1 - (n - 1 - i) ≡ i = omega arith in
+        subst (λ (k : ℕ). C k (marked m)) e (u (n - 1 - i) (omega arith))
 
 -- marks that a closed set covers, and that grow until nothing changes
 pub record Growing (p : ℕ → Bool) (m : List ℕ) : Type 0 where

@@ -49,7 +49,8 @@ module _ (cl s : List ℕ) (n c : ℕ) where
     pub viewed-arg : (i : ℕ) → i < c → (q : ℕ) → q ∈ nthTransition s i .args → (1 ≤ q) × (q ≤ n)
     viewed-arg i h q j = go (in-args s (transitionBytes * i) q j)
       where
-        go : (k : ℕ) × (k < arityOf s (transitionBytes * i)) × (q ≡ argOf s (transitionBytes * i) k) → (1 ≤ q) × (q ≤ n)
+        go : (k : ℕ) × (k < arityOf s (transitionBytes * i)) × (q ≡ argOf s (transitionBytes * i) k) →
+            (1 ≤ q) × (q ≤ n)
         go (k, l, e) = (omega (arith, over .arg-some i k h l), omega (arith, over .arg-state i k h l))
 
     pub viewed-ranged : statesInRange (viewed cl s n c) ≡ true

@@ -5,12 +5,12 @@ use mathlib.Core.Path.{_≡_}
 use Prim.Native.Nat.{_*_, _+_, _<_, suc, ℕ}
 use lib.ListN.{length}
 use Rattle.automata.specs.Numbered.{firstOpen}
-use Rattle.automata.proofs.NumberedPass.{Passed}
 use Rattle.format.specs.Format.{transitionBytes}
 use Rattle.lists.specs.Tests.{every}
 use Rattle.marking.specs.Marks.{marked}
 use Rattle.table.specs.Layout.{argOf, arityOf, nthTransition, outOf, transitionAt, transitionsIn}
 use Rattle.validity.specs.Spread.{Rule, UpTo, markCount}
+use Rattle.automata.proofs.NumberedPass.{Passed}
 
 -- the state passes
 abbrev pub Has : ℕ → Rule

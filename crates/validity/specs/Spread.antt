@@ -3,7 +3,7 @@
 use mathlib.Core.Bool.{Bool, true}
 use mathlib.Core.List.{List}
 use mathlib.Core.Path.{_≡_}
-use Prim.Native.Nat.{_<_, ℕ}
+use Prim.Native.Nat.{_-_, _<_, ℕ}
 use lib.ListN.{length}
 use Rattle.marking.specs.Marks.{Swept, Within, marked}
 
@@ -29,6 +29,10 @@ pub record Exactly (p : ℕ → Bool) (m : List ℕ) : Type 0 where
 pub record Spread (C : Rule) (m m' : List ℕ) (r : Bool) : Type 0 where
   pub swept : Swept (Within (λ q. Unit {0})) (λ k. C (marked k)) m m' r
   pub sound : (p : ℕ → Bool) → C p → Covers p m → Covers p m'
+
+-- step j from the last of n
+abbrev pub fromLast : (ℕ → Rule) → ℕ → ℕ → Rule
+fromLast C n j = C (n - 1 - j)
 
 -- closed under the steps 0 to n - 1
 abbrev pub UpTo : (ℕ → Rule) → ℕ → Rule

@@ -52,17 +52,18 @@ fn use_transition(run: &[u8], at: usize, marks: &mut [u8; MARK_COUNT]) -> bool
     use_args(run, at, marks)
 }
 
+// All transitions, the last first: most states are used by later transitions than those that give them.
 fn use_all(run: &[u8], count: usize, marks: &mut [u8; MARK_COUNT]) -> bool
     requires { ⌜ Runs (now run) count ⌝ }
     requires { ⌜ length (now marks) ≡ markCount ⌝ }
     ensures { λ r. ⌜ Spread (UpTo (nthDown (now (run .entry))) count) (now (marks .entry)) (now (marks .exit)) r ⌝ }
 {
     let mut changed = false;
-    let mut i = 0;
-    while i < count {
-        let r = use_transition(run, TRANSITION_BYTES * i, marks);
+    let mut j = 0;
+    while j < count {
+        let r = use_transition(run, TRANSITION_BYTES * (count - 1 - j), marks);
         changed = changed | r;
-        i += 1;
+        j += 1;
     }
     changed
 }

@@ -1,16 +1,15 @@
+-- `validity::marks::all_marked` meets its contract: the answer is that of the states left.
 use mathlib.Core.Path.{refl}
+use Prim.Native.Nat.{_+_, _-_, _≤_}
 use native.Mathlib.Omega.{arith}
-use Prim.Native.Nat.{_-_, _+_, _≤_}
+use borrow.Author.Needs.{needs}
 use Rattle.lists.specs.Positions.{upFrom}
 use Rattle.lists.specs.Tests.{every}
 use Rattle.marking.specs.Marks.{marked}
 use Rattle.lists.proofs.Loops.{EveryFrom, every-broken, every-end, every-next, every-start}
 use Rattle.marking.proofs.Sweeps.{nonzero-false, nonzero-true}
-use borrow.Author.Needs.{needs}
 use Rattle.validity.proofs.marks.all_marked.Statement.{statement}
 use Rattle.validity.proofs.marks.all_marked.Tie as tie
-use Rattle.validity.proofs.marks.all_marked.Reads as reads
-use Rattle.validity.proofs.marks.all_marked.Lts as lts
 
 abbrev Inv-loop : tie.InvT-loop
 Inv-loop marks from end q₀ q =
@@ -19,33 +18,28 @@ Inv-loop marks from end q₀ q =
 abbrev μ-loop : tie.MeasureT-loop
 μ-loop marks from end q₀ q = end - q
 
--- src/marks.rt:24:5
 loop-holds : tie.Need-loop-holds Inv-loop μ-loop
 loop-holds c = (omega arith, every-start (c .args .end - (c .args) .from) refl)
 
--- src/marks.rt:25:12
 element-copy-out-if1 : tie.Need-element-copy-out-if1 Inv-loop μ-loop
 element-copy-out-if1 c = search needs
 
--- src/marks.rt:26:13
 returns : tie.Need-returns Inv-loop μ-loop
-returns c =
-    every-broken (c .before .before .before .loop .inv .1) (omega arith) (nonzero-false _ (c .if1 .taken))
+returns c = every-broken (c .before .before .before .loop .inv .1) (omega arith) (nonzero-false _ (c .if1 .taken))
 
--- src/marks.rt:28:9
 add-q : tie.Need-add-q Inv-loop μ-loop
 add-q c = search needs
 
--- src/marks.rt:24:5
 loop-less : tie.Need-loop-less Inv-loop μ-loop
 loop-less c = search needs
 
--- src/marks.rt:24:5
 loop-again : tie.Need-loop-again Inv-loop μ-loop
-loop-again c =
-    (omega arith, every-next (c .before .before .before .loop .inv .1) (omega arith) (nonzero-true _ (c .if1 .left)))
+loop-again c = (
+  omega arith,
+  every-next (c .before .before .before .loop .inv .1) (omega arith)
+      (nonzero-true _ (c .if1 .left)),
+)
 
--- src/marks.rt:18:1
 returns-2 : tie.Need-returns-2 Inv-loop μ-loop
 returns-2 c = every-end (c .before .loop .inv .1) (omega arith)
 

@@ -1,24 +1,20 @@
-use native.Mathlib.Omega.{arith}
-use mathlib.Core.Path.{_∙_, _≡_, refl, subst, sym, ap}
-use mathlib.Core.List.{List}
+-- `validity::numbering::numbered` meets its contract: the pass has read the transitions before i. Its
+-- end says whether all states are numbered.
+use mathlib.Core.Path.{_∙_, _≡_, subst}
 use Prim.Native.Nat.{_+_, _-_, _≤_, ℕ}
+use native.Mathlib.Omega.{arith}
 use lib.ListN.{length, length-replicate}
+use borrow.Author.Needs.{needs}
 use borrow.Author.Tests.{not-false, not-true}
-use Rattle.automata.proofs.NumberedPass.{Passed, passed-none}
-use Rattle.fields.proofs.Transitions.{readable}
 use Rattle.marking.specs.Marks.{marked}
 use Rattle.table.specs.Layout.{transitionsIn}
 use Rattle.validity.specs.Rules.{Read}
 use Rattle.validity.specs.Spread.{markCount}
+use Rattle.automata.proofs.NumberedPass.{Passed}
+use Rattle.fields.proofs.Transitions.{readable}
 use Rattle.validity.proofs.Passing.{pass-broken, pass-end, pass-start}
-use Rattle.validity.proofs.Spreading.{unmarked}
-use borrow.Author.Needs.{needs}
 use Rattle.validity.proofs.numbering.numbered.Statement.{statement}
 use Rattle.validity.proofs.numbering.numbered.Tie as tie
-use Rattle.validity.proofs.numbering.numbered.Reads as reads
-use Rattle.validity.proofs.numbering.numbered.Lts as lts
-use Rattle.validity.proofs.marks.all_marked.Reads as all-marked-reads
-use Rattle.validity.proofs.numbering.read.Reads as read-reads
 
 abbrev Inv-loop : tie.InvT-loop
 Inv-loop run count n seen₀ i₀ seen i =
@@ -27,45 +23,48 @@ Inv-loop run count n seen₀ i₀ seen i =
 abbrev μ-loop : tie.MeasureT-loop
 μ-loop run count n seen₀ i₀ seen i = count - i
 
--- src/numbering.rt:77:5
 loop-holds : tie.Need-loop-holds Inv-loop μ-loop
-loop-holds c = (omega arith, length-replicate {A = ℕ} markCount 0, pass-start ((c .before .args .run .now)))
+loop-holds c = (omega arith, length-replicate {A = ℕ} markCount 0, pass-start (c .before .args .run .now))
 
--- src/numbering.rt:78:13
 read-requires : tie.Need-read-requires Inv-loop μ-loop
 read-requires c κs =
-    (readable (c .before .before .before .before .pre .0 .runs) (c .before .before .loop .i) (omega arith), (c .before .before .loop .inv .1, c .before .before .loop .inv .2))
+    let start = c .before .before .before .before in
+    let now = c .before .before .loop in
+    (readable (start .pre .0 .runs) (now .i) (omega arith), (now .inv .1, now .inv .2))
 
--- src/numbering.rt:79:13
 returns : tie.Need-returns Inv-loop μ-loop
 returns c =
-    λ cl. pass-broken cl ((c .before .before .before .before .before .before .args .run .now)) (c .before .before .before .before .before .before .args .n) (c .before .before .before .before .before .before .args .count) (c .before .before .before .before .before .before .pre .0) (c .before .before .before .before .loop .i) (omega arith) (subst (λ b. Read ((c .before .before .before .before .before .before .args .run .now)) (c .before .before .before .before .loop .i) (c .before .read .last .1 .1 .0) b) (not-true _ (c .if1 .taken)) (c .before .read .ensures))
+    let start = c .before .before .before .before .before .before in
+    let now = c .before .before .before .before .loop in
+    let s = start .args .run .now in
+    let e = not-true _ (c .if1 .taken) in
+    λ cl. pass-broken cl s (start .args .n) (start .args .count) (start .pre .0) (now .i) (omega arith)
+    (subst (Read s (now .i) (c .before .read .last .1 .1 .0)) e (c .before .read .ensures))
 
--- src/numbering.rt:81:9
 add-i : tie.Need-add-i Inv-loop μ-loop
 add-i c = search needs
 
--- src/numbering.rt:77:5
 loop-less : tie.Need-loop-less Inv-loop μ-loop
 loop-less c = search needs
 
--- src/numbering.rt:77:5
 loop-again : tie.Need-loop-again Inv-loop μ-loop
 loop-again c =
     (omega arith, c .before .read .ensures .size, c .before .read .ensures .passed (not-false _ (c .if1 .left)))
 
--- src/numbering.rt:83:26
 add-all-marked : tie.Need-add-all-marked Inv-loop μ-loop
 add-all-marked c = search needs
 
--- src/numbering.rt:83:5
 all-marked-requires : tie.Need-all-marked-requires Inv-loop μ-loop
 all-marked-requires c κs = search needs
 
--- src/numbering.rt:70:1
 returns-2 : tie.Need-returns-2 Inv-loop μ-loop
 returns-2 c =
-    λ cl. let d : c .before .before .before .loop .i ≡ c .before .before .before .before .before .args .count = omega (arith, c .before .before .before .loop .inv .0) in let e : c .before .before .before .before .before .args .n + 1 - 1 ≡ c .before .before .before .before .before .args .n = omega arith in rw e at (c .all-marked .ensures) ∙ pass-end cl ((c .before .before .before .before .before .args .run .now)) (c .before .before .before .before .before .args .n) (c .before .before .before .before .before .args .count) (c .before .before .before .loop .seen) (rw d at (c .before .before .before .loop .inv .2))
+    let start = c .before .before .before .before .before in
+    let now = c .before .before .before .loop in
+    let d : now .i ≡ start .args .count = omega (arith, now .inv .0) in
+    let e : start .args .n + 1 - 1 ≡ start .args .n = omega arith in
+    λ cl. rw e at (c .all-marked .ensures) ∙ pass-end cl (start .args .run .now) (start .args .n)
+    (start .args .count) (now .seen) (rw d at (now .inv .2))
 
 pub numbered-spec : {M : Type 1} → statement M
 numbered-spec =

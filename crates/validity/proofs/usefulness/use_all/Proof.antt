@@ -1,54 +1,61 @@
-use native.Mathlib.Omega.{arith}
+-- `validity::usefulness::use_all` meets its contract: the marks have spread by the last j transitions.
 use mathlib.Core.Path.{_∙_, _≡_}
 use Prim.Native.Nat.{_-_, _≤_}
-use Rattle.fields.proofs.Transitions.{readable}
-use Rattle.validity.specs.Rules.{nthDown}
-use Rattle.validity.specs.Spread.{Spread, UpTo}
-use Rattle.validity.proofs.Spreading.{spread-begin, spread-next}
+use native.Mathlib.Omega.{arith}
 use borrow.Author.Needs.{needs}
+use Rattle.validity.specs.Rules.{nthDown}
+use Rattle.validity.specs.Spread.{Spread, UpTo, fromLast}
+use Rattle.fields.proofs.Transitions.{readable}
+use Rattle.validity.proofs.Spreading.{spread-back, spread-begin, spread-next}
 use Rattle.validity.proofs.usefulness.use_all.Statement.{statement}
 use Rattle.validity.proofs.usefulness.use_all.Tie as tie
-use Rattle.validity.proofs.usefulness.use_all.Reads as reads
-use Rattle.validity.proofs.usefulness.use_all.Lts as lts
-use Rattle.validity.proofs.usefulness.use_transition.Reads as use-transition-reads
 
 abbrev Inv-loop : tie.InvT-loop
-Inv-loop run count marks₀ changed₀ i₀ marks changed i =
-    (i ≤ count) × Spread (UpTo (nthDown run) i) marks₀ marks changed
+Inv-loop run count marks₀ changed₀ j₀ marks changed j =
+    (j ≤ count) × Spread (UpTo (fromLast (nthDown run) count) j) marks₀ marks changed
 
 abbrev μ-loop : tie.MeasureT-loop
-μ-loop run count marks₀ changed₀ i₀ marks changed i = count - i
+μ-loop run count marks₀ changed₀ j₀ marks changed j = count - j
 
--- src/usefulness.rt:62:5
 loop-holds : tie.Need-loop-holds Inv-loop μ-loop
-loop-holds c = (omega arith, spread-begin (nthDown (c .before .args .run .now)))
+loop-holds c = (omega arith, spread-begin (fromLast (nthDown (c .before .args .run .now)) (c .before .args .count)))
 
--- src/usefulness.rt:63:37
+sub-use-transition : tie.Need-sub-use-transition Inv-loop μ-loop
+sub-use-transition c = search needs
+
+sub-use-transition-2 : tie.Need-sub-use-transition-2 Inv-loop μ-loop
+sub-use-transition-2 c = search needs
+
 mul-use-transition : tie.Need-mul-use-transition Inv-loop μ-loop
 mul-use-transition c = search needs
 
--- src/usefulness.rt:63:13
 use-transition-requires : tie.Need-use-transition-requires Inv-loop μ-loop
 use-transition-requires c κs =
-    (readable (c .before .before .before .before .pre .0) (c .before .before .loop .i) (omega arith), c .before .before .loop .inv .1 .swept .size ∙ c .before .before .before .before .pre .1)
+    let start = c .before .before .before .before in
+    let now = c .before .before .loop in
+    (readable (start .pre .0) (start .args .count - 1 - now .j) (omega arith), now .inv .1 .swept .size ∙ start .pre .1)
 
--- src/usefulness.rt:65:9
-add-i : tie.Need-add-i Inv-loop μ-loop
-add-i c = search needs
+add-j : tie.Need-add-j Inv-loop μ-loop
+add-j c = search needs
 
--- src/usefulness.rt:62:5
 loop-less : tie.Need-loop-less Inv-loop μ-loop
 loop-less c = search needs
 
--- src/usefulness.rt:62:5
 loop-again : tie.Need-loop-again Inv-loop μ-loop
 loop-again c =
-    (omega arith, spread-next (nthDown (c .before .before .before .before .before .args .run .now)) (c .before .before .before .loop .i) (c .before .before .before .loop .inv .1) (c .use-transition .ensures))
+    let start = c .before .before .before .before .before in
+    let now = c .before .before .before .loop in (
+      omega arith,
+      spread-next (fromLast (nthDown (start .args .run .now)) (start .args .count)) (now .j)
+          (now .inv .1) (c .use-transition .ensures),
+    )
 
--- src/usefulness.rt:55:1
 returns : tie.Need-returns Inv-loop μ-loop
 returns c =
-    let e : c .before .loop .i ≡ c .before .before .before .args .count = omega (arith, c .before .loop .inv .0) in rw e at (c .before .loop .inv .1)
+    let start = c .before .before .before in
+    let now = c .before .loop in
+    let e : now .j ≡ start .args .count = omega (arith, now .inv .0) in
+    spread-back (nthDown (start .args .run .now)) (start .args .count) (rw e at (now .inv .1))
 
 pub use-all-spec : {M : Type 1} → statement M
 use-all-spec =
@@ -57,9 +64,11 @@ use-all-spec =
     Inv-loop
     μ-loop
     loop-holds
+    sub-use-transition
+    sub-use-transition-2
     mul-use-transition
     use-transition-requires
-    add-i
+    add-j
     loop-less
     loop-again
     returns)
