@@ -1,0 +1,25 @@
+-- The lines that document 01 prints for its example, and others, computed.
+use mathlib.Core.List.{[], _∷_}
+use mathlib.Core.Path.{_≡_, refl}
+use Rattle.report.specs.Report.{decimal, digits, done, endText, field, form, lineText, outcomeText, refused}
+
+-- 1 done 2 2
+done-sample : lineText 1 (done 2 2) ≡ 49 ∷ 32 ∷ 100 ∷ 111 ∷ 110 ∷ 101 ∷ 32 ∷ 50 ∷ 32 ∷ 50 ∷ 10 ∷ []
+unfolding lineText outcomeText field decimal digits
+done-sample = refl
+
+-- 3 refused 15
+refused-sample : lineText 3 (refused 15) ≡
+    51 ∷ 32 ∷ 114 ∷ 101 ∷ 102 ∷ 117 ∷ 115 ∷ 101 ∷ 100 ∷ 32 ∷ 49 ∷ 53 ∷ 10 ∷ []
+unfolding lineText outcomeText field decimal digits
+refused-sample = refl
+
+-- 70 form 100
+form-sample : lineText 70 (form 100) ≡ 55 ∷ 48 ∷ 32 ∷ 102 ∷ 111 ∷ 114 ∷ 109 ∷ 32 ∷ 49 ∷ 48 ∷ 48 ∷ 10 ∷ []
+unfolding lineText outcomeText field decimal digits
+form-sample = refl
+
+-- end 0 0 0
+end-sample : endText 0 0 0 ≡ 101 ∷ 110 ∷ 100 ∷ 32 ∷ 48 ∷ 32 ∷ 48 ∷ 32 ∷ 48 ∷ 10 ∷ []
+unfolding endText field decimal digits
+end-sample = refl
