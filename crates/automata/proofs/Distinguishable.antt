@@ -24,11 +24,10 @@ use Rattle.lists.proofs.Tests.{any-in, append-in, every-in, in-any, in-append-l
 use Rattle.lists.proofs.Tests.{or-cases, or-left, or-right}
 
 -- every transition gives its slots, and every slot is of a transition
-slot : ℕ → List ℕ → List ℕ → Slot
+abbrev pub slot : ℕ → List ℕ → List ℕ → Slot
 slot a l r = record { label = a; before = l; after = r }
 
 in-slotsOf : (a : ℕ) (l : List ℕ) (q : ℕ) (r : List ℕ) → slot a l r ∈ slotsOf a (l ++ (q ∷ r))
-unfolding slot
 in-slotsOf a [] q r = inl refl
 in-slotsOf a (p ∷ l) q r =
     inr (in-map (push p) (slotsOf a (l ++ (q ∷ r))) (slot a l r) (in-slotsOf a l q r))
@@ -43,7 +42,7 @@ slotsOf-in a (q ∷ qs) s (inr m) = let r = map-in (push q) (slotsOf a qs) s m i
         (s .label ≡ a) × ((p : ℕ) × ((q ∷ qs) ≡ s .before ++ (p ∷ s .after)))
     go u e (h, (p, k)) = (rw e h, (p, rw e (ap (λ (x : List ℕ). q ∷ x) k)))
 
-in-slots : (ls : List Transition) (l : Transition) (b : List ℕ) (q : ℕ) (c : List ℕ) → l ∈ ls →
+pub in-slots : (ls : List Transition) (l : Transition) (b : List ℕ) (q : ℕ) (c : List ℕ) → l ∈ ls →
     l .args ≡ b ++ (q ∷ c) → slot (l .label) b c ∈ slots ls
 in-slots (m ∷ ls) l b q c (inl e) h =
     in-append-left (slotsOf (m .label) (m .args)) (slots ls) (slot (l .label) b c)
@@ -52,7 +51,7 @@ in-slots (m ∷ ls) l b q c (inr i) h =
     in-append-right (slotsOf (m .label) (m .args)) (slots ls) (slot (l .label) b c)
     (in-slots ls l b q c i h)
 
-slots-in : (ls : List Transition) (s : Slot) → s ∈ slots ls →
+pub slots-in : (ls : List Transition) (s : Slot) → s ∈ slots ls →
     (l : Transition) × (l ∈ ls) × (s .label ≡ l .label) ×
     ((q : ℕ) × (l .args ≡ s .before ++ (q ∷ s .after)))
 slots-in (l ∷ ls) s m = go (append-in (slotsOf (l .label) (l .args)) (slots ls) s m) (slots-in ls s)
@@ -138,7 +137,6 @@ module _ (A : Automaton) where
 
     pub separated-distinguishable : (c : Context) (p q : ℕ) → p ≤ states A → q ≤ states A →
         accepting A (runContext A c p) ≢ accepting A (runContext A c q) → distinguishable A p q ≡ true
-    unfolding slot
     separated-distinguishable [] p q h k d =
         closed eqPair eqPair-true eqPair-same (distinguishableRule A) (pairs A) (p, q) (in-pairs p q h k)
         (or-left _ _ (differs (accepting A p) (accepting A q) d))

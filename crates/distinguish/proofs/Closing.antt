@@ -1,0 +1,312 @@
+-- The rules of the marks against the pairs that some context tells apart: these are closed under the rules, and
+-- marks that are closed and have the seeds have every such pair.
+use mathlib.Core.Bool.{Bool, Bool·beq, _||_, not, true}
+use mathlib.Core.List.{List, [], _++_, _∷_, map}
+use mathlib.Core.Logic.{_⊎_, inl, inr}
+use mathlib.Core.Path.{_∙_, _≡_, ap, refl, subst, subst₂, sym}
+use Prim.Native.Nat.{_%_, _*_, _+_, _-_, _/_, _<_, _≤_, suc, zero, ℕ}
+use native.Mathlib.Omega.{arith}
+use lib.Dec.{eqb}
+use lib.ListN.{length, length-append}
+use Rattle.automata.specs.Automaton.{Automaton, Transition, accepting, states, step}
+use Rattle.automata.specs.Distinguishable.{Slot, allDistinguishable, distinguishable, distinguishablePairs}
+use Rattle.automata.specs.Distinguishable.{distinguishableRule, pairs, slots, stepSlot}
+use Rattle.automata.specs.Order.{rising}
+use Rattle.automata.specs.Valid.{statesInRange}
+use Rattle.distinguish.specs.Telling.{MarksOf, Seed, SeedRow, Tell, allToldApart, nthTell, pairAt, slotAt}
+use Rattle.distinguish.specs.Telling.{stepAt, toldApart}
+use Rattle.fields.specs.View.{Viewed, viewed}
+use Rattle.format.specs.Format.{transitionBytes}
+use Rattle.lists.specs.Closure.{elem}
+use Rattle.lists.specs.Positions.{Pair, eqPair, upFrom}
+use Rattle.lists.specs.Tests.{_∈_, any, every}
+use Rattle.marking.specs.Marks.{marked, marks}
+use Rattle.table.specs.Layout.{argOf, arityOf, labelOf, nthTransition, outOf, transitionAt, transitionsIn}
+use Rattle.validity.specs.Spread.{Covers, UpTo}
+use Rattle.automata.proofs.Distinguishable.{in-slots, step-fits}
+use Rattle.automata.proofs.Order.{lookup-transition}
+use Rattle.automata.proofs.Steps.{Fits, Taken, step-view}
+use Rattle.automata.proofs.Valid.{ranged-fits}
+use Rattle.distinguish.proofs.Symmetry.{told-sym, zero-not-told}
+use Rattle.fields.proofs.Transitions.{args-length, in-transitionsIn, transitionsIn-nth}
+use Rattle.lists.proofs.Closure.{closed, closure-all}
+use Rattle.lists.proofs.Distinct.{grid-in}
+use Rattle.lists.proofs.Intervals.{length-tabulated}
+use Rattle.lists.proofs.Positions.{eqPair-same, eqPair-true, in-grid, in-upFrom, upFrom-in}
+use Rattle.lists.proofs.Tests.{any-in, every-same-in, in-any, none-zero, or-cases, or-left, or-right}
+use Rattle.validity.proofs.Fixpoints.{same-test}
+use Rattle.validity.proofs.Views.{viewed-arg, viewed-classes, viewed-ranged, viewed-states}
+
+-- the arguments around place k
+split-upFrom : (f : ℕ → ℕ) (j k n : ℕ) → k < n →
+    map f (upFrom j n) ≡ map f (upFrom j k) ++ (f (j + k) ∷ map f (upFrom (j + k + 1) (n - (k + 1))))
+split-upFrom f j k zero h = absurd (omega arith)
+split-upFrom f j zero (suc n) h =
+    let a : j + 0 ≡ j = omega arith in
+    let b : j + 1 ≡ suc j = omega arith in
+    let d : suc n - (0 + 1) ≡ n = omega arith in
+    rw (a, b, d)
+split-upFrom f j (suc k) (suc n) h =
+    let a : j + suc k ≡ suc j + k = omega arith in
+    let d : suc n - (suc k + 1) ≡ n - (k + 1) = omega arith in
+    rw (a, d) (ap (λ (xs : List ℕ). f j ∷ xs) (split-upFrom f (suc j) k n (omega arith)))
+
+pub args-around : (s : List ℕ) (at k : ℕ) → k < arityOf s at →
+    transitionAt s at .args ≡ slotAt s at k .before ++ (argOf s at k ∷ slotAt s at k .after)
+args-around s at k h =
+    let a : 0 + k ≡ k = omega arith in
+    let e = split-upFrom (argOf s at) 0 k (arityOf s at) h in
+    rw a at e
+
+-- lists of one length in front of others
+cancel : (xs ys us vs : List ℕ) → length xs ≡ length ys → xs ++ us ≡ ys ++ vs → (xs ≡ ys) × (us ≡ vs)
+cancel [] [] us vs h e = (refl, e)
+cancel [] (y ∷ ys) us vs h e = absurd (omega arith)
+cancel (x ∷ xs) [] us vs h e = absurd (omega arith)
+cancel (x ∷ xs) (y ∷ ys) us vs h e =
+    let a : x ≡ y = cc in
+    let b : xs ++ us ≡ ys ++ vs = cc in
+    let r = cancel xs ys us vs (omega arith) b in
+    (cc (a, r .0), r .1)
+
+head-is : (x y : ℕ) (xs ys : List ℕ) → x ∷ xs ≡ y ∷ ys → (x ≡ y) × (xs ≡ ys)
+head-is x y xs ys e = (cc, cc)
+
+-- a transition's arguments, taken apart at a place
+pub slot-is : (s : List ℕ) (at q : ℕ) (z : Slot) → labelOf s at ≡ z .label →
+    transitionAt s at .args ≡ z .before ++ (q ∷ z .after) →
+    (length (z .before) < arityOf s at) × (slotAt s at (length (z .before)) ≡ z) × (argOf s at (length (z .before)) ≡ q)
+slot-is s at q z l e = (inside, (λ i. record { label = l i; before = r .0 i; after = t .1 i }), t .0)
+  where
+    k : ℕ
+    k = length (z .before)
+
+    inside : length (z .before) < arityOf s at
+    inside =
+        omega (arith, sym (args-length s at), ap length e, length-append (z .before) (q ∷ z .after))
+
+    around : slotAt s at k .before ++ (argOf s at k ∷ slotAt s at k .after) ≡ z .before ++ (q ∷ z .after)
+    around = sym (args-around s at k inside) ∙ e
+
+    r : (slotAt s at k .before ≡ z .before) × (argOf s at k ∷ slotAt s at k .after ≡ q ∷ z .after)
+    r = cancel (slotAt s at k .before) (z .before) _ _ (length-tabulated (argOf s at) 0 k) around
+
+    t : (argOf s at k ≡ q) × (slotAt s at k .after ≡ z .after)
+    t = head-is (argOf s at k) q (slotAt s at k .after) (z .after) (r .1)
+
+module _ (cl s : List ℕ) (n c : ℕ) (view : Viewed cl s n c) (rises : rising (transitionsIn s c) ≡ true) where
+  abbrev A : Automaton
+  A = viewed cl s n c
+
+  ranged : statesInRange A ≡ true
+  ranged = viewed-ranged cl s n c (view .over)
+
+  fit : Fits A
+  fit = ranged-fits A ranged
+
+  many : states A ≡ n
+  many = viewed-states cl s n c
+
+  -- the pairs that some context tells apart, as entries
+  unfoldable pub told : ℕ → Bool
+  told x = distinguishable A (x / 256) (x % 256)
+
+  pub told-at : (p q : ℕ) → q < 256 → told (pairAt p q) ≡ distinguishable A p q
+  unfolding told
+  told-at p q h = let r : (pairAt p q / 256 ≡ p) × (pairAt p q % 256 ≡ q) = (omega arith, omega arith) in rw (r .0, r .1)
+
+  in-pairs : (p q : ℕ) → p ≤ n → q ≤ n → _∈_ {A = Pair} (p, q) (pairs A)
+  in-pairs p q h l =
+      in-grid (upFrom 0 (suc (states A))) (upFrom 0 (suc (states A))) p q
+      (in-upFrom 0 (suc (states A)) p (omega arith) (omega (arith, many)))
+      (in-upFrom 0 (suc (states A)) q (omega arith) (omega (arith, many)))
+
+  by-rule : (p q : ℕ) → p ≤ n → q ≤ n → distinguishableRule A (λ j. elem eqPair j (distinguishablePairs A)) (p, q) ≡ true →
+      distinguishable A p q ≡ true
+  by-rule p q h l e = closed eqPair eqPair-true eqPair-same (distinguishableRule A) (pairs A) (p, q) (in-pairs p q h l) e
+
+  -- the step at a transition's place is the automaton's
+  step-slot : (at k q : ℕ) → stepAt s c at k q ≡ stepSlot A (slotAt s at k) q
+  step-slot at k q = refl
+
+  step-small : (at k q : ℕ) → stepAt s c at k q ≤ n
+  step-small at k q =
+      omega (arith, many, step-fits A fit (labelOf s at) (slotAt s at k .before ++ (q ∷ slotAt s at k .after)))
+
+  own-step : (i k : ℕ) → i < c → k < arityOf s (transitionBytes * i) →
+      stepSlot A (slotAt s (transitionBytes * i) k) (argOf s (transitionBytes * i) k) ≡ outOf s (transitionBytes * i)
+  own-step i k h l =
+      let e = args-around s (transitionBytes * i) k l in
+      let z = none-zero (nthTransition s i .args) (λ q j. viewed-arg cl s n c (view .over) i h q j .0) in
+      ap (λ (qs : List ℕ). step A (labelOf s (transitionBytes * i)) qs) (sym e)
+      ∙ rw z (lookup-transition (transitionsIn s c) rises (nthTransition s i) (transitionsIn-nth s c i h))
+
+  -- a rule's step, one way or the other
+  told-tell : (i k q : ℕ) → i < c → k < arityOf s (transitionBytes * i) → q < n + 1 → Tell s c (transitionBytes * i) k q told
+  told-tell i k q h l b e = record {
+    there = told-at a q (omega (arith, view .states)) ∙ there;
+    back = told-at q a (omega (arith, view .states, arg-small)) ∙ told-sym A a q there;
+  }
+    where
+      at : ℕ
+      at = transitionBytes * i
+
+      a : ℕ
+      a = argOf s (transitionBytes * i) k
+
+      arg-small : a ≤ n
+      arg-small = view .over .arg-state i k h l
+
+      out-small : outOf s (transitionBytes * i) ≤ n
+      out-small = view .over .out-state i h
+
+      x : ℕ
+      x = outOf s (transitionBytes * i)
+
+      y : ℕ
+      y = stepAt s c (transitionBytes * i) k q
+
+      apart : distinguishable A x y ≡ true
+      apart = go (or-cases (told (pairAt x y)) (told (pairAt y x)) e)
+        where
+          go : (told (pairAt x y) ≡ true) ⊎ (told (pairAt y x) ≡ true) → distinguishable A x y ≡ true
+          go (inl d) = sym (told-at x y (omega (arith, view .states, step-small (transitionBytes * i) k q))) ∙ d
+          go (inr d) = told-sym A y x (sym (told-at y x (omega (arith, view .states, out-small))) ∙ d)
+
+      there : distinguishable A a q ≡ true
+      there =
+          by-rule a q arg-small (omega arith)
+          (or-right (not (Bool·beq (accepting A a) (accepting A q))) _
+          (in-any (λ z. distinguishable A (stepSlot A z a) (stepSlot A z q)) (slots (transitionsIn s c))
+          (slotAt s (transitionBytes * i) k)
+          (in-slots (transitionsIn s c) (nthTransition s i) (slotAt s (transitionBytes * i) k .before) a
+          (slotAt s (transitionBytes * i) k .after) (transitionsIn-nth s c i h) (args-around s (transitionBytes * i) k l))
+          (subst (λ (z : ℕ). distinguishable A z y ≡ true) (sym (own-step i k h l)) apart)))
+
+  pub told-closed : UpTo (nthTell s c n) c told
+  told-closed i h k l q b = told-tell i k q h l b
+
+  -- pairs of different classes are told apart
+  pub told-seed : (p q : ℕ) → p ≤ n → q ≤ n → Seed A p q told
+  told-seed p q h l e = told-at p q (omega (arith, view .states)) ∙ by-rule p q h l (or-left _ _ e)
+
+  -- a step that is taken is a transition with this argument at this place
+  Through : Slot → ℕ → Type 0
+  Through z p = (i : ℕ) × (i < c) × (k : ℕ) × (k < arityOf s (transitionBytes * i)) ×
+      (slotAt s (transitionBytes * i) k ≡ z) × (argOf s (transitionBytes * i) k ≡ p) ×
+      (outOf s (transitionBytes * i) ≡ stepSlot A z p)
+
+  -- marks that are closed under the rules, have the seeds, and do not have the pair of 0 with itself
+  module _ (m : ℕ → Bool) (tell : UpTo (nthTell s c n) c m) (seeds : (p q : ℕ) → p ≤ n → q ≤ n → Seed A p q m)
+      (none : m (pairAt 0 0) ≡ true → ⊥) where
+    through-there : (z : Slot) (p q : ℕ) → q ≤ n → Through z p → m (pairAt (stepSlot A z p) (stepSlot A z q)) ≡ true →
+        m (pairAt p q) ≡ true
+    unfolding Through
+    through-there z p q l (i, h, k, b, e, a, o) d =
+        subst (λ (x : ℕ). m (pairAt x q) ≡ true) a
+        (tell i h k b q (omega arith)
+        (or-left _ _ (subst₂ (λ (x : ℕ) (y : Slot). m (pairAt x (stepSlot A y q)) ≡ true) (sym o) (sym e) d)) .there)
+
+    through-back : (z : Slot) (p q : ℕ) → p ≤ n → Through z q → m (pairAt (stepSlot A z p) (stepSlot A z q)) ≡ true →
+        m (pairAt p q) ≡ true
+    unfolding Through
+    through-back z p q l (i, h, k, b, e, a, o) d =
+        subst (λ (x : ℕ). m (pairAt p x) ≡ true) a
+        (tell i h k b p (omega arith)
+        (or-right (m (pairAt (outOf s (transitionBytes * i)) (stepAt s c (transitionBytes * i) k p))) _
+        (subst₂ (λ (x : ℕ) (y : Slot). m (pairAt (stepSlot A y p) x) ≡ true) (sym o) (sym e) d)) .back)
+
+    taken-through : (z : Slot) (p : ℕ) → Taken A (z .label) (z .before ++ (p ∷ z .after)) → Through z p
+    unfolding Through
+    taken-through z p (y, (τ, j, l, a, o)) =
+        let (i, h, e) = in-transitionsIn s c τ j in
+        let x = slot-is s (transitionBytes * i) p z (ap (λ (υ : Transition). υ .label) (sym e) ∙ l)
+        (ap (λ (υ : Transition). υ .args) (sym e) ∙ a) in
+        (i, h, length (z .before), x .0, x .1, x .2, ap (λ (υ : Transition). υ .out) (sym e) ∙ o)
+
+    slot-marked : (z : Slot) (p q : ℕ) → p ≤ n → q ≤ n → m (pairAt (stepSlot A z p) (stepSlot A z q)) ≡ true →
+        m (pairAt p q) ≡ true
+    slot-marked z p q h l d =
+        go (step-view A (z .label) (z .before ++ (p ∷ z .after))) (step-view A (z .label) (z .before ++ (q ∷ z .after)))
+      where
+        go : (stepSlot A z p ≡ 0) ⊎ Taken A (z .label) (z .before ++ (p ∷ z .after)) →
+            (stepSlot A z q ≡ 0) ⊎ Taken A (z .label) (z .before ++ (q ∷ z .after)) → m (pairAt p q) ≡ true
+        go (inr u) y = through-there z p q l (taken-through z p u) d
+        go (inl x) (inr u) = through-back z p q h (taken-through z q u) d
+        go (inl x) (inl y) = absurd (none (subst₂ (λ (a b : ℕ). m (pairAt a b) ≡ true) x y d))
+
+    pub told-marked : (p q : ℕ) → distinguishable A p q ≡ true → m (pairAt p q) ≡ true
+    told-marked p q e = closure-all eqPair eqPair-true eqPair-same (distinguishableRule A) (pairs A) Marked made (p, q) e
+      where
+        Marked : Pair → Type 0
+        Marked k = m (pairAt (k .0) (k .1)) ≡ true
+
+        made : (r : Pair → Bool) → ((j : Pair) → r j ≡ true → Marked j) → (k : Pair) → k ∈ pairs A →
+            distinguishableRule A r k ≡ true → Marked k
+        made r ih k i e = go (or-cases (not (Bool·beq (accepting A (k .0)) (accepting A (k .1)))) _ e)
+          where
+            small : (k .0 ≤ n) × (k .1 ≤ n)
+            small =
+                let g = grid-in (upFrom 0 (suc (states A))) (upFrom 0 (suc (states A))) k i in (
+                  omega (arith, many, upFrom-in 0 (suc (states A)) (k .0) (g .0)),
+                  omega (arith, many, upFrom-in 0 (suc (states A)) (k .1) (g .1)),
+                )
+
+            go : (not (Bool·beq (accepting A (k .0)) (accepting A (k .1))) ≡ true) ⊎
+                (any (λ z. r (stepSlot A z (k .0), stepSlot A z (k .1))) (slots (transitionsIn s c)) ≡ true) → Marked k
+            go (inl d) = seeds (k .0) (k .1) (small .0) (small .1) d
+            go (inr d) =
+                let (z, j, f) = any-in (λ z. r (stepSlot A z (k .0), stepSlot A z (k .1))) (slots (transitionsIn s c)) d in
+                slot-marked z (k .0) (k .1) (small .0) (small .1) (ih (stepSlot A z (k .0), stepSlot A z (k .1)) f)
+
+-- ---- the two loops of marks
+
+-- the pairs of different classes are marked
+abbrev pub Seeded : List ℕ → ℕ → List ℕ → Type 0
+Seeded cl n m = (p q : ℕ) → p ≤ n → q ≤ n → Seed (viewed cl [] n 0) p q (marked m)
+
+module _ (cl s : List ℕ) (n c : ℕ) (view : Viewed cl s n c) (rises : rising (transitionsIn s c) ≡ true) where
+  abbrev D : ℕ → Bool
+  D = told cl s n c view rises
+
+  class-any : (p : ℕ) → accepting (viewed cl [] n 0) p ≡ accepting (viewed cl s n c) p
+  class-any p = viewed-classes cl s n c p
+
+  pub told-seeds : UpTo (SeedRow (viewed cl [] n 0) n) (n + 1) (told cl s n c view rises)
+  told-seeds p h q l e =
+      told-seed cl s n c view rises p q (omega arith) (omega arith)
+      (subst₂ (λ (a b : Bool). not (Bool·beq a b) ≡ true) (class-any p) (class-any q) e)
+
+  pub seeded : (m : List ℕ) → UpTo (SeedRow (viewed cl [] n 0) n) (n + 1) (marked m) → Seeded cl n m
+  seeded m u p q h l e = u p (omega arith) q (omega arith) e
+
+  pub marks-of : {m : List ℕ} → Covers (told cl s n c view rises) m → Seeded cl n m → UpTo (nthTell s c n) c (marked m) →
+      MarksOf m (viewed cl s n c)
+  marks-of {m} within seeds tell = record { marks = λ p q h l. exact p q (omega (arith, viewed-states cl s n c)) (omega (arith, viewed-states cl s n c)) }
+    where
+      none : marked m (pairAt 0 0) ≡ true → ⊥
+      none e = zero-not-told (viewed cl s n c) (sym (told-at cl s n c view rises 0 0 (omega arith)) ∙ within (pairAt 0 0) e)
+
+      own : (p q : ℕ) → p ≤ n → q ≤ n → Seed (viewed cl s n c) p q (marked m)
+      own p q h l e = seeds p q h l (subst₂ (λ (a b : Bool). not (Bool·beq a b) ≡ true) (sym (class-any p)) (sym (class-any q)) e)
+
+      exact : (p q : ℕ) → p ≤ n → q ≤ n → marked m (pairAt p q) ≡ distinguishable (viewed cl s n c) p q
+      exact p q h l =
+          same-test (marked m (pairAt p q)) (distinguishable (viewed cl s n c) p q)
+          (λ e. sym (told-at cl s n c view rises p q (omega (arith, view .states))) ∙ within (pairAt p q) e)
+          (told-marked cl s n c view rises (marked m) tell own none p q)
+
+-- all pairs of different states are marked exactly when condition 12 holds
+pub all-told-apart : (cl s m : List ℕ) (n c : ℕ) → MarksOf m (viewed cl s n c) →
+    allToldApart m n ≡ allDistinguishable (viewed cl s n c)
+unfolding allToldApart
+all-told-apart cl s m n c k =
+    ap (λ (j : ℕ). every (λ p. every (toldApart m p) (upFrom 1 j)) (upFrom 1 j)) (sym (viewed-states cl s n c))
+    ∙ every-same-in (λ p. every (toldApart m p) (upFrom 1 (states A)))
+    (λ p. every (λ q. eqb p q || distinguishable A p q) (upFrom 1 (states A))) (upFrom 1 (states A))
+    (λ p i. every-same-in (toldApart m p) (λ q. eqb p q || distinguishable A p q) (upFrom 1 (states A))
+    (λ q j. ap (λ (b : Bool). eqb p q || b) (k .marks p q
+    (omega (arith, upFrom-in 1 (states A) p i)) (omega (arith, upFrom-in 1 (states A) q j)))))
+  where
+    A : Automaton
+    A = viewed cl s n c

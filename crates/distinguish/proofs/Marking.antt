@@ -1,0 +1,244 @@
+-- Laws that the functions' proofs cite: tests of marks, one new mark, and how rules are met.
+use mathlib.Core.Bool.{Bool, Bool·beq, _&&_, _||_, false, false≢true, not, true, true≢false}
+use mathlib.Core.List.{List, [], _++_, _∷_, map}
+use mathlib.Core.Logic.{_≢_, _⊎_, inl, inr}
+use mathlib.Core.Path.{_∙_, _≡_, ap, ap₂, refl, subst, subst₂, sym}
+use Prim.Native.Nat.{_*_, _+_, _-_, _<_, _≤_, suc, zero, ℕ}
+use native.Mathlib.Omega.{arith}
+use lib.Dec.{eqb}
+use lib.ListN.{getD, length, length-replicate, replicate, set}
+use lib.Seq.{getD-set-other, getD-set-same}
+use borrow.Author.Tests.{eq-eqb, eqb-false, eqb-true, ne-eqb, not-false, not-true}
+use Rattle.automata.specs.Automaton.{Automaton, accepting, lookup}
+use Rattle.distinguish.specs.Telling.{Copied, Seed, Tell, eitherWay, pairAt, pairCount, slotAt, stepAt}
+use Rattle.distinguish.specs.Telling.{toldApart, unmarked}
+use Rattle.fields.specs.Fields.{RunsOver}
+use Rattle.fields.specs.View.{viewed}
+use Rattle.format.specs.Format.{argsAt, maxArity, transitionBytes}
+use Rattle.lists.specs.Positions.{upFrom}
+use Rattle.lists.specs.Tests.{_∈_, any}
+use Rattle.marking.specs.Marks.{marked, nonzero}
+use Rattle.table.specs.Layout.{argOf, arityOf, labelOf, outOf, transitionAt, transitionsIn}
+use Rattle.validity.specs.Rules.{Has}
+use Rattle.validity.specs.Spread.{Covers, Rule, Spread}
+use Rattle.automata.proofs.Steps.{step-zero}
+use Rattle.distinguish.proofs.Closing.{args-around}
+use Rattle.lists.proofs.Tests.{and-left, and-right, append-in, in-append-left, in-append-right, none-zero, or-cases}
+use Rattle.lists.proofs.Tests.{or-left, or-right}
+use Rattle.marking.proofs.Sweeps.{nonzero-false, nonzero-true, swept-closed, swept-then}
+use Rattle.validity.proofs.Spreading.{spread-if, spread-mark, spread-none}
+use Rattle.validity.proofs.Views.{viewed-arg}
+
+pub unequal-marked : (x : ℕ) → not (eqb x 0) ≡ nonzero x
+unequal-marked zero = refl
+unequal-marked (suc x) = rw (ne-eqb (suc x) 0 (λ e. omega arith))
+
+pub both-not : (m : List ℕ) (x y : ℕ) → getD m (pairAt x y) 0 ≡ 0 →
+    false ≡ (marked m (pairAt x y) && marked m (pairAt y x))
+both-not m x y e = rw (nonzero-false _ e)
+
+pub both-rest : (m : List ℕ) (x y : ℕ) → getD m (pairAt x y) 0 ≢ 0 →
+    not (eqb (getD m (pairAt y x) 0) 0) ≡ (marked m (pairAt x y) && marked m (pairAt y x))
+both-rest m x y e = rw (nonzero-true _ e) (unequal-marked (getD m (pairAt y x) 0))
+
+pub either-first : (m : List ℕ) (x y : ℕ) → getD m (pairAt x y) 0 ≢ 0 → true ≡ eitherWay (marked m) x y
+either-first m x y e = rw (nonzero-true _ e)
+
+pub either-rest : (m : List ℕ) (x y : ℕ) → getD m (pairAt x y) 0 ≡ 0 →
+    not (eqb (getD m (pairAt y x) 0) 0) ≡ eitherWay (marked m) x y
+either-rest m x y e = rw (nonzero-false _ e) (unequal-marked (getD m (pairAt y x) 0))
+
+pub told-same : (m : List ℕ) (p q : ℕ) → p ≡ q → true ≡ toldApart m p q
+told-same m p q e = rw (eq-eqb p q e)
+
+pub told-other : (m : List ℕ) (p q : ℕ) → p ≢ q → not (eqb (getD m (pairAt p q) 0) 0) ≡ toldApart m p q
+told-other m p q e = rw (ne-eqb p q e) (unequal-marked (getD m (pairAt p q) 0))
+
+-- ---- one entry
+
+pub mark-old : (m : List ℕ) (i : ℕ) → getD m i 0 ≢ 0 → Spread (Has i) m m false
+mark-old m i e = spread-none (nonzero-true (getD m i 0) e)
+
+pub mark-new : (m : List ℕ) (i : ℕ) → length m ≡ pairCount → i < pairCount → getD m i 0 ≡ 0 →
+    Spread (Has i) m (set m i 1) true
+mark-new m i size h e = spread-mark i (omega arith) (nonzero-false (getD m i 0) e) (λ p c w. c)
+
+-- ---- seeds
+
+pub seed-none : (A : Automaton) (p q : ℕ) (m : List ℕ) {a b : Bool} → a ≡ accepting A p → b ≡ accepting A q →
+    Bool·beq a b ≡ true → Spread (Seed A p q) m m false
+seed-none A p q m e f g =
+    spread-none (λ d. absurd (false≢true (sym (ap not (sym (ap₂ Bool·beq e f) ∙ g)) ∙ d)))
+
+pub seed-some : (A : Automaton) (p q : ℕ) {m m' : List ℕ} {a b r : Bool} → a ≡ accepting A p → b ≡ accepting A q →
+    Bool·beq a b ≡ false → Spread (Has (pairAt p q)) m m' r → Spread (Seed A p q) m m' r
+seed-some A p q e f g t = spread-if (λ r w s. s (ap not (sym (ap₂ Bool·beq e f) ∙ g))) (λ h d. h) t
+
+-- ---- telling
+
+pub tell-old : (s : List ℕ) (c at k q : ℕ) (m : List ℕ) →
+    (marked m (pairAt (argOf s at k) q) && marked m (pairAt q (argOf s at k))) ≡ true → Spread (Tell s c at k q) m m false
+tell-old s c at k q m e =
+    spread-none (λ d. record { there = and-left _ _ e; back = and-right (marked m (pairAt (argOf s at k) q)) _ e })
+
+pub tell-not : (s : List ℕ) (c at k q : ℕ) (m : List ℕ) → eitherWay (marked m) (outOf s at) (stepAt s c at k q) ≡ false →
+    Spread (Tell s c at k q) m m false
+tell-not s c at k q m e = spread-none (λ d. absurd (true≢false (sym d ∙ e)))
+
+either-covered : (p : ℕ → Bool) (m : List ℕ) (x y : ℕ) → Covers p m → eitherWay (marked m) x y ≡ true →
+    eitherWay p x y ≡ true
+either-covered p m x y w e = go (or-cases (marked m (pairAt x y)) (marked m (pairAt y x)) e)
+  where
+    go : (marked m (pairAt x y) ≡ true) ⊎ (marked m (pairAt y x) ≡ true) → eitherWay p x y ≡ true
+    go (inl d) = or-left _ _ (w (pairAt x y) d)
+    go (inr d) = or-right (p (pairAt x y)) _ (w (pairAt y x) d)
+
+pub tell-new : (s : List ℕ) (c at k q : ℕ) {m m' m'' : List ℕ} {x y : Bool} →
+    eitherWay (marked m) (outOf s at) (stepAt s c at k q) ≡ true → Spread (Has (pairAt (argOf s at k) q)) m m' x →
+    Spread (Has (pairAt q (argOf s at k))) m' m'' y → Spread (Tell s c at k q) m m'' (x || y)
+tell-new s c at k q {m} e t u = record {
+  swept = swept-closed (λ (a, b) d. record { there = a; back = b }) (swept-then (t .swept) (u .swept));
+  sound = λ p r w.
+      let z = r (either-covered p m (outOf s at) (stepAt s c at k q) w e) in
+      u .sound p (z .back) (t .sound p (z .there) w);
+}
+
+-- ---- marks that grow within the pairs that are told apart
+
+pub record Grown (p : ℕ → Bool) (m : List ℕ) : Type 0 where
+  pub size : length m ≡ pairCount
+  pub within : Covers p m
+
+pub grown-none : {p : ℕ → Bool} (m : List ℕ) → m ≡ unmarked → Grown p m
+unfolding unmarked
+grown-none m e = record {
+  size = ap length e ∙ length-replicate {A = ℕ} pairCount 0;
+  within = λ i d. absurd (false≢true (sym (replicate-unmarked pairCount i) ∙ sym (ap (λ (k : List ℕ). marked k i) e) ∙ d));
+}
+  where
+    replicate-unmarked : (k i : ℕ) → marked (replicate k 0) i ≡ false
+    replicate-unmarked zero i = refl
+    replicate-unmarked (suc k) zero = refl
+    replicate-unmarked (suc k) (suc i) = replicate-unmarked k i
+
+pub grown-more : {C : Rule} {m m' : List ℕ} {r : Bool} {p : ℕ → Bool} → C p → Grown p m → Spread C m m' r → Grown p m'
+grown-more {p = p} c g s = record { size = s .swept .size ∙ g .size; within = s .sound p c (g .within) }
+
+-- ---- a transition's bytes
+
+pub copied-start : (s : List ℕ) (at : ℕ) (r : List ℕ) → (j : ℕ) → j < 0 → getD r j 0 ≡ getD s (at + j) 0
+copied-start s at r j h = absurd (omega arith)
+
+pub copied-next : (s : List ℕ) (at : ℕ) (r : List ℕ) (k : ℕ) → k < length r →
+    ((j : ℕ) → j < k → getD r j 0 ≡ getD s (at + j) 0) → (j : ℕ) → j < k + 1 →
+    getD (set r k (getD s (at + k) 0)) j 0 ≡ getD s (at + j) 0
+copied-next s at r k h e j l = go (eqb j k) refl
+  where
+    go : (b : Bool) → eqb j k ≡ b → getD (set r k (getD s (at + k) 0)) j 0 ≡ getD s (at + j) 0
+    go true d = rw (eqb-true j k d) (getD-set-same r k (getD s (at + k) 0) 0 h)
+    go false d = let ne = eqb-false j k d in
+        getD-set-other r k j (getD s (at + k) 0) 0 ne ∙ e j (omega arith)
+
+-- an entry with the bytes of a transition and another argument k is that transition with the argument replaced
+module _ (s : List ℕ) (at k q : ℕ) (r : List ℕ) (c : Copied s at r) (h : k < arityOf s at) (small : arityOf s at ≤ maxArity)
+  where
+    abbrev e : List ℕ
+    e = set r (argsAt + k) q
+
+    field : (j : ℕ) → j < transitionBytes → j ≢ argsAt + k → getD (set r (argsAt + k) q) j 0 ≡ getD s (at + j) 0
+    field j l n = getD-set-other r (argsAt + k) j q 0 n ∙ c .bytes j l
+
+    pub replaced-label : transitionAt (set r (argsAt + k) q) 0 .label ≡ labelOf s at
+    replaced-label = let a : at + 0 ≡ at = omega arith in field 0 (omega arith) (λ z. omega arith) ∙ ap (λ (i : ℕ). getD s i 0) a
+
+    replaced-arity : arityOf (set r (argsAt + k) q) 0 ≡ arityOf s at
+    replaced-arity = field 1 (omega arith) (λ z. omega arith)
+
+    replaced-arg : (j : ℕ) → j < maxArity → j ≢ k → argOf (set r (argsAt + k) q) 0 j ≡ argOf s at j
+    replaced-arg j l n =
+        let a : 0 + argsAt + j ≡ argsAt + j = omega arith in
+        let b : at + (argsAt + j) ≡ at + argsAt + j = omega arith in
+        ap (λ (i : ℕ). getD (set r (argsAt + k) q) i 0) a
+        ∙ field (argsAt + j) (omega arith) (λ z. n (omega arith)) ∙ ap (λ (i : ℕ). getD s i 0) b
+
+    replaced-here : argOf (set r (argsAt + k) q) 0 k ≡ q
+    replaced-here =
+        let a : 0 + argsAt + k ≡ argsAt + k = omega arith in
+        ap (λ (i : ℕ). getD (set r (argsAt + k) q) i 0) a ∙ getD-set-same r (argsAt + k) q 0 (omega (arith, c .size))
+
+    map-same : (j n : ℕ) → ((i : ℕ) → j ≤ i → i < j + n → argOf (set r (argsAt + k) q) 0 i ≡ argOf s at i) →
+        map (argOf (set r (argsAt + k) q) 0) (upFrom j n) ≡ map (argOf s at) (upFrom j n)
+    map-same j zero f = refl
+    map-same j (suc n) f = cc (f j (omega arith) (omega arith), map-same (suc j) n (λ i a b. f i (omega arith) (omega arith)))
+
+    pub replaced-args : transitionAt (set r (argsAt + k) q) 0 .args ≡ slotAt s at k .before ++ (q ∷ slotAt s at k .after)
+    replaced-args =
+        args-around (set r (argsAt + k) q) 0 k (omega (arith, replaced-arity))
+        ∙ (λ i. before i ++ (replaced-here i ∷ after i))
+      where
+        before : map (argOf (set r (argsAt + k) q) 0) (upFrom 0 k) ≡ map (argOf s at) (upFrom 0 k)
+        before = map-same 0 k (λ i a b. replaced-arg i (omega arith) (λ z. omega arith))
+
+        after : map (argOf (set r (argsAt + k) q) 0) (upFrom (k + 1) (arityOf (set r (argsAt + k) q) 0 - (k + 1))) ≡
+            map (argOf s at) (upFrom (k + 1) (arityOf s at - (k + 1)))
+        after =
+            ap (λ (a : ℕ). map (argOf (set r (argsAt + k) q) 0) (upFrom (k + 1) (a - (k + 1)))) replaced-arity
+            ∙ map-same (k + 1) (arityOf s at - (k + 1)) (λ i a b. replaced-arg i (omega arith) (λ z. omega arith))
+
+pub replaced-output : (s : List ℕ) (c at k q : ℕ) (r : List ℕ) → Copied s at r → k < arityOf s at → arityOf s at ≤ maxArity →
+    {x : ℕ} → x ≡ lookup (transitionAt (set r (argsAt + k) q) 0 .label) (transitionAt (set r (argsAt + k) q) 0 .args) (transitionsIn s c) →
+    x ≡ lookup (labelOf s at) (slotAt s at k .before ++ (q ∷ slotAt s at k .after)) (transitionsIn s c)
+replaced-output s c at k q r copied h small x =
+    x ∙ ap₂ (λ (a : ℕ) (qs : List ℕ). lookup a qs (transitionsIn s c)) (replaced-label s at k q r copied h small)
+    (replaced-args s at k q r copied h small)
+
+-- ---- steps
+
+pub step-none : (s : List ℕ) (c at k : ℕ) → _≡_ {A = ℕ} 0 (stepAt s c at k 0)
+step-none s c at k = sym (step-zero (viewed [] s 0 c) (labelOf s at) (slotAt s at k .before) (slotAt s at k .after))
+
+pub step-some : (s : List ℕ) (c n i k q : ℕ) → RunsOver s c n → i < c → k < arityOf s (transitionBytes * i) → q ≢ 0 →
+    {x : ℕ} → x ≡ lookup (labelOf s (transitionBytes * i))
+    (slotAt s (transitionBytes * i) k .before ++ (q ∷ slotAt s (transitionBytes * i) k .after)) (transitionsIn s c) →
+    x ≡ stepAt s c (transitionBytes * i) k q
+step-some s c n i k q over h l ne e = rw z e
+  where
+    at : ℕ
+    at = transitionBytes * i
+
+    all : (p : ℕ) → p ∈ slotAt s (transitionBytes * i) k .before ++ (argOf s (transitionBytes * i) k ∷ slotAt s (transitionBytes * i) k .after) → 1 ≤ p
+    all p j = viewed-arg [] s n c over i h p (subst (λ (qs : List ℕ). p ∈ qs) (sym (args-around s (transitionBytes * i) k l)) j) .0
+
+    z : any (eqb 0) (slotAt s (transitionBytes * i) k .before ++ (q ∷ slotAt s (transitionBytes * i) k .after)) ≡ false
+    z = none-zero (slotAt s (transitionBytes * i) k .before ++ (q ∷ slotAt s (transitionBytes * i) k .after)) some
+      where
+        some : (p : ℕ) → p ∈ slotAt s (transitionBytes * i) k .before ++ (q ∷ slotAt s (transitionBytes * i) k .after) → 1 ≤ p
+        some p j = go (append-in (slotAt s (transitionBytes * i) k .before) (q ∷ slotAt s (transitionBytes * i) k .after) p j)
+          where
+            go : (p ∈ slotAt s (transitionBytes * i) k .before) ⊎ (p ∈ (q ∷ slotAt s (transitionBytes * i) k .after)) → 1 ≤ p
+            go (inl y) = all p (in-append-left (slotAt s (transitionBytes * i) k .before) _ p y)
+            go (inr (inl y)) = omega arith
+            go (inr (inr y)) = all p (in-append-right (slotAt s (transitionBytes * i) k .before) _ p (inr y))
+
+-- ---- telling, as code has its numbers: a and b the two states, x and y the two outputs
+
+module _ (s : List ℕ) (c at k q : ℕ) (m : List ℕ) {a b : ℕ} (arg : a ≡ argOf s at k) (other : b ≡ q) where
+  pub tells-old : {r : Bool} → r ≡ (marked m (pairAt a b) && marked m (pairAt b a)) → r ≡ true →
+      Spread (Tell s c at k q) m m false
+  tells-old e d =
+      tell-old s c at k q m
+      (subst₂ (λ (x y : ℕ). (marked m (pairAt x y) && marked m (pairAt y x)) ≡ true) arg other (sym e ∙ d))
+
+  module _ {x y : ℕ} (out : x ≡ outOf s at) (to : y ≡ stepAt s c at k q) where
+    pub tells-not : {r : Bool} → r ≡ eitherWay (marked m) x y → not r ≡ true → Spread (Tell s c at k q) m m false
+    tells-not {r} e d =
+        tell-not s c at k q m
+        (subst₂ (λ (u v : ℕ). eitherWay (marked m) u v ≡ false) out to (sym e ∙ not-true r d))
+
+    pub tells-new : {r : Bool} {m' m'' : List ℕ} {f g : Bool} → r ≡ eitherWay (marked m) x y → not r ≡ false →
+        Spread (Has (pairAt a b)) m m' f → Spread (Has (pairAt b a)) m' m'' g → Spread (Tell s c at k q) m m'' (f || g)
+    tells-new {r} {m'} {m''} {f} {g} e d t u =
+        tell-new s c at k q
+        (subst₂ (λ (u v : ℕ). eitherWay (marked m) u v ≡ true) out to (sym e ∙ not-false r d))
+        (subst₂ (λ (i j : ℕ). Spread (Has (pairAt i j)) m m' f) arg other t)
+        (subst₂ (λ (i j : ℕ). Spread (Has (pairAt j i)) m' m'' g) arg other u)

@@ -1,0 +1,80 @@
+-- The pairs that some context tells apart are closed under the rules, and closed marks have all of them.
+use mathlib.Core.Bool.{Bool, Bool·beq, false, false≢true, not, true}
+use mathlib.Core.Logic.{_⊎_, inl, inr}
+use mathlib.Core.Path.{_∙_, _≡_, ap, refl, subst}
+use Prim.Native.Nat.{_%_, _/_, _<_, suc, ℕ}
+use native.Mathlib.Omega.{arith}
+use Rattle.automata.specs.Automaton.{Automaton, accepting, states}
+use Rattle.automata.specs.Distinguishable.{distinguishable, distinguishablePairs, distinguishableRule, pairs, slots}
+use Rattle.automata.specs.Distinguishable.{stepSlot}
+use Rattle.distinguish.specs.Telling.{pairAt}
+use Rattle.lists.specs.Closure.{elem}
+use Rattle.lists.specs.Positions.{Pair, eqPair, upFrom}
+use Rattle.lists.specs.Tests.{_∈_, any}
+use Rattle.automata.proofs.Steps.{step-zero}
+use Rattle.lists.proofs.Closure.{closed, closure-all}
+use Rattle.lists.proofs.Distinct.{grid-in}
+use Rattle.lists.proofs.Positions.{eqPair-same, eqPair-true, in-grid}
+use Rattle.lists.proofs.Tests.{any-in, in-any, or-cases, or-left, or-right}
+
+half : (x y : ℕ) → y < 256 → (pairAt x y / 256 ≡ x) × (pairAt x y % 256 ≡ y)
+half x y h = (omega arith, omega arith)
+
+differ-sym : (a b : Bool) → not (Bool·beq a b) ≡ true → not (Bool·beq b a) ≡ true
+differ-sym true true e = e
+differ-sym true false e = refl
+differ-sym false true e = refl
+differ-sym false false e = e
+
+differ-same : (a : Bool) → not (Bool·beq a a) ≡ true → ⊥
+differ-same true e = false≢true e
+differ-same false e = false≢true e
+
+module _ (A : Automaton) where
+  -- telling apart goes both ways
+  pub told-sym : (p q : ℕ) → distinguishable A p q ≡ true → distinguishable A q p ≡ true
+  told-sym p q e = closure-all eqPair eqPair-true eqPair-same (distinguishableRule A) (pairs A) Turned made (p, q) e
+    where
+      Turned : Pair → Type 0
+      Turned k = distinguishable A (k .1) (k .0) ≡ true
+
+      turned-in : (k : Pair) → k ∈ pairs A → _∈_ {A = Pair} (k .1, k .0) (pairs A)
+      turned-in k i = let r = grid-in (upFrom 0 (suc (states A))) (upFrom 0 (suc (states A))) k i in
+          in-grid (upFrom 0 (suc (states A))) (upFrom 0 (suc (states A))) (k .1) (k .0) (r .1) (r .0)
+
+      made : (m : Pair → Bool) → ((j : Pair) → m j ≡ true → Turned j) → (k : Pair) → k ∈ pairs A →
+          distinguishableRule A m k ≡ true → Turned k
+      made m ih k i e = closed eqPair eqPair-true eqPair-same (distinguishableRule A) (pairs A) (k .1, k .0) (turned-in k i)
+          (go (or-cases (not (Bool·beq (accepting A (k .0)) (accepting A (k .1)))) _ e))
+        where
+          go : (not (Bool·beq (accepting A (k .0)) (accepting A (k .1))) ≡ true) ⊎
+              (any (λ s. m (stepSlot A s (k .0), stepSlot A s (k .1))) (slots (A .transitions)) ≡ true) →
+              distinguishableRule A (λ j. elem eqPair j (distinguishablePairs A)) (k .1, k .0) ≡ true
+          go (inl d) = or-left _ _ (differ-sym (accepting A (k .0)) (accepting A (k .1)) d)
+          go (inr d) =
+              let (s, j, f) = any-in (λ s. m (stepSlot A s (k .0), stepSlot A s (k .1))) (slots (A .transitions)) d in
+              or-right (not (Bool·beq (accepting A (k .1)) (accepting A (k .0)))) _
+              (in-any (λ s. distinguishable A (stepSlot A s (k .1)) (stepSlot A s (k .0))) (slots (A .transitions)) s j
+              (ih (stepSlot A s (k .0), stepSlot A s (k .1)) f))
+
+  -- 0 is not told apart from itself
+  pub zero-not-told : distinguishable A 0 0 ≡ true → ⊥
+  zero-not-told e =
+      closure-all eqPair eqPair-true eqPair-same (distinguishableRule A) (pairs A) Other made (0, 0) e refl
+    where
+      Other : Pair → Type 0
+      Other k = k ≡ (0, 0) → ⊥
+
+      made : (m : Pair → Bool) → ((j : Pair) → m j ≡ true → Other j) → (k : Pair) → k ∈ pairs A →
+          distinguishableRule A m k ≡ true → Other k
+      made m ih k i e z = go (or-cases (not (Bool·beq (accepting A (k .0)) (accepting A (k .1)))) _ e)
+        where
+          go : (not (Bool·beq (accepting A (k .0)) (accepting A (k .1))) ≡ true) ⊎
+              (any (λ s. m (stepSlot A s (k .0), stepSlot A s (k .1))) (slots (A .transitions)) ≡ true) → ⊥
+          go (inl d) = differ-same (accepting A 0) (subst (λ (j : Pair). not (Bool·beq (accepting A (j .0)) (accepting A (j .1))) ≡ true) z d)
+          go (inr d) =
+              let (s, j, f) = any-in (λ s. m (stepSlot A s (k .0), stepSlot A s (k .1))) (slots (A .transitions)) d in
+              let u : stepSlot A s 0 ≡ 0 = step-zero A (s .label) (s .before) (s .after) in
+              let x : stepSlot A s (k .0) ≡ 0 = ap (λ (j : Pair). stepSlot A s (j .0)) z ∙ u in
+              let y : stepSlot A s (k .1) ≡ 0 = ap (λ (j : Pair). stepSlot A s (j .1)) z ∙ u in
+              ih (stepSlot A s (k .0), stepSlot A s (k .1)) f (λ i. (x i, y i))

@@ -1,0 +1,26 @@
+use borrow.Author.Needs.{needs}
+use mathlib.Core.Path.{_∙_, sym}
+use Rattle.intake.proofs.Laws.{numbered-reached}
+use Rattle.intake.proofs.reached.Statement.{statement}
+use Rattle.intake.proofs.reached.Tie as tie
+use Rattle.intake.proofs.reached.Reads as reads
+use Rattle.intake.proofs.reached.Lts as lts
+use Rattle.validity.proofs.all_accessible.Reads as all-accessible-reads
+
+-- src/lib.rt:36:9
+returns : tie.Need-returns
+returns c cl =
+    let start = c .before .before in
+    numbered-reached cl (start .args .run .now) (start .args .n) (start .args .count) (start .pre .0)
+    (sym (start .pre .1 .1) ∙ c .if1 .taken)
+
+-- src/lib.rt:38:5
+all-accessible-requires : tie.Need-all-accessible-requires
+all-accessible-requires c κs = search needs
+
+-- src/lib.rt:29:1
+returns-2 : tie.Need-returns-2
+returns-2 c = search needs
+
+pub reached-spec : {M : Type 1} → statement M
+reached-spec = tie.close (tie.spec returns all-accessible-requires returns-2)

@@ -1,0 +1,91 @@
+// The check of a table, whole: refusals 5 and 7 to 13, the first that 01's order names. Every call makes it.
+ghost use mathlib.Core.Bool.{true};
+ghost use mathlib.Core.List.{List, []};
+ghost use mathlib.Core.Path.{_≡_};
+ghost use Prim.Native.Nat.{ℕ, _≤_};
+ghost use lib.ListN.{length};
+ghost use Rattle.automata.specs.Accessible.{allAccessible};
+ghost use Rattle.automata.specs.Numbered.{numbered};
+ghost use Rattle.automata.specs.Order.{rising};
+ghost use Rattle.fields.specs.Fields.{RunsOver};
+ghost use Rattle.fields.specs.View.{Viewed, viewed};
+ghost use Rattle.format.specs.Format.{tableBytes};
+ghost use Rattle.lists.specs.Conditions.{firstBroken};
+ghost use Rattle.table.specs.Intake.{contentConditions, tableRefusal};
+ghost use Rattle.table.specs.Layout.{transitionsIn};
+ghost use Rattle.intake.specs.Automata.{automatonConditions};
+use distinguish::all_distinguishable;
+use fields::layout_fits;
+use fields::rises;
+use fields::transition_count;
+use fields::wide;
+use format::HEAD_BYTES;
+use format::TABLE_BYTES;
+use validity::acyclic;
+use validity::numbered;
+use validity::all_accessible;
+use validity::all_coaccessible;
+
+// Condition 9. Where the states are numbered by the rule it holds, and no search is needed.
+fn reached(run: &[u8], count: usize, n: usize, in_order: bool) -> bool
+    requires { ⌜ RunsOver (now run) count n ⌝ }
+    requires { ⌜ n ≤ 255 ⌝ }
+    requires { ⌜ in_order ≡ numbered (viewed [] (now run) n count) ⌝ }
+    ensures { λ r. ⌜ ((cl : List ℕ) → r ≡ allAccessible (viewed cl (now (run .entry)) n count)) ⌝ }
+{
+    if in_order {
+        return true;
+    }
+    all_accessible(run, count, n)
+}
+
+// Refusals 9 to 13 of an automaton whose fields are in range and whose transitions rise, or 0.
+fn automaton_refusal(classes: &[u8], run: &[u8], count: usize, n: usize) -> u8
+    requires { ⌜ Viewed (now classes) (now run) n count ⌝ }
+    requires { ⌜ rising (transitionsIn (now run) count) ≡ true ⌝ }
+    ensures { λ r. ⌜ r ≡ firstBroken (automatonConditions (viewed (now (classes .entry)) (now (run .entry)) n count)) ⌝ }
+{
+    let in_order = numbered(run, count, n);
+    if !reached(run, count, n, in_order) {
+        return 9;
+    }
+    if !all_coaccessible(classes, run, count, n) {
+        return 10;
+    }
+    if !acyclic(run, count, n) {
+        return 11;
+    }
+    if !all_distinguishable(classes, run, count, n) {
+        return 12;
+    }
+    if !in_order {
+        return 13;
+    }
+    0
+}
+
+// Refusals 7 to 13 of a table of the right length, or 0.
+fn content_refusal(table: &[u8]) -> u8
+    requires { ⌜ length (now table) ≡ tableBytes ⌝ }
+    ensures { λ r. ⌜ r ≡ firstBroken (contentConditions (now (table .entry))) ⌝ }
+{
+    if !layout_fits(table) {
+        return 7;
+    }
+    let count = transition_count(table);
+    if !rises(&table[HEAD_BYTES..], count) {
+        return 8;
+    }
+    let n = wide(table[0]);
+    automaton_refusal(table, &table[HEAD_BYTES..], count, n)
+}
+
+// The first of refusals 5 and 7 to 13 that applies to a table, or 0.
+pub fn refusal(table: &[u8]) -> u8
+    ensures { λ r. ⌜ r ≡ tableRefusal (now (table .entry)) ⌝ }
+{
+    if table.len() != TABLE_BYTES {
+        return 5;
+    }
+    content_refusal(table)
+}
