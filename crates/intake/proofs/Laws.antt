@@ -133,10 +133,11 @@ table-rises b c e = e ∙ ap₂ (λ (s : List ℕ) (k : ℕ). rising (transition
 pub table-seen : (b : List ℕ) {k n : ℕ} → length b ≡ tableBytes → layoutFits b ≡ true → k ≡ transitionCount b →
     n ≡ stateCount b → rising (transitionsIn (body b) (transitionCount b)) ≡ true →
     Viewed b (Part b) n k × (rising (transitionsIn (Part b) k) ≡ true)
-table-seen b {k} {n} h e c m r =
-    (subst₂ (λ (s : List ℕ) (j : ℕ). Viewed b s n j) (sym (part-body b)) (sym c)
-    (subst (λ (i : ℕ). Viewed b (body b) i (transitionCount b)) (sym m) (table-viewed b h e)),
-    subst₂ (λ (s : List ℕ) (j : ℕ). rising (transitionsIn s j) ≡ true) (sym (part-body b)) (sym c) r)
+table-seen b {k} {n} h e c m r = (
+  subst₂ (λ (s : List ℕ) (j : ℕ). Viewed b s n j) (sym (part-body b)) (sym c)
+      (subst (λ (i : ℕ). Viewed b (body b) i (transitionCount b)) (sym m) (table-viewed b h e)),
+  subst₂ (λ (s : List ℕ) (j : ℕ). rising (transitionsIn s j) ≡ true) (sym (part-body b)) (sym c) r,
+)
 
 pub table-answer : (b : List ℕ) {k n r : ℕ} → layoutFits b ≡ true →
     rising (transitionsIn (body b) (transitionCount b)) ≡ true → k ≡ transitionCount b → n ≡ stateCount b →

@@ -22,9 +22,9 @@ use fields::wide;
 use format::HEAD_BYTES;
 use format::TABLE_BYTES;
 use validity::acyclic;
-use validity::numbered;
 use validity::all_accessible;
 use validity::all_coaccessible;
+use validity::numbered;
 
 // Condition 9. Where the states are numbered by the rule it holds, and no search is needed.
 fn reached(run: &[u8], count: usize, n: usize, in_order: bool) -> bool

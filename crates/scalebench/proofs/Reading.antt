@@ -42,8 +42,8 @@ pub ask-passed : (s b : List ℕ) → askRefusal s b ≡ 0 → (listingRefusal s
 unfolding askRefusal listingRefusal tableRefusal
 ask-passed s b e =
     let h = hold-append (listingConditions s) (lengthCondition b ∷ contentConditions b)
-        (unbroken-hold (listingConditions s ++ (lengthCondition b ∷ contentConditions b))
-        (from-one-append (listingConditions s) (lengthCondition b ∷ contentConditions b) (listing-from-one s) (table-from-one b)) e) in
+    (unbroken-hold (listingConditions s ++ (lengthCondition b ∷ contentConditions b))
+    (from-one-append (listingConditions s) (lengthCondition b ∷ contentConditions b) (listing-from-one s) (table-from-one b)) e) in
     (hold-unbroken (listingConditions s) (h .0), hold-unbroken (lengthCondition b ∷ contentConditions b) (h .1))
 
 pub passed-table : (b : List ℕ) → tableRefusal b ≡ 0 → InTable b

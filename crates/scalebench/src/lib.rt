@@ -70,7 +70,10 @@ pub fn take_in(table: &[u8]) -> Taken
         return Taken::Refused { number };
     }
     let transitions = transition_count(table);
-    Taken::Accepted { states: table[0], transitions }
+    Taken::Accepted {
+        states: table[0],
+        transitions,
+    }
 }
 
 #[no_mangle]
@@ -89,7 +92,10 @@ pub extern "C" fn scalebench_intake(table: &[u8]) -> u64
     ensures { λ r. ⌜ r ≡ packed (intakeAnswer (now (table .entry))) ⌝ }
 {
     match take_in(table) {
-        Taken::Accepted { states, transitions } => counts(states, transitions),
+        Taken::Accepted {
+            states,
+            transitions,
+        } => counts(states, transitions),
         Taken::Refused { number } => widened(number),
     }
 }
