@@ -139,7 +139,9 @@ static void automata(void)
     const struct line uses[] = {{1, 0, {0}, 1}, {2, 0, {0}, 2}, {5, 2, {1, 1}, 3}, {5, 2, {1, 2}, 3}, {5, 2, {2, 1}, 3},
                                 {5, 2, {2, 2}, 3}};
     refused("two alike in every use", 3, "001", uses, 6, 12);
-    refused("told apart by the second place", 3, "001", uses, 5, counts(3, 5));
+    uint8_t table[TABLE];
+    build(table, 3, "001", uses, 5);
+    expect("told apart by the second place", scalebench_intake(table, TABLE), counts(3, 5));
     const struct line turned[] = {{1, 0, {0}, 2}, {2, 0, {0}, 1}, {3, 1, {1}, 2}};
     refused("state 2 first", 2, "01", turned, 3, 13);
     const struct line late[] = {{1, 0, {0}, 1}, {3, 1, {1}, 3}, {4, 1, {1}, 2}, {5, 1, {2}, 3}};
