@@ -1,0 +1,10 @@
+pub mod Names
+pub mod Entries
+pub mod Arguments
+pub mod Ready
+pub mod Merging
+pub mod Ordering
+pub mod Renumbering
+pub mod Tables
+pub mod Quotient
+pub mod Whole

@@ -1,0 +1,56 @@
+-- `merge::put` meets its contract: j bytes are in place.
+use Prim.Native.Nat.{_-_}
+use native.Mathlib.Omega.{arith}
+use borrow.Author.Needs.{needs}
+use Rattle.sorted.proofs.Moved.{Writing, writing-end, writing-next, writing-start}
+use Rattle.minimize.proofs.merge.put.Statement.{statement}
+use Rattle.minimize.proofs.merge.put.Tie as tie
+
+abbrev Inv-loop : tie.InvT-loop
+Inv-loop run₀ at entry j₀ run j = Writing run₀ run at entry j
+
+abbrev μ-loop : tie.MeasureT-loop
+μ-loop run₀ at entry j₀ run j = 11 - j
+
+loop-holds : tie.Need-loop-holds Inv-loop μ-loop
+loop-holds c = writing-start (c .args .run .now) (c .args .at) (c .args .t3)
+
+array-read-run : tie.Need-array-read-run Inv-loop μ-loop
+array-read-run c = search needs
+
+add-run : tie.Need-add-run Inv-loop μ-loop
+add-run c = search needs
+
+slice-write-run : tie.Need-slice-write-run Inv-loop μ-loop
+slice-write-run c = search needs
+
+add-j : tie.Need-add-j Inv-loop μ-loop
+add-j c = search needs
+
+loop-less : tie.Need-loop-less Inv-loop μ-loop
+loop-less c = search needs
+
+loop-again : tie.Need-loop-again Inv-loop μ-loop
+loop-again c = writing-next (c .before .loop .inv) (omega arith) (omega arith)
+
+same-length : tie.Need-same-length Inv-loop μ-loop
+same-length c = search needs
+
+returns : tie.Need-returns Inv-loop μ-loop
+returns c = writing-end (c .before .loop .inv) (omega arith)
+
+pub put-spec : {M : Type 1} → statement M
+put-spec =
+    tie.close
+    (tie.spec
+    Inv-loop
+    μ-loop
+    loop-holds
+    array-read-run
+    add-run
+    slice-write-run
+    add-j
+    loop-less
+    loop-again
+    same-length
+    returns)

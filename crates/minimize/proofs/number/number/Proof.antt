@@ -1,0 +1,107 @@
+-- `number::number` meets its contract: what is left to number goes on from the order so far.
+use mathlib.Core.Path.{refl}
+use Prim.Native.Nat.{_*_, _+_, _-_, _≤_}
+use native.Mathlib.Omega.{arith}
+use borrow.Author.Needs.{needs}
+use Rattle.minimize.proofs.Ordering.{Ordering, ordering-end, ordering-few, ordering-next, ordering-start}
+use Rattle.minimize.proofs.number.number.Statement.{statement}
+use Rattle.minimize.proofs.number.number.Tie as tie
+
+abbrev Inv-loop : tie.InvT-loop
+Inv-loop run count order₀ numbers₀ k₀ best₀ order numbers k best =
+    (best ≤ count) × Ordering run count order numbers k best
+
+abbrev μ-loop : tie.MeasureT-loop
+μ-loop run count order₀ numbers₀ k₀ best₀ order numbers k best = 256 - k
+
+first-ready-requires : tie.Need-first-ready-requires Inv-loop μ-loop
+first-ready-requires c κs = search needs
+
+loop-holds : tie.Need-loop-holds Inv-loop μ-loop
+loop-holds c =
+    let start = c .before .before .before in (
+      c .first-ready .ensures .0,
+      ordering-start (start .args .run .now) (start .args .count) (start .pre .1 .1 .0)
+          (start .pre .1 .1 .1 .0) (start .pre .1 .1 .1 .1) _ (c .first-ready .ensures .1),
+    )
+
+mul-q : tie.Need-mul-q Inv-loop μ-loop
+mul-q c = search needs
+
+add-q : tie.Need-add-q Inv-loop μ-loop
+add-q c = search needs
+
+shared-slice-read-q : tie.Need-shared-slice-read-q Inv-loop μ-loop
+shared-slice-read-q c = search needs
+
+element-write-order : tie.Need-element-write-order Inv-loop μ-loop
+element-write-order c = search needs
+
+add-k : tie.Need-add-k Inv-loop μ-loop
+add-k c = search needs
+
+cast-numbers : tie.Need-cast-numbers Inv-loop μ-loop
+cast-numbers c =
+    let start = c .before .before .before .before .before .before in
+    omega (
+      arith,
+      ordering-few (c .before .before .loop .inv .1) (c .before .loop-test .taken) refl (start .pre .1
+          .0) (omega (arith, c .shared-slice-known2 .given (11 * c .before .before .loop .best + 10))),
+    )
+
+wide-requires : tie.Need-wide-requires Inv-loop μ-loop
+wide-requires c κs = search needs
+
+element-write-numbers : tie.Need-element-write-numbers Inv-loop μ-loop
+element-write-numbers c =
+    let at-loop = c .before .before .before in
+    omega (
+      arith,
+      at-loop .loop .inv .1 .room′,
+      c .before .shared-slice-known2 .given (11 * at-loop .loop .best +
+          10),
+    )
+
+first-ready-requires-2 : tie.Need-first-ready-requires-2 Inv-loop μ-loop
+first-ready-requires-2 c κs = search needs
+
+loop-less : tie.Need-loop-less Inv-loop μ-loop
+loop-less c = search needs
+
+loop-again : tie.Need-loop-again Inv-loop μ-loop
+loop-again c =
+    let at-loop-test = c .before .before .before .before in
+    let at-loop = at-loop-test .before in
+    let start = at-loop .before .before .before .before in (
+      c .first-ready2 .ensures .0,
+      ordering-next (at-loop .loop .inv .1) (at-loop-test .loop-test .taken) refl
+          (start .pre .1 .0) (omega (
+            arith,
+            c .before .before .before .shared-slice-known2 .given (11 * at-loop .loop
+                .best + 10),
+          )) (c .before .before .wide .ensures) (c .first-ready2 .ensures .1),
+    )
+
+returns : tie.Need-returns Inv-loop μ-loop
+returns c = ordering-end (c .before .loop .inv .1) (omega arith)
+
+pub number-spec : {M : Type 1} → statement M
+number-spec =
+    tie.close
+    (tie.spec
+    Inv-loop
+    μ-loop
+    first-ready-requires
+    loop-holds
+    mul-q
+    add-q
+    shared-slice-read-q
+    element-write-order
+    add-k
+    cast-numbers
+    wide-requires
+    element-write-numbers
+    first-ready-requires-2
+    loop-less
+    loop-again
+    returns)

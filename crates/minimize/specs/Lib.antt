@@ -1,0 +1,4 @@
+pub mod Merged
+pub mod Numbering
+pub mod Written
+pub mod Made

@@ -1,0 +1,126 @@
+// Equivalent states merged: each state is named by its representative, and the transitions between
+// representatives stay in their order. A table of marks has a row of 256 for each state.
+ghost use mathlib.Core.Path.{_≡_};
+ghost use Prim.Native.Nat.{_*_, _+_, _<_, _≤_};
+ghost use lib.ListN.{length};
+ghost use Rattle.automata.specs.Renumber.{renumberBy};
+ghost use Rattle.fields.specs.Fields.{Readable, Runs, RunsOver};
+ghost use Rattle.format.specs.Format.{transitionBytes};
+ghost use Rattle.sorted.specs.Sorted.{Written};
+ghost use Rattle.table.specs.Layout.{transitionAt, transitionsIn};
+ghost use Rattle.minimize.specs.Merged.{Named, chosen, entryOf, mergedBy, nameIn, zeros};
+use fields::wide;
+use format::ARGS_AT;
+use format::OUT_AT;
+use format::TRANSITION_BYTES;
+
+// The arity stands right before the arguments.
+const ARITY_AT: usize = ARGS_AT - 1;
+
+// Names for states, one for each byte.
+pub const NAMES: usize = 256;
+
+// A mark for each pair of states.
+pub const PAIRS: usize = NAMES * NAMES;
+
+// No names. A function of its own, so that no other proof computes with so many bytes.
+pub fn no_names() -> [u8; NAMES]
+    ensures { λ r. ⌜ r ≡ zeros 256 ⌝ }
+{
+    [0u8; NAMES]
+}
+
+// The first of 0 to n that is not marked with p; 0 where each is.
+fn choose(marks: &[u8; PAIRS], n: usize, p: usize) -> u8
+    requires { ⌜ n < 256 ⌝ }
+    requires { ⌜ p < 256 ⌝ }
+    ensures { λ r. ⌜ r ≡ chosen (now (marks .entry)) n p ⌝ }
+{
+    let mut q = 0;
+    while q <= n {
+        if marks[NAMES * p + q] == 0 {
+            return q as u8;
+        }
+        q += 1;
+    }
+    0
+}
+
+// The representatives of 0 to n.
+pub fn representatives(marks: &[u8; PAIRS], n: usize, names: &mut [u8; NAMES])
+    requires { ⌜ n < 256 ⌝ }
+    requires { ⌜ length (now names) ≡ 256 ⌝ }
+    ensures { λ _. ⌜ Named (now (names .exit)) (chosen (now (marks .entry)) n) n ⌝ }
+{
+    let mut p = 0;
+    while p <= n {
+        names[p] = choose(marks, n, p);
+        p += 1;
+    }
+}
+
+// The bytes of a transition whose states have other names.
+pub fn renamed(run: &[u8], at: usize, names: &[u8; NAMES]) -> [u8; TRANSITION_BYTES]
+    requires { ⌜ Readable (now run) at ⌝ }
+    ensures { λ r. ⌜ r ≡ entryOf (renumberBy (nameIn (now (names .entry))) (transitionAt (now (run .entry)) at)) ⌝ }
+{
+    let mut entry = [0u8; TRANSITION_BYTES];
+    entry[0] = run[at];
+    entry[ARITY_AT] = run[at + ARITY_AT];
+    let out = wide(run[at + OUT_AT]);
+    entry[OUT_AT] = names[out];
+    let n = wide(run[at + ARITY_AT]);
+    let mut k = 0;
+    while k < n {
+        let q = wide(run[at + ARGS_AT + k]);
+        entry[ARGS_AT + k] = names[q];
+        k += 1;
+    }
+    entry
+}
+
+// Writes an entry over the bytes of a run from one on.
+pub fn put(run: &mut [u8], at: usize, entry: [u8; TRANSITION_BYTES])
+    requires { ⌜ at + transitionBytes ≤ length (now run) ⌝ }
+    ensures { λ _. ⌜ Written (now (run .entry)) (now (run .exit)) at entry ⌝ }
+{
+    let mut j = 0;
+    while j < TRANSITION_BYTES {
+        run[at + j] = entry[j];
+        j += 1;
+    }
+}
+
+// Renames the states of a run, and leaves out the transitions whose output is then 0: how many stay.
+pub fn merge(run: &mut [u8], count: usize, names: &[u8; NAMES]) -> usize
+    requires { ⌜ Runs (now run) count ⌝ }
+    ensures { λ r. ⌜ Runs (now (run .exit)) r ⌝ }
+    ensures { λ r. ⌜ transitionsIn (now (run .exit)) r ≡
+        mergedBy (nameIn (now (names .entry))) (transitionsIn (now (run .entry)) count) ⌝ }
+{
+    let mut kept = 0;
+    let mut i = 0;
+    while i < count {
+        let entry = renamed(run, TRANSITION_BYTES * i, names);
+        i += 1;
+        if entry[OUT_AT] == 0 {
+            continue;
+        }
+        put(run, TRANSITION_BYTES * kept, entry);
+        kept += 1;
+    }
+    kept
+}
+
+// Merges the equivalent states of a run over the states 1 to n: how many transitions stay.
+pub fn merge_equivalent(run: &mut [u8], count: usize, n: usize, marks: &[u8; PAIRS]) -> usize
+    requires { ⌜ RunsOver (now run) count n ⌝ }
+    requires { ⌜ n < 256 ⌝ }
+    ensures { λ r. ⌜ Runs (now (run .exit)) r ⌝ }
+    ensures { λ r. ⌜ transitionsIn (now (run .exit)) r ≡
+        mergedBy (chosen (now (marks .entry)) n) (transitionsIn (now (run .entry)) count) ⌝ }
+{
+    let mut names = no_names();
+    representatives(marks, n, &mut names);
+    merge(run, count, &names)
+}

@@ -1,0 +1,153 @@
+// States numbered by the rule: of all transitions whose arguments have numbers and whose output has none, the
+// first by the order of the new numbers gives its output the next number. A number 0 is none.
+ghost use mathlib.Core.Path.{_≡_};
+ghost use mathlib.Core.List.{List, map};
+ghost use Prim.Native.Nat.{_<_, _≤_, ℕ};
+ghost use lib.ListN.{length};
+ghost use Rattle.automata.specs.Order.{lex, precedes};
+ghost use Rattle.automata.specs.Renumber.{best, renumberBy};
+ghost use Rattle.fields.specs.Fields.{Readable, Runs, firstArgs};
+ghost use Rattle.format.specs.Format.{maxArity};
+ghost use Rattle.lists.specs.Tests.{every};
+ghost use Rattle.marking.specs.Marks.{marked};
+ghost use Rattle.table.specs.Layout.{transitionAt, transitionsIn};
+ghost use Rattle.minimize.specs.Merged.{nameIn};
+ghost use Rattle.minimize.specs.Numbering.{Numbered, NumbersOf, Outputs, Unnumbered, improves, picked};
+ghost use Rattle.minimize.specs.Numbering.{readyBy};
+use crate::merge::NAMES;
+use fields::wide;
+use format::ARGS_AT;
+use format::OUT_AT;
+use format::TRANSITION_BYTES;
+
+// The arity stands right before the arguments.
+const ARITY_AT: usize = ARGS_AT - 1;
+
+// Whether every argument of a transition has a number.
+fn args_numbered(run: &[u8], at: usize, numbers: &[u8; NAMES]) -> bool
+    requires { ⌜ Readable (now run) at ⌝ }
+    ensures { λ r. ⌜ r ≡ every (marked (now (numbers .entry))) (transitionAt (now (run .entry)) at .args) ⌝ }
+{
+    let n = wide(run[at + ARITY_AT]);
+    let mut k = 0;
+    while k < n {
+        let q = wide(run[at + ARGS_AT + k]);
+        if numbers[q] == 0 {
+            return false;
+        }
+        k += 1;
+    }
+    true
+}
+
+// Whether a transition's arguments have numbers and its output has none.
+fn ready(run: &[u8], at: usize, numbers: &[u8; NAMES]) -> bool
+    requires { ⌜ Readable (now run) at ⌝ }
+    ensures { λ r. ⌜ r ≡ readyBy (now (numbers .entry)) (transitionAt (now (run .entry)) at) ⌝ }
+{
+    let out = wide(run[at + OUT_AT]);
+    if numbers[out] != 0 {
+        return false;
+    }
+    args_numbered(run, at, numbers)
+}
+
+// Whether the first n arguments of one transition come before those of another, each as its number.
+fn args_precede(run: &[u8], a: usize, b: usize, n: usize, numbers: &[u8; NAMES]) -> bool
+    requires { ⌜ Readable (now run) a ⌝ }
+    requires { ⌜ Readable (now run) b ⌝ }
+    requires { ⌜ n ≤ maxArity ⌝ }
+    ensures { λ r. ⌜ r ≡ lex (map (nameIn (now (numbers .entry))) (firstArgs (now (run .entry)) a n))
+        (map (nameIn (now (numbers .entry))) (firstArgs (now (run .entry)) b n)) ⌝ }
+{
+    let mut k = 0;
+    while k < n {
+        let p = wide(run[a + ARGS_AT + k]);
+        let q = wide(run[b + ARGS_AT + k]);
+        let x = numbers[p];
+        let y = numbers[q];
+        if x != y {
+            return x < y;
+        }
+        k += 1;
+    }
+    false
+}
+
+// Whether one transition comes before another, with the numbers for the states.
+fn precedes_by(run: &[u8], a: usize, b: usize, numbers: &[u8; NAMES]) -> bool
+    requires { ⌜ Readable (now run) a ⌝ }
+    requires { ⌜ Readable (now run) b ⌝ }
+    ensures { λ r. ⌜ r ≡ precedes (renumberBy (nameIn (now (numbers .entry))) (transitionAt (now (run .entry)) a))
+        (renumberBy (nameIn (now (numbers .entry))) (transitionAt (now (run .entry)) b)) ⌝ }
+{
+    let n = wide(run[a + ARITY_AT]);
+    let m = wide(run[b + ARITY_AT]);
+    let first = wide(run[a]);
+    let second = wide(run[b]);
+    if n != m {
+        return n < m;
+    }
+    if first != second {
+        return first < second;
+    }
+    args_precede(run, a, b, n, numbers)
+}
+
+// Whether transition i is ready and comes before the first ready one so far; `best` is `count` where there is none.
+fn improves_on(run: &[u8], count: usize, best: usize, i: usize, numbers: &[u8; NAMES]) -> bool
+    requires { ⌜ Runs (now run) count ⌝ }
+    requires { ⌜ best ≤ count ⌝ }
+    requires { ⌜ i < count ⌝ }
+    ensures { λ r. ⌜ ((o : List ℕ) → NumbersOf (now (numbers .entry)) o →
+        r ≡ improves o (now (run .entry)) count best i) ⌝ }
+{
+    if !ready(run, TRANSITION_BYTES * i, numbers) {
+        return false;
+    }
+    if best == count {
+        return true;
+    }
+    precedes_by(run, TRANSITION_BYTES * i, TRANSITION_BYTES * best, numbers)
+}
+
+// The first ready transition; `count` where none is ready.
+fn first_ready(run: &[u8], count: usize, numbers: &[u8; NAMES]) -> usize
+    requires { ⌜ Runs (now run) count ⌝ }
+    ensures { λ r. ⌜ r ≤ count ⌝ }
+    ensures { λ r. ⌜ ((o : List ℕ) → NumbersOf (now (numbers .entry)) o →
+        picked (now (run .entry)) count r ≡ best o (transitionsIn (now (run .entry)) count)) ⌝ }
+{
+    let mut best = count;
+    let mut i = 0;
+    while i < count {
+        let at = i;
+        i += 1;
+        if !improves_on(run, count, best, at, numbers) {
+            continue;
+        }
+        best = at;
+    }
+    best
+}
+
+// Numbers the states: `order` has them by their numbers, `numbers` the number of each. How many there are.
+pub fn number(run: &[u8], count: usize, order: &mut [u8; NAMES], numbers: &mut [u8; NAMES]) -> usize
+    requires { ⌜ Runs (now run) count ⌝ }
+    requires { ⌜ Outputs (now run) count ⌝ }
+    requires { ⌜ length (now order) ≡ 256 ⌝ }
+    requires { ⌜ length (now numbers) ≡ 256 ⌝ }
+    requires { ⌜ Unnumbered (now numbers) ⌝ }
+    ensures { λ r. ⌜ Numbered (transitionsIn (now (run .entry)) count) (now (order .exit)) (now (numbers .exit)) r ⌝ }
+{
+    let mut k = 0;
+    let mut best = first_ready(run, count, numbers);
+    while best < count {
+        let q = run[TRANSITION_BYTES * best + OUT_AT];
+        order[k] = q;
+        k += 1;
+        numbers[wide(q)] = k as u8;
+        best = first_ready(run, count, numbers);
+    }
+    k
+}
