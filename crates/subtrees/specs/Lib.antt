@@ -1,2 +1,5 @@
 pub mod Store
+<<<<<<< ours
 pub mod Steps
+=======
+>>>>>>> theirs

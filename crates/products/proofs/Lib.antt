@@ -1,0 +1,10 @@
+pub mod Growing
+pub mod Entries
+pub mod Candidates
+pub mod Choosing
+pub mod Spreading
+pub mod Pairing
+pub mod NodeLookup
+pub mod Viewing
+pub mod Answering
+pub mod Joining

@@ -1,0 +1,94 @@
+// Subtrees as transitions: the one at index j has its label over its children's numbers, and goes to n + j + 1.
+ghost use mathlib.Core.Path.{_≡_};
+ghost use Prim.Native.Nat.{_*_, _+_, _<_, _≤_};
+ghost use lib.ListN.{length};
+ghost use Rattle.format.specs.Format.{maxNodes, maxProduct, maxStates, transitionBytes};
+ghost use Rattle.table.specs.Layout.{transitionAt};
+ghost use Rattle.products.specs.Choices.{Entry};
+ghost use Rattle.products.specs.Growth.{Added, Is, Live, UpTo};
+ghost use Rattle.products.specs.Pairs.{NodeAt, Nodes, nodeTransition};
+use fields::wide;
+use format::ARGS_AT;
+use format::MAX_ARITY;
+use format::MAX_NODES;
+use format::OUT_AT;
+use format::TRANSITION_BYTES;
+use sorted::insert;
+
+// The arity stands right before the arguments.
+pub const ARITY_AT: usize = ARGS_AT - 1;
+
+pub const CHILD_NUMBERS: usize = MAX_NODES * MAX_ARITY;
+
+// A run with room for each subtree.
+pub const NODE_RUN: usize = TRANSITION_BYTES * MAX_NODES;
+
+// Inserts an entry unless its key is there already. Answers the number of transitions.
+pub fn put(run: &mut [u8], count: usize, entry: [u8; TRANSITION_BYTES]) -> usize
+    requires { ⌜ Live (now run) count ⌝ }
+    requires { ⌜ transitionBytes * (count + 1) ≤ length (now run) ⌝ }
+    requires { ⌜ count + 1 ≤ maxProduct ⌝ }
+    requires { ⌜ Entry entry ⌝ }
+    ensures { λ r. ⌜ Added (Is (transitionAt entry 0)) (now (run .entry)) (now (run .exit)) count r ⌝ }
+    ensures { λ r. ⌜ r ≤ count + 1 ⌝ }
+{
+    if insert(run, count, entry) {
+        return count + 1;
+    }
+    count
+}
+
+// The transition of the subtree at index j.
+pub fn node_entry(
+    n: usize,
+    m: usize,
+    labels: &[u8; MAX_NODES],
+    arities: &[u8; MAX_NODES],
+    children: &[u8; CHILD_NUMBERS],
+    j: usize,
+) -> [u8; TRANSITION_BYTES]
+    requires { ⌜ n ≤ maxStates ⌝ }
+    requires { ⌜ Nodes m (now arities) (now children) ⌝ }
+    requires { ⌜ j < m ⌝ }
+    ensures { λ r. ⌜ transitionAt r 0 ≡
+        nodeTransition n (now (labels .entry)) (now (arities .entry)) (now (children .entry)) j ⌝ }
+    ensures { λ r. ⌜ Entry r ⌝ }
+{
+    let mut entry = [0u8; TRANSITION_BYTES];
+    entry[0] = labels[j];
+    entry[ARITY_AT] = arities[j];
+    entry[OUT_AT] = (n + j + 1) as u8;
+    let arity = wide(arities[j]);
+    let mut k = 0;
+    while k < arity {
+        let child = wide(children[MAX_ARITY * j + k]);
+        entry[ARGS_AT + k] = (n + child) as u8;
+        k += 1;
+    }
+    entry
+}
+
+// All of them, sorted. Answers their number.
+pub fn list_nodes(
+    n: usize,
+    m: usize,
+    labels: &[u8; MAX_NODES],
+    arities: &[u8; MAX_NODES],
+    children: &[u8; CHILD_NUMBERS],
+    run: &mut [u8],
+) -> usize
+    requires { ⌜ n ≤ maxStates ⌝ }
+    requires { ⌜ Nodes m (now arities) (now children) ⌝ }
+    requires { ⌜ length (now run) ≡ transitionBytes * maxNodes ⌝ }
+    ensures { λ r. ⌜ Added (UpTo (NodeAt n (now (labels .entry)) (now (arities .entry)) (now (children .entry))) m)
+        (now (run .entry)) (now (run .exit)) 0 r ⌝ }
+{
+    let mut count = 0;
+    let mut j = 0;
+    while j < m {
+        let entry = node_entry(n, m, labels, arities, children, j);
+        count = put(run, count, entry);
+        j += 1;
+    }
+    count
+}
