@@ -89,11 +89,13 @@ stop-form w s m x =
     let b = x .byte ∷ [] in
     let d : m - 1 ≡ length f = omega (arith, x .column) in
     let e : m ≡ length f + 1 = omega (arith, x .column) in
-    let before-byte : take (m - 1) s ≡ f = ap (λ y. take (m - 1) y) (x .text) ∙ take-at f (x .byte ∷ x .rest) (m - 1) (sym d) in
+    let before-byte : take (m - 1) s ≡ f = ap (λ y. take (m - 1) y) (x .text) ∙
+    take-at f (x .byte ∷ x .rest) (m - 1) (sym d) in
     let past-byte : take m s ≡ f ++ b =
     ap (λ y. take m y) (x .text ∙ sym (append-assoc f b (x .rest))) ∙
     take-at (f ++ b) (x .rest) m (length-append f b ∙ sym e) in
-    let size : length s ≡ length f + suc (length (x .rest)) = ap length (x .text) ∙ length-append f (x .byte ∷ x .rest) in
+    let size : length s ≡ length f + suc (length (x .rest)) = ap length (x .text) ∙
+    length-append f (x .byte ∷ x .rest) in
     record {
       within = (omega (arith, x .column), omega (arith, x .column));
       before = subst (FormBegins w) (sym before-byte) (live-begins w f (x .live));

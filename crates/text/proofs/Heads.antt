@@ -10,19 +10,27 @@ use lib.ListN.{List·getD-eq-default, drop, drop-of-length-le, getD, length, len
 use lib.ListN.{length-set, replicate, replicate-append-replicate, set, take}
 use lib.Seq.{drop-cons, take-all, take-suc, take-suc-set}
 use borrow.Author.Tests.{eq-eqb, ne-eqb}
-use Rattle.text.specs.Answers.{LabelTo, agreed, blank, listingBytes}
+use Rattle.text.specs.Answers.{LabelRead, LabelTo, LineEnd, agreed}
 use Rattle.text.specs.Grammar.{closeBracket, digit}
+use Rattle.text.specs.Outcome.{blank, listingBytes}
 use Rattle.text.specs.Reader.{Reading, bad, ending, extended, extends, isDigit, lineRead, next, scan, stuck}
 use Rattle.text.specs.Reader.{treeRead, whole}
+use Rattle.text.specs.declared.Found.the-variants.{Broken, Whole}
+use Rattle.text.specs.declared.Label.the-variants.{Nothing, Number}
 use Rattle.trees.specs.Tree.{Tree}
 use Rattle.text.proofs.Labels.{digit-bounds, extends-true, label-digit, label-extended}
 use Rattle.text.proofs.Scan.{ending-stuck, scan-from}
 
 -- ---- labels
 
-pub label-absent : (s : List ℕ) → length s < 1 → isDigit (getD s 0 0) ≡ false
+pub label-absent : (s : List ℕ) → length s < 1 → LabelRead s Nothing
+unfolding LabelRead
 label-absent [] h = refl
 label-absent (b ∷ s) h = absurd (omega arith)
+
+pub label-other : (s : List ℕ) → isDigit (getD s 0 0) ≡ false → LabelRead s Nothing
+unfolding LabelRead
+label-other s e = e
 
 pub label-first : (s : List ℕ) → 1 ≤ length s → isDigit (getD s 0 0) ≡ true → LabelTo s 1 (getD s 0 0 - digit 0)
 label-first [] h e = absurd (omega arith)
@@ -41,8 +49,12 @@ label-next s i a x h e =
       text = rw (add-one i, take-suc s i 0 h, x .text) (sym (label-extended a (getD s i 0) y));
     }
 
-pub label-last : (s : List ℕ) (i a : ℕ) → length s ≤ i → extends a (getD s i 0) ≡ false
-label-last s i a h = rw (List·getD-eq-default s 0 h)
+pub label-stopped : (s : List ℕ) (i a : ℕ) → LabelTo s i a → extends a (getD s i 0) ≡ false → LabelRead s (Number a i)
+unfolding LabelRead
+label-stopped s i a x e = (x, e)
+
+pub label-last : (s : List ℕ) (i a : ℕ) → LabelTo s i a → length s ≤ i → LabelRead s (Number a i)
+label-last s i a x h = label-stopped s i a x (rw (List·getD-eq-default s 0 h))
 
 -- ---- heads
 
@@ -95,15 +107,16 @@ abbrev restReading : List ℕ → ℕ → Tree → Reading
 restReading s e t = ending (suc (length s)) (scan (drop e s) (suc e) (treeRead t))
 
 module _ (s : List ℕ) (e : ℕ) (t : Tree) where
-  pub line-cut : e ≤ length s → length s ≤ e → restReading s e t ≡ bad (suc e)
+  cut : e ≤ length s → length s ≤ e → restReading s e t ≡ bad (suc e)
   unfolding scan ending
-  line-cut k h = let d : length s ≡ e = omega arith in rw (drop-of-length-le s {i = e} h) (ap (λ n. bad (suc n)) d)
+  cut k h = let d : length s ≡ e = omega arith in rw (drop-of-length-le s {i = e} h) (ap (λ n. bad (suc n)) d)
 
-  pub line-unclosed : e < length s → (getD s e 0 ≡ closeBracket → ⊥) → restReading s e t ≡ bad (suc e)
+  unclosed : e < length s → (getD s e 0 ≡ closeBracket → ⊥) → restReading s e t ≡ bad (suc e)
   unfolding next
-  line-unclosed h k =
+  unclosed h k =
       let q : next (suc e) (treeRead t) (getD s e 0) ≡ stuck (suc e) = rw (ne-eqb (getD s e 0) closeBracket k) in
-      ap (ending (suc (length s))) (scan-from s e (suc e) (treeRead t) h ∙ ap (scan (drop (suc e) s) (suc (suc e))) q) ∙
+      ap (ending (suc (length s))) (scan-from s e (suc e) (treeRead t) h ∙
+      ap (scan (drop (suc e) s) (suc (suc e))) q) ∙
       ending-stuck (suc (length s)) (drop (suc e) s) (suc (suc e)) (suc e)
 
   module _ (h : e < length s) (k : getD s e 0 ≡ closeBracket) where
@@ -111,17 +124,35 @@ module _ (s : List ℕ) (e : ℕ) (t : Tree) where
     unfolding next
     closed = scan-from s e (suc e) (treeRead t) h ∙ rw (eq-eqb (getD s e 0) closeBracket k)
 
-    pub line-more : e + 1 < length s → restReading s e t ≡ bad (suc (e + 1))
+    more : e + 1 < length s → restReading s e t ≡ bad (suc (e + 1))
     unfolding next
-    line-more l =
+    more l =
         ap (ending (suc (length s))) (closed ∙ scan-from s (suc e) (suc (suc e)) (lineRead t) (omega arith)) ∙
         ending-stuck (suc (length s)) (drop (suc (suc e)) s) (suc (suc (suc e))) (suc (suc e)) ∙
         ap (λ n. bad (suc n)) (sym (add-one e))
 
-    pub line-closed : length s ≤ e + 1 → restReading s e t ≡ whole t
+    whole-line : length s ≤ e + 1 → restReading s e t ≡ whole t
     unfolding scan ending
-    line-closed l =
+    whole-line l =
         ap (ending (suc (length s))) closed ∙ rw (drop-of-length-le s {i = suc e} (omega arith))
+
+module _ (s : List ℕ) (e u : ℕ) where
+  pub line-cut : e ≤ length s → length s ≤ e → LineEnd s e u (Broken e)
+  unfolding LineEnd
+  line-cut k h = (k, λ t. cut s e t k h)
+
+  pub line-unclosed : e < length s → (getD s e 0 ≡ closeBracket → ⊥) → LineEnd s e u (Broken e)
+  unfolding LineEnd
+  line-unclosed h k = (omega arith, λ t. unclosed s e t h k)
+
+  module _ (h : e < length s) (k : getD s e 0 ≡ closeBracket) where
+    pub line-more : e + 1 < length s → LineEnd s e u (Broken (e + 1))
+    unfolding LineEnd
+    line-more l = (omega arith, λ t. more s e t h k l)
+
+    pub line-closed : length s ≤ e + 1 → LineEnd s e u (Whole u)
+    unfolding LineEnd
+    line-closed l = (refl, λ t. whole-line s e t h k l)
 
 -- ---- a table of zeros
 

@@ -1,8 +1,8 @@
 -- The digits of labels: what may follow a number, and the text of a number with one digit more.
-use mathlib.Core.Bool.{false, true}
+use mathlib.Core.Bool.{Bool, _&&_, false, true}
 use mathlib.Core.List.{[], _++_, _∷_}
 use mathlib.Core.Logic.{_⊎_, inl, inr}
-use mathlib.Core.Path.{_≡_}
+use mathlib.Core.Path.{_≡_, refl}
 use Prim.Native.Nat.{_%_, _-_, _/_, _<_, _≤_, ℕ}
 use native.Mathlib.Omega.{arith}
 use lib.Dec.{leb, ltb}
@@ -69,3 +69,10 @@ label-extended a b x = go (test (ltb a 10))
           q,
           r,
         )
+
+pub extends-zero : (a b : ℕ) → a ≡ 0 → false ≡ extends a b
+extends-zero a b e = go (isDigit b)
+  where
+    go : (d : Bool) → false ≡ (d && (ltb 0 a && leb (extended a b) maxLabel))
+    go true = rw e
+    go false = refl

@@ -167,7 +167,12 @@ none-later w s k m x h l g =
       rest = drop k (take m s) ++ g .rest;
       tree = g .tree;
       labels = g .labels;
-      text = rw (← append-assoc (take k s) (drop k (take m s)) (g .rest), ← take-take k m s h, take-append-drop k (take m s)) (g .text);
+      text = rw (
+        ← append-assoc (take k s) (drop k (take m s)) (g .rest),
+        ← take-take k m s h,
+        take-append-drop k
+            (take m s),
+      ) (g .text);
     })
 
 pub line-form : (s : List ℕ) (m : ℕ) → readLine s ≡ form m → FirstBad s m
@@ -190,7 +195,8 @@ line-form s m e = go (test (leb (length s) maxLine))
               (record { rest = g .rest; tree = g .line .tree; labels = g .line .labels; text = g .line .text });
           malformed = λ v.
               let (k, q, j) = x .others (v .command) in
-              let r = ap (readForm (head (v .command))) (v .text) ∙ form-whole (head (v .command)) (v .tree) (v .labels) in
+              let r = ap (readForm (head (v .command))) (v .text) ∙
+              form-whole (head (v .command)) (v .tree) (v .labels) in
               let z : _≡_ {A = ℕ} 0 1 = cc in
               omega arith;
         }

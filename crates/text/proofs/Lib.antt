@@ -7,5 +7,6 @@ pub mod Laws
 pub mod Heads
 pub mod Sizes
 pub mod Readers
+pub mod Returns
 pub mod Lines
 pub mod Samples

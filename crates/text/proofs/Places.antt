@@ -102,7 +102,8 @@ known-onward w n a f os b s h k l e = go (test (eqb b closeBracket)) (test (eqb 
         )
     go (inr p) (inr q) = rw (p, q) (tt, tt)
 
-known-next : (w : List ℕ) (n : ℕ) (p : Place) (b : ℕ) (s : List ℕ) → Known w p s → Known w (next n p b) (s ++ (b ∷ []))
+known-next : (w : List ℕ) (n : ℕ) (p : Place) (b : ℕ) (s : List ℕ) → Known w p s →
+    Known w (next n p b) (s ++ (b ∷ []))
 unfolding Known next nodeStart
 known-next w n (expecting [] os) b s (e, l) = go (test (isDigit b))
   where

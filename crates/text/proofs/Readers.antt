@@ -37,32 +37,39 @@ module _ (s : List ℕ) (k : ℕ) (l : List ℕ) (at : ℕ) (m : List ℕ) (r : 
   part = take (length s - k) (drop k s)
 
   pub tree-text : TreeRead part l at m r → (c n u : ℕ) → r ≡ Trees c n u → TreeText (drop k s) l at m n u
+  unfolding TreeRead ChildrenRead
   tree-text q c n u z = subst (λ x. TreeText x l at m n u) (part-drop s k) (rw z at q)
 
   pub tree-bad : TreeRead part l at m r → (i : ℕ) → r ≡ Bad i →
       Refused (drop k s) (expecting (openBracket ∷ [])) i × (length m ≡ length l)
+  unfolding TreeRead ChildrenRead
   tree-bad q i z =
       subst (λ x. Refused x (expecting (openBracket ∷ [])) i × (length m ≡ length l)) (part-drop s k) (rw z at q)
 
   pub children-text : ChildrenRead part l at m r → (c n u : ℕ) → r ≡ Trees c n u →
       ChildrenText (drop k s) l at m c n u
+  unfolding TreeRead ChildrenRead
   children-text q c n u z = subst (λ x. ChildrenText x l at m c n u) (part-drop s k) (rw z at q)
 
   pub children-bad : ChildrenRead part l at m r → (i : ℕ) → r ≡ Bad i →
       ((a : ℕ) (f : Forest) → Refused (drop k s) (among a f) i) × (length m ≡ length l)
+  unfolding TreeRead ChildrenRead
   children-bad q i z =
-      subst (λ x. ((a : ℕ) (f : Forest) → Refused x (among a f) i) × (length m ≡ length l)) (part-drop s k) (rw z at q)
+      subst (λ x. ((a : ℕ) (f : Forest) → Refused x (among a f) i) × (length m ≡ length l)) (part-drop s k)
+      (rw z at q)
 
 -- a label was looked for behind the first byte
 module _ (s : List ℕ) (r : Label) (q : LabelRead (take (length s - 1) (drop 1 s)) r) where
   pub label-read : (a i : ℕ) → r ≡ Number a i →
       LabelTo (drop 1 s) i a × (extends a (getD (drop (1 + i) s) 0 0) ≡ false)
+  unfolding LabelRead
   label-read a i z =
       let x = subst (λ y. LabelTo y i a × (extends a (getD y i 0) ≡ false)) (part-drop s 1) (rw z at q) in
       let e : (1 + i) + 0 ≡ 1 + i = omega arith in
       (x .0, rw (getD-drop (1 + i) s 0 0, e, ← getD-drop 1 s i 0) (x .1))
 
   pub label-missing : r ≡ Nothing → isDigit (getD (drop 1 s) 0 0) ≡ false
+  unfolding LabelRead
   label-missing z = subst (λ y. isDigit (getD y 0 0) ≡ false) (part-drop s 1) (rw z at q)
 
 -- the first byte and the rest

@@ -1,4 +1,5 @@
--- Scanning in parts: the first byte that is not allowed splits a line, and every other place can be brought to an end.
+-- Scanning in parts: the first byte that is not allowed splits a line, and every other place can be brought to an
+-- end.
 use mathlib.Core.Bool.{Bool, cond, false, true}
 use mathlib.Core.List.{List, [], _++_, _∷_}
 use mathlib.Core.Logic.{_⊎_, inl, inr}

@@ -8,8 +8,9 @@ use native.Mathlib.Omega.{arith}
 use lib.Dec.{ltb}
 use lib.ListN.{drop, length, length-append, set}
 use lib.Seq.{length-sets, set-comm, sets}
-use Rattle.text.specs.Answers.{ChildrenText, TreeText, listed}
+use Rattle.text.specs.Answers.{ChildrenText, TreeText}
 use Rattle.text.specs.Grammar.{childrenText, closeBracket, digit, labelText, treeText}
+use Rattle.text.specs.Outcome.{listed}
 use Rattle.trees.specs.Listing.{listing, listings}
 use Rattle.trees.specs.Tree.{Forest, Tree, cons, count, nil, node}
 

@@ -32,7 +32,14 @@ module _ (os : List Open) where
   unfolding scan next labelText
   scanned-digit a h s n =
       let e : digit a - digit 0 ≡ a = omega arith in
-      rw (lt-ltb a 10 h, le-leb (digit 0) (digit a) (omega arith), le-leb (digit a) (digit 9) (omega arith), e, add-one n)
+      rw (
+        lt-ltb a 10 h,
+        le-leb (digit 0) (digit a) (omega arith),
+        le-leb (digit a) (digit 9)
+            (omega arith),
+        e,
+        add-one n,
+      )
 
   scanned-more : (a b : ℕ) → Extends a b → Scanned a → Scanned (extended a b)
   unfolding scan next
@@ -41,7 +48,8 @@ module _ (os : List Open) where
       rw (label-extended a b x, append-assoc (labelText a) (b ∷ []) s, length-append (labelText a) (b ∷ []), e)
       (ih (b ∷ s) n ∙ rw (true-extends a b x))
 
-  last-digit : (a : ℕ) → 10 ≤ a → a ≤ maxLabel → Extends (a / 10) (digit (a % 10)) × (extended (a / 10) (digit (a % 10)) ≡ a)
+  last-digit : (a : ℕ) → 10 ≤ a → a ≤ maxLabel → Extends (a / 10) (digit (a % 10)) × (extended (a / 10) (digit
+      (a % 10)) ≡ a)
   last-digit a h k =
       let e : extended (a / 10) (digit (a % 10)) ≡ a = omega arith in
       (record { low = omega arith; high = omega arith; nonzero = omega arith; fits = omega arith }, e)
@@ -93,7 +101,8 @@ mutual
       go ih =
           let l = labelText a in
           let k = suc n + length l in
-          let e : n + suc (length l + (length (childrenText f) + 1)) ≡ suc (k + length (childrenText f)) = omega arith in
+          let e : n + suc (length l + (length (childrenText f) + 1)) ≡ suc (k + length (childrenText f)) =
+          omega arith in
           rw (
             append-assoc l (childrenText f ++ (closeBracket ∷ [])) s,
             append-assoc (childrenText f) (closeBracket ∷ []) s,
@@ -120,7 +129,8 @@ mutual
           scan s (n + suc (length (treeText t ++ childrenText f))) (among a (g ⧺ cons t f) os)
       go d ih =
           let k = suc n + length (treeText t) in
-          let e : n + suc (length (treeText t) + length (childrenText f)) ≡ k + length (childrenText f) = omega arith in
+          let e : n + suc (length (treeText t) + length (childrenText f)) ≡ k + length (childrenText f) =
+          omega arith in
           rw (
             append-assoc (treeText t) (childrenText f) s,
             length-append (treeText t) (childrenText f),

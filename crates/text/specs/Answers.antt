@@ -1,57 +1,29 @@
--- What the functions of the reader answer, in terms of the grammar and of the scan.
+-- What the functions within the reader answer, in terms of the grammar and of the scan.
 use mathlib.Core.Bool.{cond, false}
 use mathlib.Core.List.{List, [], _++_, _∷_}
 use mathlib.Core.Path.{_≡_}
-use Prim.Native.Nat.{_+_, _-_, _≤_, suc, ℕ}
+use Prim.Native.Nat.{_+_, _≤_, suc, ℕ}
 use lib.Dec.{eqb}
-use lib.ListN.{drop, getD, length, replicate, take}
+use lib.ListN.{drop, getD, length, take}
 use lib.Seq.{sets}
 use Rattle.format.specs.Format.{maxLabel}
-use Rattle.text.specs.Grammar.{AllLabelled, Command, Labelled, childrenText, closeBracket, labelText}
-use Rattle.text.specs.Grammar.{openBracket, toAdd, toAsk, toDrop, treeText}
-use Rattle.text.specs.Reader.{Line, Open, Place, among, bad, ending, expecting, extends, form, formed}
-use Rattle.text.specs.Reader.{isDigit, long, maxLine, readForm, scan, treeRead, whole}
+use Rattle.text.specs.Grammar.{AllLabelled, Labelled, childrenText, closeBracket, labelText, openBracket}
+use Rattle.text.specs.Grammar.{treeText}
+use Rattle.text.specs.Outcome.{listingBytes, padded}
+use Rattle.text.specs.Reader.{Open, Place, among, bad, ending, expecting, extends, isDigit, maxLine, readForm}
+use Rattle.text.specs.Reader.{scan, treeRead, whole}
 use Rattle.text.specs.declared.Found.{Found}
 use Rattle.text.specs.declared.Found.the-variants.{Broken, Whole}
 use Rattle.text.specs.declared.Label.{Label}
 use Rattle.text.specs.declared.Label.the-variants.{Nothing, Number}
-use Rattle.text.specs.declared.Parsed.{Parsed}
-use Rattle.text.specs.declared.Parsed.the-variants.{Add, Ask, Drop, Form, Long}
 use Rattle.text.specs.declared.Read.{Read}
 use Rattle.text.specs.declared.Read.the-variants.{Bad, Trees}
 use Rattle.trees.specs.Listing.{listing, listings}
 use Rattle.trees.specs.Tree.{Forest, Tree, count}
 
--- the fewest bytes before a tree, those of "(add "; so a line of 512 bytes has at most 126 nodes, and their listing
--- 252 bytes
+-- the fewest bytes before a tree, those of "(add "
 abbrev pub shortestHead : ℕ
 shortestHead = 5
-
-abbrev pub listingBytes : ℕ
-listingBytes = 252
-
--- a table of zeros, and one that holds a listing and zeros behind it
-unfoldable pub blank : List ℕ
-blank = replicate listingBytes 0
-
-unfoldable pub padded : List ℕ → List ℕ
-padded l = l ++ replicate (listingBytes - length l) 0
-
--- the answer for a line, and what the lent table holds after it: zeros where there is no listing
-abbrev pub parsedAs : Command → ℕ → Parsed
-parsedAs toAdd n = Add n
-parsedAs toDrop n = Drop n
-parsedAs toAsk n = Ask n
-
-unfoldable pub parsed : Line → Parsed
-parsed (formed c l) = parsedAs c (length l)
-parsed (form n) = Form n
-parsed long = Long
-
-unfoldable pub listed : Line → List ℕ
-listed (formed c l) = padded l
-listed (form n) = blank
-listed long = blank
 
 -- the number of first bytes in which two lists agree
 unfoldable pub agreed : List ℕ → List ℕ → ℕ
@@ -67,11 +39,11 @@ pub record LabelTo (s : List ℕ) (i a : ℕ) : Type 0 where
   pub text : take i s ≡ labelText a
 
 -- the longest label that s starts with, or that it starts with none
-abbrev pub LabelRead : List ℕ → Label → Type 0
+unfoldable pub LabelRead : List ℕ → Label → Type 0
 LabelRead s (Number a i) = LabelTo s i a × (extends a (getD s i 0) ≡ false)
 LabelRead s Nothing = isDigit (getD s 0 0) ≡ false
 
--- the listing before, where the readers write, and that it has its size; the listing's end stays a number
+-- the table l has its size, and a place of it that rises with the bytes read of s stays small
 pub record Room (s l : List ℕ) (at : ℕ) : Type 0 where
   pub size : length l ≡ listingBytes
   pub bound : at + length s ≤ maxLine
@@ -100,22 +72,22 @@ pub record Refused (s : List ℕ) (from : List Open → Place) (i : ℕ) : Type 
   pub within : i ≤ length s
   pub refused : (n : ℕ) (os : List Open) → ending (n + length s) (scan s n (from os)) ≡ bad (n + i)
 
-abbrev pub TreeRead : List ℕ → List ℕ → ℕ → List ℕ → Read → Type 0
+unfoldable pub TreeRead : List ℕ → List ℕ → ℕ → List ℕ → Read → Type 0
 TreeRead s l at m (Trees k n u) = TreeText s l at m n u
 TreeRead s l at m (Bad i) = Refused s (expecting (openBracket ∷ [])) i × (length m ≡ length l)
 
-abbrev pub ChildrenRead : List ℕ → List ℕ → ℕ → List ℕ → Read → Type 0
+unfoldable pub ChildrenRead : List ℕ → List ℕ → ℕ → List ℕ → Read → Type 0
 ChildrenRead s l at m (Trees k n u) = ChildrenText s l at m k n u
 ChildrenRead s l at m (Bad i) = ((a : ℕ) (f : Forest) → Refused s (among a f) i) × (length m ≡ length l)
 
 -- how a line is read that comes to the end of its tree, with a listing of u bytes, before byte e
-abbrev pub LineEnd : List ℕ → ℕ → ℕ → Found → Type 0
+unfoldable pub LineEnd : List ℕ → ℕ → ℕ → Found → Type 0
 LineEnd s e u (Whole n) =
     (n ≡ u) × ((t : Tree) → ending (suc (length s)) (scan (drop e s) (suc e) (treeRead t)) ≡ whole t)
 LineEnd s e u (Broken i) =
     (i ≤ length s) × ((t : Tree) → ending (suc (length s)) (scan (drop e s) (suc e) (treeRead t)) ≡ bad (suc i))
 
 -- the reading of a line with the bytes w before its tree
-abbrev pub FormRead : List ℕ → List ℕ → List ℕ → Found → Type 0
+unfoldable pub FormRead : List ℕ → List ℕ → List ℕ → Found → Type 0
 FormRead w s m (Whole n) = (t : Tree) × (readForm w s ≡ whole t) × (n ≡ length (listing t)) × (m ≡ padded (listing t))
 FormRead w s m (Broken i) = (readForm w s ≡ bad (suc i)) × (i ≤ length s) × (length m ≡ listingBytes)

@@ -70,8 +70,8 @@ pub record Begins (s : List ℕ) : Type 0 where
   pub rest : List ℕ
   pub line : WellFormed (s ++ rest)
 
--- Column m is that of the first byte that no well-formed line has there after the bytes before it; the end of the line
--- counts as such a byte.
+-- Column m is that of the first byte that no well-formed line has there after the bytes before it; the end of the
+-- line counts as such a byte.
 pub record FirstBad (s : List ℕ) (m : ℕ) : Type 0 where
   pub within : (1 ≤ m) × (m ≤ suc (length s))
   pub before : Begins (take (m - 1) s)

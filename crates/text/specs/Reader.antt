@@ -1,13 +1,13 @@
--- A line read a byte at a time: what the grammar allows next at each place, and the first byte that it does not allow.
+-- A line read a byte at a time: what the grammar allows next at each place, and the first byte that it does not.
 use mathlib.Core.Bool.{Bool, _&&_, cond}
 use mathlib.Core.List.{List, [], _++_, _∷_}
 use Prim.Native.Nat.{_*_, _+_, _-_, max, suc, ℕ}
 use lib.Dec.{eqb, leb, ltb}
 use lib.ListN.{length}
 use Rattle.format.specs.Format.{maxLabel}
+use Rattle.text.specs.Grammar.{Command, closeBracket, digit, head, openBracket, space, toAdd, toAsk, toDrop}
 use Rattle.trees.specs.Listing.{listing}
 use Rattle.trees.specs.Tree.{Forest, Tree, _⧺_, cons, nil, node}
-use Rattle.text.specs.Grammar.{Command, closeBracket, digit, head, openBracket, space, toAdd, toAsk, toDrop}
 
 -- a node whose closing bracket is still to come: its label, and its children so far
 pub record Open : Type 0 where

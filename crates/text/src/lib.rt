@@ -3,9 +3,13 @@ ghost use mathlib.Core.Path.{_≡_};
 ghost use Prim.Native.Nat.{_≤_, max, suc};
 ghost use lib.ListN.{length, set};
 ghost use Rattle.text.specs.Answers.{ChildrenRead, FormRead, LabelRead, LineEnd, Room, TreeRead, agreed};
-ghost use Rattle.text.specs.Answers.{blank, shortestHead, listed, listingBytes, parsed};
+ghost use Rattle.text.specs.Answers.{shortestHead};
+ghost use Rattle.text.specs.Outcome.{blank, listed, listingBytes, parsed};
 ghost use Rattle.text.specs.Reader.{extends, isDigit, maxLine, readLine};
+use cursor::column_at;
 use format::NODE_BYTES;
+
+mod cursor; // cursor.rt: from the place of a byte to its column
 
 const MAX_LINE: usize = 512;
 
@@ -36,10 +40,10 @@ enum Label {
     Nothing,
 }
 
-// Trees in a row: how many, their bytes in the text and those of their listings; or the first byte that is not allowed.
+// Trees in a row: how many, their bytes in the text and in their listings; or the first byte that is not allowed.
 enum Read {
-    Trees { count: u8, len: usize, used: usize },
-    Bad { at: usize },
+    Trees(u8, usize, usize),
+    Bad(usize),
 }
 
 // One form of a line: the bytes of its tree's listing, or the first byte that is not allowed.
@@ -114,72 +118,48 @@ fn tree(s: &[u8], listing: &mut [u8; 252], at: usize) -> Read
     ensures { λ r. ⌜ TreeRead (now (s .entry)) (now (listing .entry)) at (now (listing .exit)) r ⌝ }
 {
     if s.len() < 1 {
-        return Read::Bad { at: 0 };
+        return Read::Bad(0);
     }
     if s[0] != OPEN {
-        return Read::Bad { at: 0 };
+        return Read::Bad(0);
     }
     let Label::Number { value, len } = read_label(&s[1..]) else {
-        return Read::Bad { at: 1 };
+        return Read::Bad(1);
     };
     put(listing, at, value);
     let start = 1 + len;
     match children(&s[start..], listing, at + NODE_BYTES) {
-        Read::Trees {
-            count,
-            len: more,
-            used,
-        } => {
+        Read::Trees(count, more, used) => {
             put(listing, at + 1, count);
-            Read::Trees {
-                count: 1,
-                len: start + more,
-                used: NODE_BYTES + used,
-            }
+            Read::Trees(1, start + more, NODE_BYTES + used)
         }
-        Read::Bad { at: place } => Read::Bad { at: start + place },
+        Read::Bad(place) => Read::Bad(start + place),
     }
 }
 
-// Reads children, each after a space, and the closing bracket behind them, and writes their listings from byte `at` on.
+// Reads children, each after a space, and the closing bracket behind them; writes their listings from byte `at` on.
 fn children(s: &[u8], listing: &mut [u8; 252], at: usize) -> Read
     requires { ⌜ Room (now s) (now listing) at ⌝ }
     ensures { λ r. ⌜ ChildrenRead (now (s .entry)) (now (listing .entry)) at (now (listing .exit)) r ⌝ }
 {
     if s.len() < 1 {
-        return Read::Bad { at: 0 };
+        return Read::Bad(0);
     }
     if s[0] == CLOSE {
-        return Read::Trees {
-            count: 0,
-            len: 1,
-            used: 0,
-        };
+        return Read::Trees(0, 1, 0);
     }
     if s[0] != SPACE {
-        return Read::Bad { at: 0 };
+        return Read::Bad(0);
     }
     match tree(&s[1..], listing, at) {
-        Read::Trees {
-            count: _,
-            len,
-            used,
-        } => {
-            let start = 1 + len;
-            match children(&s[start..], listing, at + used) {
-                Read::Trees {
-                    count,
-                    len: more,
-                    used: rest,
-                } => Read::Trees {
-                    count: count + 1,
-                    len: start + more,
-                    used: used + rest,
-                },
-                Read::Bad { at: place } => Read::Bad { at: start + place },
+        Read::Trees(_, len, used) => {
+            let next = 1 + len;
+            match children(&s[next..], listing, at + used) {
+                Read::Trees(count, more, rest) => Read::Trees(count + 1, next + more, used + rest),
+                Read::Bad(place) => Read::Bad(next + place),
             }
         }
-        Read::Bad { at: place } => Read::Bad { at: 1 + place },
+        Read::Bad(place) => Read::Bad(1 + place),
     }
 }
 
@@ -241,12 +221,8 @@ fn read_form(line: &[u8], head: &[u8], listing: &mut [u8; 252]) -> Found
     }
     clear(listing);
     match tree(&line[start..], listing, 0) {
-        Read::Trees {
-            count: _,
-            len,
-            used,
-        } => close_line(line, start + len, used),
-        Read::Bad { at } => Found::Broken { at: start + at },
+        Read::Trees(_, len, used) => close_line(line, start + len, used),
+        Read::Bad(place) => Found::Broken { at: start + place },
     }
 }
 
@@ -257,14 +233,6 @@ fn larger(x: usize, y: usize) -> usize
         return y;
     }
     x
-}
-
-// The column of the byte at a place in a line.
-fn column_at(place: usize) -> usize
-    requires { ⌜ place ≤ maxLine ⌝ }
-    ensures { λ r. ⌜ r ≡ suc place ⌝ }
-{
-    place + 1
 }
 
 // Reads a line. The listing of its tree goes to `listing`, with zeros behind it; all zeros where there is none.

@@ -1,14 +1,18 @@
-use Rattle.text.specs.Answers.{ChildrenText, TreeText}
-use Rattle.trees.specs.Tree.{nil}
-use mathlib.Core.Path.{_∙_, ap, refl, subst, sym}
-use Rattle.text.proofs.Readers.{child-refused, children-closed, children-empty, children-read, children-refused, children-unknown, children-bad, children-text, part-length, tree-bad, tree-text, label-missing, label-read, tree-empty, tree-read, tree-refused, tree-unlabelled, tree-unopened}
-use Rattle.text.proofs.Sizes.{children-bounds, tree-bounds}
+-- The reader of a tree and the reader of children answer with the tree that they read, or with the first byte that is
+-- not allowed. What falls is the number of bytes left.
 use borrow.Author.Needs.{needs}
-use Prim.Native.Nat.{ℕ, _<_, _+_}
-use lib.ListN.{length, drop, length-drop, length-set, set}
-use native.Mathlib.Omega.{arith}
 use borrow.Fn.Kinds.{In}
-use borrow.Fn.PlainCycle.{Measures, is, falls, and}
+use borrow.Fn.PlainCycle.{Measures, and, falls, is}
+use Prim.Native.Nat.{_<_, ℕ}
+use native.Mathlib.Omega.{arith}
+use lib.ListN.{length}
+use Rattle.text.proofs.Returns.{children-broken, children-broken-fits, children-broken-later}
+use Rattle.text.proofs.Returns.{children-count-fits, children-end, children-len-fits}
+use Rattle.text.proofs.Returns.{children-none, children-other, children-used-fits, children-whole}
+use Rattle.text.proofs.Returns.{first-falls, first-fits, first-inside, first-room, first-used-fits}
+use Rattle.text.proofs.Returns.{label-falls, label-fits, label-inside, label-room, later-inside, tree-broken}
+use Rattle.text.proofs.Returns.{tree-broken-fits, tree-len-fits, tree-nameless, tree-none, tree-other}
+use Rattle.text.proofs.Returns.{tree-size-kept, tree-used-fits, tree-whole}
 use Rattle.text.proofs.children.Reads as children
 use Rattle.text.proofs.children.Kinds as children-kinds
 use Rattle.text.proofs.+children+tree.Lts-children as children-lts
@@ -43,30 +47,37 @@ abbrev children-calls : ℕ → children-lts.Claims
 children-calls t = (tree-below t, tree.Post, children-below t, children.Post)
 
 abbrev tree-calls : ℕ → tree-lts.Claims
-tree-calls t =
-    (read-label-reads.Asked, read-label-reads.Learnt, put-reads.Asked, put-reads.Learnt, children-below t, children.Post)
+tree-calls t = (
+  read-label-reads.Asked,
+  read-label-reads.Learnt,
+  put-reads.Asked,
+  put-reads.Learnt,
+  children-below t,
+  children.Post,
+)
 
 children-returns : (t : ℕ) → children-lts.Need-returns (children-calls t) (children-at t) children.Post
-children-returns t c = (children-empty ((c .before .before .args .s .now)) (c .if1 .taken), refl)
+children-returns t c = search children-none
 
-children-shared-slice-read-if2 : (t : ℕ) → children-lts.Need-shared-slice-read-if2 (children-calls t) (children-at t) children.Post
+children-shared-slice-read-if2 : (t : ℕ) → children-lts.Need-shared-slice-read-if2 (children-calls t)
+    (children-at t) children.Post
 children-shared-slice-read-if2 t c = search needs
 
 children-returns-2 : (t : ℕ) → children-lts.Need-returns-2 (children-calls t) (children-at t) children.Post
-children-returns-2 t c =
-    children-closed ((c .before .before .before .before .args .s .now)) (c .before .before .if1 .left) ((c .before .before .before .before .args .listing .now)) ((c .before .before .before .before .args .at)) (c .if2 .taken)
+children-returns-2 t c = search children-end
 
-children-shared-slice-read-if3 : (t : ℕ) → children-lts.Need-shared-slice-read-if3 (children-calls t) (children-at t) children.Post
+children-shared-slice-read-if3 : (t : ℕ) → children-lts.Need-shared-slice-read-if3 (children-calls t)
+    (children-at t) children.Post
 children-shared-slice-read-if3 t c = search needs
 
 children-returns-3 : (t : ℕ) → children-lts.Need-returns-3 (children-calls t) (children-at t) children.Post
-children-returns-3 t c =
-    (children-unknown ((c .before .before .before .before .before .before .args .s .now)) (c .before .before .before .before .if1 .left) (c .before .before .if2 .left) (c .if3 .taken), refl)
+children-returns-3 t c = search children-other
 
 children-sub-tree : (t : ℕ) → children-lts.Need-sub-tree (children-calls t) (children-at t) children.Post
 children-sub-tree t c = search needs
 
-children-part-tree-start : (t : ℕ) → children-lts.Need-part-tree-start (children-calls t) (children-at t) children.Post
+children-part-tree-start : (t : ℕ) → children-lts.Need-part-tree-start (children-calls t)
+    (children-at t) children.Post
 children-part-tree-start t c = search needs
 
 children-part-tree-end : (t : ℕ) → children-lts.Need-part-tree-end (children-calls t) (children-at t) children.Post
@@ -78,88 +89,129 @@ children-tree-requires t c κs = search needs
 children-enum-known-len : (t : ℕ) → children-lts.Need-enum-known-len (children-calls t) (children-at t) children.Post
 children-enum-known-len t c = search needs
 
-children-add-start : (t : ℕ) → children-lts.Need-add-start (children-calls t) (children-at t) children.Post
-children-add-start t c =
-    let b = (tree-bounds (drop 1 ((c .before .before .before .before .before .before .before .before .before .before .before .before .args .s .now))) ((c .before .before .before .before .before .before .before .before .before .before .before .before .args .listing .now)) ((c .before .before .before .before .before .before .before .before .before .before .before .before .args .at)) ((c .before .before .before .tree .last .1 .0)) ((c .before .len .given .0 .1 .0)) ((c .before .len .given .0 .1 .1 .0)) ((tree-text ((c .before .before .before .before .before .before .before .before .before .before .before .before .args .s .now)) 1 ((c .before .before .before .before .before .before .before .before .before .before .before .before .args .listing .now)) ((c .before .before .before .before .before .before .before .before .before .before .before .before .args .at)) ((c .before .before .before .tree .last .1 .0)) (c .before .before .before .tree .result) (c .before .before .before .tree .ensures) (c .before .len .given .0 .0) ((c .before .len .given .0 .1 .0)) ((c .before .len .given .0 .1 .1 .0)) (c .before .len .given .1)))) in omega (arith, (length-drop 1 ((c .before .before .before .before .before .before .before .before .before .before .before .before .args .s .now))), c .before .before .before .before .before .before .before .before .before .before .before .before .good .0 .0)
+children-add-next : (t : ℕ) → children-lts.Need-add-next (children-calls t) (children-at t) children.Post
+children-add-next t c = search first-fits
 
 children-sub-children : (t : ℕ) → children-lts.Need-sub-children (children-calls t) (children-at t) children.Post
 children-sub-children t c =
-    let b = (tree-bounds (drop 1 ((c .before .before .before .before .before .before .before .before .before .before .before .before .args .s .now))) ((c .before .before .before .before .before .before .before .before .before .before .before .before .args .listing .now)) ((c .before .before .before .before .before .before .before .before .before .before .before .before .args .at)) ((c .before .before .before .tree .last .1 .0)) ((c .before .len .given .0 .1 .0)) ((c .before .len .given .0 .1 .1 .0)) ((tree-text ((c .before .before .before .before .before .before .before .before .before .before .before .before .args .s .now)) 1 ((c .before .before .before .before .before .before .before .before .before .before .before .before .args .listing .now)) ((c .before .before .before .before .before .before .before .before .before .before .before .before .args .at)) ((c .before .before .before .tree .last .1 .0)) (c .before .before .before .tree .result) (c .before .before .before .tree .ensures) (c .before .len .given .0 .0) ((c .before .len .given .0 .1 .0)) ((c .before .len .given .0 .1 .1 .0)) (c .before .len .given .1)))) in omega (arith, (length-drop 1 ((c .before .before .before .before .before .before .before .before .before .before .before .before .args .s .now))), c .before .before .before .before .before .before .before .before .before .before .if1 .left)
+    let after-len = c .before in
+    let after-tree = after-len .before .before in
+    let after-if3 = after-tree .before .before .before in
+    let after-if1 = after-if3 .before .before .before .before in
+    let start = after-if1 .before .before in
+    let s = start .args .s .now in
+    let h = after-if1 .if1 .left in
+    let e = after-if3 .if3 .left in
+    let x = after-tree .tree .ensures in
+    let z = after-len .len .given .1 in
+    first-inside s _ _ _ _ h e x _ _ _ z
 
-children-part-children-start : (t : ℕ) → children-lts.Need-part-children-start (children-calls t) (children-at t) children.Post
+children-part-children-start : (t : ℕ) → children-lts.Need-part-children-start (children-calls t)
+    (children-at t) children.Post
 children-part-children-start t c =
-    let b = (tree-bounds (drop 1 ((c .before .before .before .before .before .before .before .before .before .before .before .before .args .s .now))) ((c .before .before .before .before .before .before .before .before .before .before .before .before .args .listing .now)) ((c .before .before .before .before .before .before .before .before .before .before .before .before .args .at)) ((c .before .before .before .tree .last .1 .0)) ((c .before .len .given .0 .1 .0)) ((c .before .len .given .0 .1 .1 .0)) ((tree-text ((c .before .before .before .before .before .before .before .before .before .before .before .before .args .s .now)) 1 ((c .before .before .before .before .before .before .before .before .before .before .before .before .args .listing .now)) ((c .before .before .before .before .before .before .before .before .before .before .before .before .args .at)) ((c .before .before .before .tree .last .1 .0)) (c .before .before .before .tree .result) (c .before .before .before .tree .ensures) (c .before .len .given .0 .0) ((c .before .len .given .0 .1 .0)) ((c .before .len .given .0 .1 .1 .0)) (c .before .len .given .1)))) in omega (arith, (length-drop 1 ((c .before .before .before .before .before .before .before .before .before .before .before .before .args .s .now))), c .before .before .before .before .before .before .before .before .before .before .if1 .left)
+    let after-len = c .before in
+    let after-tree = after-len .before .before in
+    let after-if3 = after-tree .before .before .before in
+    let after-if1 = after-if3 .before .before .before .before in
+    let start = after-if1 .before .before in
+    let s = start .args .s .now in
+    let h = after-if1 .if1 .left in
+    let e = after-if3 .if3 .left in
+    let x = after-tree .tree .ensures in
+    let z = after-len .len .given .1 in
+    first-inside s _ _ _ _ h e x _ _ _ z
 
-children-part-children-end : (t : ℕ) → children-lts.Need-part-children-end (children-calls t) (children-at t) children.Post
+children-part-children-end : (t : ℕ) → children-lts.Need-part-children-end (children-calls t)
+    (children-at t) children.Post
 children-part-children-end t c = search needs
 
 children-add-children : (t : ℕ) → children-lts.Need-add-children (children-calls t) (children-at t) children.Post
 children-add-children t c =
-    let b = (tree-bounds (drop 1 ((c .before .before .before .before .before .before .before .before .before .before .before .before .before .before .args .s .now))) ((c .before .before .before .before .before .before .before .before .before .before .before .before .before .before .args .listing .now)) ((c .before .before .before .before .before .before .before .before .before .before .before .before .before .before .args .at)) ((c .before .before .before .before .before .tree .last .1 .0)) ((c .before .before .before .len .given .0 .1 .0)) ((c .before .before .before .len .given .0 .1 .1 .0)) ((tree-text ((c .before .before .before .before .before .before .before .before .before .before .before .before .before .before .args .s .now)) 1 ((c .before .before .before .before .before .before .before .before .before .before .before .before .before .before .args .listing .now)) ((c .before .before .before .before .before .before .before .before .before .before .before .before .before .before .args .at)) ((c .before .before .before .before .before .tree .last .1 .0)) (c .before .before .before .before .before .tree .result) (c .before .before .before .before .before .tree .ensures) (c .before .before .before .len .given .0 .0) ((c .before .before .before .len .given .0 .1 .0)) ((c .before .before .before .len .given .0 .1 .1 .0)) (c .before .before .before .len .given .1)))) in omega (arith, (length-drop 1 ((c .before .before .before .before .before .before .before .before .before .before .before .before .before .before .args .s .now))), c .before .before .before .before .before .before .before .before .before .before .before .before .before .before .pre .1)
+    let after-len = c .before .before .before in
+    let after-tree = after-len .before .before in
+    let after-if3 = after-tree .before .before .before in
+    let after-if1 = after-if3 .before .before .before .before in
+    let start = after-if1 .before .before in
+    let s = start .args .s .now in
+    let h = after-if1 .if1 .left in
+    let e = after-if3 .if3 .left in
+    let x = after-tree .tree .ensures in
+    let z = after-len .len .given .1 in
+    first-used-fits s _ _ _ _ h e x _ _ _ z (start .pre .1)
 
-children-children-requires : (t : ℕ) → children-lts.Need-children-requires (children-calls t) (children-at t) children.Post
+children-children-requires : (t : ℕ) → children-lts.Need-children-requires (children-calls t)
+    (children-at t) children.Post
 children-children-requires t c κs =
-    let b = (tree-bounds (drop 1 ((c .before .before .before .before .before .before .before .before .before .before .before .before .before .before .args .s .now))) ((c .before .before .before .before .before .before .before .before .before .before .before .before .before .before .args .listing .now)) ((c .before .before .before .before .before .before .before .before .before .before .before .before .before .before .args .at)) ((c .before .before .before .before .before .tree .last .1 .0)) ((c .before .before .before .len .given .0 .1 .0)) ((c .before .before .before .len .given .0 .1 .1 .0)) ((tree-text ((c .before .before .before .before .before .before .before .before .before .before .before .before .before .before .args .s .now)) 1 ((c .before .before .before .before .before .before .before .before .before .before .before .before .before .before .args .listing .now)) ((c .before .before .before .before .before .before .before .before .before .before .before .before .before .before .args .at)) ((c .before .before .before .before .before .tree .last .1 .0)) (c .before .before .before .before .before .tree .result) (c .before .before .before .before .before .tree .ensures) (c .before .before .before .len .given .0 .0) ((c .before .before .before .len .given .0 .1 .0)) ((c .before .before .before .len .given .0 .1 .1 .0)) (c .before .before .before .len .given .1)))) in
-    let r = c .before .before .before .before .before .before .before .before .before .before .before .before .before .before .pre .1 in
-    let d = (length-drop 1 ((c .before .before .before .before .before .before .before .before .before .before .before .before .before .before .args .s .now))) in
-    let q = part-length ((c .before .before .before .before .before .before .before .before .before .before .before .before .before .before .args .s .now)) ((1 + ((c .before .before .before .len .given .0 .1 .0)))) in
-    (omega (arith, c .before .before .before .before .before .before .before .before .before .before .before .before .before .before .pre .0, c .before .before .before .before .before .before .before .before .before .before .before .before .if1 .left), record { size = b .size ∙ r .size; bound = omega (arith, b, r .bound) })
+    let after-len = c .before .before .before in
+    let after-tree = after-len .before .before in
+    let after-if3 = after-tree .before .before .before in
+    let after-if1 = after-if3 .before .before .before .before in
+    let start = after-if1 .before .before in
+    let s = start .args .s .now in
+    let h = after-if1 .if1 .left in
+    let e = after-if3 .if3 .left in
+    let x = after-tree .tree .ensures in
+    let z = after-len .len .given .1 in
+    (first-falls s _ _ _ _ h e x _ _ _ z t (start .pre .0), first-room s _ _ _ _ h e x _ _ _ z (start .pre .1))
 
-children-enum-known-count : (t : ℕ) → children-lts.Need-enum-known-count (children-calls t) (children-at t) children.Post
+children-enum-known-count : (t : ℕ) → children-lts.Need-enum-known-count (children-calls t)
+    (children-at t) children.Post
 children-enum-known-count t c = search needs
 
 children-add-t31 : (t : ℕ) → children-lts.Need-add-t31 (children-calls t) (children-at t) children.Post
-children-add-t31 t c =
-    let b = (children-bounds (drop ((1 + ((c .before .before .before .before .before .before .before .len .given .0 .1 .0)))) ((c .before .before .before .before .before .before .before .before .before .before .before .before .before .before .before .before .before .before .args .s .now))) ((c .before .before .before .before .before .before .before .before .before .tree .last .1 .0)) ((c .before .before .before .before .before .before .before .before .before .before .before .before .before .before .before .before .before .before .args .at) + ((c .before .before .before .before .before .before .before .len .given .0 .1 .1 .0))) ((c .before .before .before .children .last .1 .0)) ((c .before .count .given .0 .0)) ((c .before .count .given .0 .1 .0)) ((c .before .count .given .0 .1 .1 .0)) ((children-text ((c .before .before .before .before .before .before .before .before .before .before .before .before .before .before .before .before .before .before .args .s .now)) ((1 + ((c .before .before .before .before .before .before .before .len .given .0 .1 .0)))) ((c .before .before .before .before .before .before .before .before .before .tree .last .1 .0)) ((c .before .before .before .before .before .before .before .before .before .before .before .before .before .before .before .before .before .before .args .at) + ((c .before .before .before .before .before .before .before .len .given .0 .1 .1 .0))) ((c .before .before .before .children .last .1 .0)) (c .before .before .before .children .result) (c .before .before .before .children .ensures) ((c .before .count .given .0 .0)) ((c .before .count .given .0 .1 .0)) ((c .before .count .given .0 .1 .1 .0)) (c .before .count .given .1)))) in omega (arith, length-drop ((1 + ((c .before .before .before .before .before .before .before .len .given .0 .1 .0)))) ((c .before .before .before .before .before .before .before .before .before .before .before .before .before .before .before .before .before .before .args .s .now)), c .before .before .before .before .before .before .before .before .before .before .before .before .before .before .before .before .before .before .pre .1)
+children-add-t31 t c = search children-count-fits
 
 children-add-t32 : (t : ℕ) → children-lts.Need-add-t32 (children-calls t) (children-at t) children.Post
-children-add-t32 t c =
-    let b = (children-bounds (drop ((1 + ((c .before .before .before .before .before .before .before .len .given .0 .1 .0)))) ((c .before .before .before .before .before .before .before .before .before .before .before .before .before .before .before .before .before .before .args .s .now))) ((c .before .before .before .before .before .before .before .before .before .tree .last .1 .0)) ((c .before .before .before .before .before .before .before .before .before .before .before .before .before .before .before .before .before .before .args .at) + ((c .before .before .before .before .before .before .before .len .given .0 .1 .1 .0))) ((c .before .before .before .children .last .1 .0)) ((c .before .count .given .0 .0)) ((c .before .count .given .0 .1 .0)) ((c .before .count .given .0 .1 .1 .0)) ((children-text ((c .before .before .before .before .before .before .before .before .before .before .before .before .before .before .before .before .before .before .args .s .now)) ((1 + ((c .before .before .before .before .before .before .before .len .given .0 .1 .0)))) ((c .before .before .before .before .before .before .before .before .before .tree .last .1 .0)) ((c .before .before .before .before .before .before .before .before .before .before .before .before .before .before .before .before .before .before .args .at) + ((c .before .before .before .before .before .before .before .len .given .0 .1 .1 .0))) ((c .before .before .before .children .last .1 .0)) (c .before .before .before .children .result) (c .before .before .before .children .ensures) ((c .before .count .given .0 .0)) ((c .before .count .given .0 .1 .0)) ((c .before .count .given .0 .1 .1 .0)) (c .before .count .given .1)))) in omega (arith, length-drop ((1 + ((c .before .before .before .before .before .before .before .len .given .0 .1 .0)))) ((c .before .before .before .before .before .before .before .before .before .before .before .before .before .before .before .before .before .before .args .s .now)), c .before .before .before .before .before .before .before .before .before .before .before .before .before .before .before .before .before .before .pre .1, c .before .before .before .before .before .before .before .before .before .before .before .before .before .before .before .before .if1 .left)
+children-add-t32 t c = search children-len-fits
 
 children-add-t33 : (t : ℕ) → children-lts.Need-add-t33 (children-calls t) (children-at t) children.Post
-children-add-t33 t c =
-    let b = (children-bounds (drop ((1 + ((c .before .before .before .before .before .before .before .len .given .0 .1 .0)))) ((c .before .before .before .before .before .before .before .before .before .before .before .before .before .before .before .before .before .before .args .s .now))) ((c .before .before .before .before .before .before .before .before .before .tree .last .1 .0)) ((c .before .before .before .before .before .before .before .before .before .before .before .before .before .before .before .before .before .before .args .at) + ((c .before .before .before .before .before .before .before .len .given .0 .1 .1 .0))) ((c .before .before .before .children .last .1 .0)) ((c .before .count .given .0 .0)) ((c .before .count .given .0 .1 .0)) ((c .before .count .given .0 .1 .1 .0)) ((children-text ((c .before .before .before .before .before .before .before .before .before .before .before .before .before .before .before .before .before .before .args .s .now)) ((1 + ((c .before .before .before .before .before .before .before .len .given .0 .1 .0)))) ((c .before .before .before .before .before .before .before .before .before .tree .last .1 .0)) ((c .before .before .before .before .before .before .before .before .before .before .before .before .before .before .before .before .before .before .args .at) + ((c .before .before .before .before .before .before .before .len .given .0 .1 .1 .0))) ((c .before .before .before .children .last .1 .0)) (c .before .before .before .children .result) (c .before .before .before .children .ensures) ((c .before .count .given .0 .0)) ((c .before .count .given .0 .1 .0)) ((c .before .count .given .0 .1 .1 .0)) (c .before .count .given .1)))) in let a = (tree-bounds (drop 1 ((c .before .before .before .before .before .before .before .before .before .before .before .before .before .before .before .before .before .before .args .s .now))) ((c .before .before .before .before .before .before .before .before .before .before .before .before .before .before .before .before .before .before .args .listing .now)) ((c .before .before .before .before .before .before .before .before .before .before .before .before .before .before .before .before .before .before .args .at)) ((c .before .before .before .before .before .before .before .before .before .tree .last .1 .0)) ((c .before .before .before .before .before .before .before .len .given .0 .1 .0)) ((c .before .before .before .before .before .before .before .len .given .0 .1 .1 .0)) ((tree-text ((c .before .before .before .before .before .before .before .before .before .before .before .before .before .before .before .before .before .before .args .s .now)) 1 ((c .before .before .before .before .before .before .before .before .before .before .before .before .before .before .before .before .before .before .args .listing .now)) ((c .before .before .before .before .before .before .before .before .before .before .before .before .before .before .before .before .before .before .args .at)) ((c .before .before .before .before .before .before .before .before .before .tree .last .1 .0)) (c .before .before .before .before .before .before .before .before .before .tree .result) (c .before .before .before .before .before .before .before .before .before .tree .ensures) (c .before .before .before .before .before .before .before .len .given .0 .0) ((c .before .before .before .before .before .before .before .len .given .0 .1 .0)) ((c .before .before .before .before .before .before .before .len .given .0 .1 .1 .0)) (c .before .before .before .before .before .before .before .len .given .1)))) in omega (arith, (length-drop 1 ((c .before .before .before .before .before .before .before .before .before .before .before .before .before .before .before .before .before .before .args .s .now))), length-drop ((1 + ((c .before .before .before .before .before .before .before .len .given .0 .1 .0)))) ((c .before .before .before .before .before .before .before .before .before .before .before .before .before .before .before .before .before .before .args .s .now)), c .before .before .before .before .before .before .before .before .before .before .before .before .before .before .before .before .before .before .pre .1)
+children-add-t33 t c = search children-used-fits
 
-children-enum-known-place : (t : ℕ) → children-lts.Need-enum-known-place (children-calls t) (children-at t) children.Post
+children-enum-known-place : (t : ℕ) → children-lts.Need-enum-known-place (children-calls t)
+    (children-at t) children.Post
 children-enum-known-place t c = search needs
 
 children-add-t34 : (t : ℕ) → children-lts.Need-add-t34 (children-calls t) (children-at t) children.Post
 children-add-t34 t c =
-    let b = ((children-bad ((c .before .before .before .before .before .before .before .before .before .before .before .before .before .before .before .before .before .before .args .s .now)) ((1 + ((c .before .before .before .before .before .before .before .len .given .0 .1 .0)))) ((c .before .before .before .before .before .before .before .before .before .tree .last .1 .0)) ((c .before .before .before .before .before .before .before .before .before .before .before .before .before .before .before .before .before .before .args .at) + ((c .before .before .before .before .before .before .before .len .given .0 .1 .1 .0))) ((c .before .before .before .children .last .1 .0)) (c .before .before .before .children .result) (c .before .before .before .children .ensures) (c .before .place .given .0 .0) (c .before .place .given .1))) in
-    let x = (tree-bounds (drop 1 ((c .before .before .before .before .before .before .before .before .before .before .before .before .before .before .before .before .before .before .args .s .now))) ((c .before .before .before .before .before .before .before .before .before .before .before .before .before .before .before .before .before .before .args .listing .now)) ((c .before .before .before .before .before .before .before .before .before .before .before .before .before .before .before .before .before .before .args .at)) ((c .before .before .before .before .before .before .before .before .before .tree .last .1 .0)) ((c .before .before .before .before .before .before .before .len .given .0 .1 .0)) ((c .before .before .before .before .before .before .before .len .given .0 .1 .1 .0)) ((tree-text ((c .before .before .before .before .before .before .before .before .before .before .before .before .before .before .before .before .before .before .args .s .now)) 1 ((c .before .before .before .before .before .before .before .before .before .before .before .before .before .before .before .before .before .before .args .listing .now)) ((c .before .before .before .before .before .before .before .before .before .before .before .before .before .before .before .before .before .before .args .at)) ((c .before .before .before .before .before .before .before .before .before .tree .last .1 .0)) (c .before .before .before .before .before .before .before .before .before .tree .result) (c .before .before .before .before .before .before .before .before .before .tree .ensures) (c .before .before .before .before .before .before .before .len .given .0 .0) ((c .before .before .before .before .before .before .before .len .given .0 .1 .0)) ((c .before .before .before .before .before .before .before .len .given .0 .1 .1 .0)) (c .before .before .before .before .before .before .before .len .given .1)))) in
-    omega (arith, b .0 0 nil .within, length-drop ((1 + ((c .before .before .before .before .before .before .before .len .given .0 .1 .0)))) ((c .before .before .before .before .before .before .before .before .before .before .before .before .before .before .before .before .before .before .args .s .now)), (length-drop 1 ((c .before .before .before .before .before .before .before .before .before .before .before .before .before .before .before .before .before .before .args .s .now))), c .before .before .before .before .before .before .before .before .before .before .before .before .before .before .before .before .before .before .pre .1)
+    let after-place = c .before in
+    let after-children = after-place .before .before in
+    let after-len = after-children .before .before .before .before in
+    let after-tree = after-len .before .before in
+    let after-if3 = after-tree .before .before .before in
+    let after-if1 = after-if3 .before .before .before .before in
+    let start = after-if1 .before .before in
+    let s = start .args .s .now in
+    let h = after-if1 .if1 .left in
+    let e = after-if3 .if3 .left in
+    let x = after-tree .tree .ensures in
+    let y = after-children .children .ensures in
+    let inside = later-inside s _ _ _ _ h e x _ _ _ (after-len .len .given .1) _ _ y _ (after-place .place .given .1) in
+    omega (arith, inside, start .pre .1)
 
-children-enum-known-place-2 : (t : ℕ) → children-lts.Need-enum-known-place-2 (children-calls t) (children-at t) children.Post
+children-enum-known-place-2 : (t : ℕ) → children-lts.Need-enum-known-place-2 (children-calls t)
+    (children-at t) children.Post
 children-enum-known-place-2 t c = search needs
 
 children-add-t35 : (t : ℕ) → children-lts.Need-add-t35 (children-calls t) (children-at t) children.Post
-children-add-t35 t c =
-    let b = ((tree-bad ((c .before .before .before .before .before .before .before .before .before .before .before .before .args .s .now)) 1 ((c .before .before .before .before .before .before .before .before .before .before .before .before .args .listing .now)) ((c .before .before .before .before .before .before .before .before .before .before .before .before .args .at)) ((c .before .before .before .tree .last .1 .0)) (c .before .before .before .tree .result) (c .before .before .before .tree .ensures) (c .before .place2 .given .0 .0) (c .before .place2 .given .1))) in omega (arith, (length-drop 1 ((c .before .before .before .before .before .before .before .before .before .before .before .before .args .s .now))), c .before .before .before .before .before .before .before .before .before .before .before .before .pre .1)
+children-add-t35 t c = search children-broken-fits
 
 children-returns-4 : (t : ℕ) → children-lts.Need-returns-4 (children-calls t) (children-at t) children.Post
-children-returns-4 t c =
-    children-read ((c .before .before .before .before .before .before .before .before .before .before .before .before .before .before .before .before .before .before .args .s .now)) (c .before .before .before .before .before .before .before .before .before .before .before .before .before .before .before .before .if1 .left) (c .before .before .before .before .before .before .before .before .before .before .before .before .if3 .left) ((c .before .before .before .before .before .before .before .before .before .before .before .before .before .before .before .before .before .before .args .listing .now)) ((c .before .before .before .before .before .before .before .before .before .before .before .before .before .before .before .before .before .before .args .at)) ((c .before .before .before .before .before .before .before .before .before .tree .last .1 .0)) ((c .before .before .before .before .before .before .before .len .given .0 .1 .0)) ((c .before .before .before .before .before .before .before .len .given .0 .1 .1 .0)) ((tree-text ((c .before .before .before .before .before .before .before .before .before .before .before .before .before .before .before .before .before .before .args .s .now)) 1 ((c .before .before .before .before .before .before .before .before .before .before .before .before .before .before .before .before .before .before .args .listing .now)) ((c .before .before .before .before .before .before .before .before .before .before .before .before .before .before .before .before .before .before .args .at)) ((c .before .before .before .before .before .before .before .before .before .tree .last .1 .0)) (c .before .before .before .before .before .before .before .before .before .tree .result) (c .before .before .before .before .before .before .before .before .before .tree .ensures) (c .before .before .before .before .before .before .before .len .given .0 .0) ((c .before .before .before .before .before .before .before .len .given .0 .1 .0)) ((c .before .before .before .before .before .before .before .len .given .0 .1 .1 .0)) (c .before .before .before .before .before .before .before .len .given .1))) ((c .before .before .before .children .last .1 .0)) ((c .before .count .given .0 .0)) ((c .before .count .given .0 .1 .0)) ((c .before .count .given .0 .1 .1 .0)) ((children-text ((c .before .before .before .before .before .before .before .before .before .before .before .before .before .before .before .before .before .before .args .s .now)) ((1 + ((c .before .before .before .before .before .before .before .len .given .0 .1 .0)))) ((c .before .before .before .before .before .before .before .before .before .tree .last .1 .0)) ((c .before .before .before .before .before .before .before .before .before .before .before .before .before .before .before .before .before .before .args .at) + ((c .before .before .before .before .before .before .before .len .given .0 .1 .1 .0))) ((c .before .before .before .children .last .1 .0)) (c .before .before .before .children .result) (c .before .before .before .children .ensures) ((c .before .count .given .0 .0)) ((c .before .count .given .0 .1 .0)) ((c .before .count .given .0 .1 .1 .0)) (c .before .count .given .1)))
+children-returns-4 t c = search children-whole
 
 children-returns-5 : (t : ℕ) → children-lts.Need-returns-5 (children-calls t) (children-at t) children.Post
-children-returns-5 t c =
-    let b = (tree-bounds (drop 1 ((c .before .before .before .before .before .before .before .before .before .before .before .before .before .before .before .before .before .before .args .s .now))) ((c .before .before .before .before .before .before .before .before .before .before .before .before .before .before .before .before .before .before .args .listing .now)) ((c .before .before .before .before .before .before .before .before .before .before .before .before .before .before .before .before .before .before .args .at)) ((c .before .before .before .before .before .before .before .before .before .tree .last .1 .0)) ((c .before .before .before .before .before .before .before .len .given .0 .1 .0)) ((c .before .before .before .before .before .before .before .len .given .0 .1 .1 .0)) ((tree-text ((c .before .before .before .before .before .before .before .before .before .before .before .before .before .before .before .before .before .before .args .s .now)) 1 ((c .before .before .before .before .before .before .before .before .before .before .before .before .before .before .before .before .before .before .args .listing .now)) ((c .before .before .before .before .before .before .before .before .before .before .before .before .before .before .before .before .before .before .args .at)) ((c .before .before .before .before .before .before .before .before .before .tree .last .1 .0)) (c .before .before .before .before .before .before .before .before .before .tree .result) (c .before .before .before .before .before .before .before .before .before .tree .ensures) (c .before .before .before .before .before .before .before .len .given .0 .0) ((c .before .before .before .before .before .before .before .len .given .0 .1 .0)) ((c .before .before .before .before .before .before .before .len .given .0 .1 .1 .0)) (c .before .before .before .before .before .before .before .len .given .1)))) in
-    let r = ((children-bad ((c .before .before .before .before .before .before .before .before .before .before .before .before .before .before .before .before .before .before .args .s .now)) ((1 + ((c .before .before .before .before .before .before .before .len .given .0 .1 .0)))) ((c .before .before .before .before .before .before .before .before .before .tree .last .1 .0)) ((c .before .before .before .before .before .before .before .before .before .before .before .before .before .before .before .before .before .before .args .at) + ((c .before .before .before .before .before .before .before .len .given .0 .1 .1 .0))) ((c .before .before .before .children .last .1 .0)) (c .before .before .before .children .result) (c .before .before .before .children .ensures) (c .before .place .given .0 .0) (c .before .place .given .1))) in
-    (children-refused ((c .before .before .before .before .before .before .before .before .before .before .before .before .before .before .before .before .before .before .args .s .now)) (c .before .before .before .before .before .before .before .before .before .before .before .before .before .before .before .before .if1 .left) (c .before .before .before .before .before .before .before .before .before .before .before .before .if3 .left) ((c .before .before .before .before .before .before .before .before .before .before .before .before .before .before .before .before .before .before .args .listing .now)) ((c .before .before .before .before .before .before .before .before .before .before .before .before .before .before .before .before .before .before .args .at)) ((c .before .before .before .before .before .before .before .before .before .tree .last .1 .0)) ((c .before .before .before .before .before .before .before .len .given .0 .1 .0)) ((c .before .before .before .before .before .before .before .len .given .0 .1 .1 .0)) ((tree-text ((c .before .before .before .before .before .before .before .before .before .before .before .before .before .before .before .before .before .before .args .s .now)) 1 ((c .before .before .before .before .before .before .before .before .before .before .before .before .before .before .before .before .before .before .args .listing .now)) ((c .before .before .before .before .before .before .before .before .before .before .before .before .before .before .before .before .before .before .args .at)) ((c .before .before .before .before .before .before .before .before .before .tree .last .1 .0)) (c .before .before .before .before .before .before .before .before .before .tree .result) (c .before .before .before .before .before .before .before .before .before .tree .ensures) (c .before .before .before .before .before .before .before .len .given .0 .0) ((c .before .before .before .before .before .before .before .len .given .0 .1 .0)) ((c .before .before .before .before .before .before .before .len .given .0 .1 .1 .0)) (c .before .before .before .before .before .before .before .len .given .1))) (c .before .place .given .0 .0) (r .0), r .1 ∙ b .size)
+children-returns-5 t c = search children-broken-later
 
 children-returns-6 : (t : ℕ) → children-lts.Need-returns-6 (children-calls t) (children-at t) children.Post
-children-returns-6 t c =
-    let r = ((tree-bad ((c .before .before .before .before .before .before .before .before .before .before .before .before .args .s .now)) 1 ((c .before .before .before .before .before .before .before .before .before .before .before .before .args .listing .now)) ((c .before .before .before .before .before .before .before .before .before .before .before .before .args .at)) ((c .before .before .before .tree .last .1 .0)) (c .before .before .before .tree .result) (c .before .before .before .tree .ensures) (c .before .place2 .given .0 .0) (c .before .place2 .given .1))) in
-    (child-refused ((c .before .before .before .before .before .before .before .before .before .before .before .before .args .s .now)) (c .before .before .before .before .before .before .before .before .before .before .if1 .left) (c .before .before .before .before .before .before .if3 .left) (c .before .place2 .given .0 .0) (r .0), r .1)
+children-returns-6 t c = search children-broken
 
 tree-returns : (t : ℕ) → tree-lts.Need-returns (tree-calls t) (tree-at t) tree.Post
-tree-returns t c = (tree-empty ((c .before .before .args .s .now)) (c .if1 .taken), refl)
+tree-returns t c = search tree-none
 
 tree-shared-slice-read-if2 : (t : ℕ) → tree-lts.Need-shared-slice-read-if2 (tree-calls t) (tree-at t) tree.Post
 tree-shared-slice-read-if2 t c = search needs
 
 tree-returns-2 : (t : ℕ) → tree-lts.Need-returns-2 (tree-calls t) (tree-at t) tree.Post
-tree-returns-2 t c =
-    (tree-unopened ((c .before .before .before .before .args .s .now)) (c .before .before .if1 .left) (c .if2 .taken), refl)
+tree-returns-2 t c = search tree-other
 
 tree-sub-read-label : (t : ℕ) → tree-lts.Need-sub-read-label (tree-calls t) (tree-at t) tree.Post
 tree-sub-read-label t c = search needs
@@ -180,23 +232,45 @@ tree-enum-told : (t : ℕ) → tree-lts.Need-enum-told (tree-calls t) (tree-at t
 tree-enum-told t c = search needs
 
 tree-returns-3 : (t : ℕ) → tree-lts.Need-returns-3 (tree-calls t) (tree-at t) tree.Post
-tree-returns-3 t c =
-    (tree-unlabelled ((c .before .before .before .before .before .before .before .before .args .s .now)) (c .before .before .before .before .before .before .if1 .left) (c .before .before .before .before .if2 .left) (label-missing ((c .before .before .before .before .before .before .before .before .args .s .now)) (c .before .before .read-label .result) (c .before .before .read-label .ensures) (c .enum-told .given .1)), refl)
+tree-returns-3 t c = search tree-nameless
 
 tree-put-requires : (t : ℕ) → tree-lts.Need-put-requires (tree-calls t) (tree-at t) tree.Post
 tree-put-requires t c κs = search needs
 
 tree-add-start : (t : ℕ) → tree-lts.Need-add-start (tree-calls t) (tree-at t) tree.Post
-tree-add-start t c =
-    let x = (label-read ((c .before .before .before .before .before .before .before .before .before .before .before .args .s .now)) (c .before .before .before .before .before .read-label .result) (c .before .before .before .before .before .read-label .ensures) ((c .before .before .before .value .given .0 .0)) ((c .before .before .before .value .given .0 .1 .0)) (c .before .before .before .value .given .1)) in omega (arith, (length-drop 1 ((c .before .before .before .before .before .before .before .before .before .before .before .args .s .now))), c .before .before .before .before .before .before .before .before .before .before .before .pre .1)
+tree-add-start t c = search label-fits
 
 tree-sub-children : (t : ℕ) → tree-lts.Need-sub-children (tree-calls t) (tree-at t) tree.Post
 tree-sub-children t c =
-    let x = (label-read ((c .before .before .before .before .before .before .before .before .before .before .before .args .s .now)) (c .before .before .before .before .before .read-label .result) (c .before .before .before .before .before .read-label .ensures) ((c .before .before .before .value .given .0 .0)) ((c .before .before .before .value .given .0 .1 .0)) (c .before .before .before .value .given .1)) in omega (arith, (length-drop 1 ((c .before .before .before .before .before .before .before .before .before .before .before .args .s .now))), c .before .before .before .before .before .before .before .before .before .if1 .left)
+    let after-value = c .before .before .before in
+    let after-read-label = after-value .before .before in
+    let after-if2 = after-read-label .before .before in
+    let after-if1 = after-if2 .before .before in
+    let start = after-if1 .before .before in
+    let s = start .args .s .now in
+    let l = start .args .listing .now in
+    let at = start .args .at in
+    let h = after-if1 .if1 .left in
+    let o = after-if2 .if2 .left in
+    let x = after-read-label .read-label .ensures in
+    let z = after-value .value .given .1 in
+    label-inside s l at _ h o x _ _ z
 
 tree-part-children-start : (t : ℕ) → tree-lts.Need-part-children-start (tree-calls t) (tree-at t) tree.Post
 tree-part-children-start t c =
-    let x = (label-read ((c .before .before .before .before .before .before .before .before .before .before .before .args .s .now)) (c .before .before .before .before .before .read-label .result) (c .before .before .before .before .before .read-label .ensures) ((c .before .before .before .value .given .0 .0)) ((c .before .before .before .value .given .0 .1 .0)) (c .before .before .before .value .given .1)) in omega (arith, (length-drop 1 ((c .before .before .before .before .before .before .before .before .before .before .before .args .s .now))), c .before .before .before .before .before .before .before .before .before .if1 .left)
+    let after-value = c .before .before .before in
+    let after-read-label = after-value .before .before in
+    let after-if2 = after-read-label .before .before in
+    let after-if1 = after-if2 .before .before in
+    let start = after-if1 .before .before in
+    let s = start .args .s .now in
+    let l = start .args .listing .now in
+    let at = start .args .at in
+    let h = after-if1 .if1 .left in
+    let o = after-if2 .if2 .left in
+    let x = after-read-label .read-label .ensures in
+    let z = after-value .value .given .1 in
+    label-inside s l at _ h o x _ _ z
 
 tree-part-children-end : (t : ℕ) → tree-lts.Need-part-children-end (tree-calls t) (tree-at t) tree.Post
 tree-part-children-end t c = search needs
@@ -206,13 +280,21 @@ tree-add-children t c = search needs
 
 tree-children-requires : (t : ℕ) → tree-lts.Need-children-requires (tree-calls t) (tree-at t) tree.Post
 tree-children-requires t c κs =
-    let x = (label-read ((c .before .before .before .before .before .before .before .before .before .before .before .before .before .args .s .now)) (c .before .before .before .before .before .before .before .read-label .result) (c .before .before .before .before .before .before .before .read-label .ensures) ((c .before .before .before .before .before .value .given .0 .0)) ((c .before .before .before .before .before .value .given .0 .1 .0)) (c .before .before .before .before .before .value .given .1)) in
-    let r = c .before .before .before .before .before .before .before .before .before .before .before .before .before .pre .1 in
-    let d = (length-drop 1 ((c .before .before .before .before .before .before .before .before .before .before .before .before .before .args .s .now))) in
-    let q = part-length ((c .before .before .before .before .before .before .before .before .before .before .before .before .before .args .s .now)) ((1 + ((c .before .before .before .before .before .value .given .0 .1 .0)))) in (
-      omega (arith, x .0 .nonempty, x .0 .within, c .before .before .before .before .before .before .before .before .before .before .before .before .before .pre .0, c .before .before .before .before .before .before .before .before .before .before .before .if1 .left),
-      record { size = ap length (c .before .before .put .ensures) ∙ ((length-set ((c .before .before .before .before .before .before .before .before .before .before .before .before .before .args .listing .now)) ((c .before .before .before .before .before .before .before .before .before .before .before .before .before .args .at)) ((c .before .before .before .before .before .value .given .0 .0)))) ∙ r .size; bound = omega (arith, x .0 .nonempty, x .0 .within, r .bound) },
-    )
+    let after-put = c .before .before in
+    let after-value = after-put .before .before .before in
+    let after-read-label = after-value .before .before in
+    let after-if2 = after-read-label .before .before in
+    let after-if1 = after-if2 .before .before in
+    let start = after-if1 .before .before in
+    let s = start .args .s .now in
+    let l = start .args .listing .now in
+    let at = start .args .at in
+    let h = after-if1 .if1 .left in
+    let o = after-if2 .if2 .left in
+    let x = after-read-label .read-label .ensures in
+    let z = after-value .value .given .1 in
+    let w = after-put .put .ensures in
+    (label-falls s l at _ h o x _ _ z t (start .pre .0), label-room s l at _ h o x _ _ z _ w (start .pre .1))
 
 tree-enum-known-count : (t : ℕ) → tree-lts.Need-enum-known-count (tree-calls t) (tree-at t) tree.Post
 tree-enum-known-count t c = search needs
@@ -222,37 +304,42 @@ tree-add-put t c = search needs
 
 tree-put-requires-2 : (t : ℕ) → tree-lts.Need-put-requires-2 (tree-calls t) (tree-at t) tree.Post
 tree-put-requires-2 t c κs =
-    let b = (children-bounds (drop ((1 + ((c .before .before .before .before .before .before .before .before .before .before .value .given .0 .1 .0)))) ((c .before .before .before .before .before .before .before .before .before .before .before .before .before .before .before .before .before .before .args .s .now))) ((c .before .before .before .before .before .before .before .put .last .0)) ((c .before .before .before .before .before .before .before .before .before .before .before .before .before .before .before .before .before .before .args .at) + 2) ((c .before .before .before .before .children .last .1 .0)) ((c .before .before .count .given .0 .0)) ((c .before .before .count .given .0 .1 .0)) ((c .before .before .count .given .0 .1 .1 .0)) ((children-text ((c .before .before .before .before .before .before .before .before .before .before .before .before .before .before .before .before .before .before .args .s .now)) ((1 + ((c .before .before .before .before .before .before .before .before .before .before .value .given .0 .1 .0)))) ((c .before .before .before .before .before .before .before .put .last .0)) ((c .before .before .before .before .before .before .before .before .before .before .before .before .before .before .before .before .before .before .args .at) + 2) ((c .before .before .before .before .children .last .1 .0)) (c .before .before .before .before .children .result) (c .before .before .before .before .children .ensures) ((c .before .before .count .given .0 .0)) ((c .before .before .count .given .0 .1 .0)) ((c .before .before .count .given .0 .1 .1 .0)) (c .before .before .count .given .1)))) in b .0 .size ∙ ap length (c .before .before .before .before .before .before .before .put .ensures) ∙ ((length-set ((c .before .before .before .before .before .before .before .before .before .before .before .before .before .before .before .before .before .before .args .listing .now)) ((c .before .before .before .before .before .before .before .before .before .before .before .before .before .before .before .before .before .before .args .at)) ((c .before .before .before .before .before .before .before .before .before .before .value .given .0 .0)))) ∙ c .before .before .before .before .before .before .before .before .before .before .before .before .before .before .before .before .before .before .pre .1 .size
+    let after-count = c .before .before in
+    let after-children = after-count .before .before in
+    let after-put = after-children .before .before .before in
+    let after-value = after-put .before .before .before in
+    let after-read-label = after-value .before .before in
+    let after-if2 = after-read-label .before .before in
+    let after-if1 = after-if2 .before .before in
+    let start = after-if1 .before .before in
+    let s = start .args .s .now in
+    let l = start .args .listing .now in
+    let at = start .args .at in
+    let h = after-if1 .if1 .left in
+    let o = after-if2 .if2 .left in
+    let x = after-read-label .read-label .ensures in
+    let z = after-value .value .given .1 in
+    let w = after-put .put .ensures in
+    let y = after-children .children .ensures in
+    tree-size-kept s l at _ h o x _ _ z _ w _ _ y _ _ _ (after-count .count .given .1) (start .pre .1)
 
 tree-add-t30 : (t : ℕ) → tree-lts.Need-add-t30 (tree-calls t) (tree-at t) tree.Post
-tree-add-t30 t c =
-    let b = (children-bounds (drop ((1 + ((c .before .before .before .before .before .before .before .before .before .before .before .value .given .0 .1 .0)))) ((c .before .before .before .before .before .before .before .before .before .before .before .before .before .before .before .before .before .before .before .args .s .now))) ((c .before .before .before .before .before .before .before .before .put .last .0)) ((c .before .before .before .before .before .before .before .before .before .before .before .before .before .before .before .before .before .before .before .args .at) + 2) ((c .before .before .before .before .before .children .last .1 .0)) ((c .before .before .before .count .given .0 .0)) ((c .before .before .before .count .given .0 .1 .0)) ((c .before .before .before .count .given .0 .1 .1 .0)) ((children-text ((c .before .before .before .before .before .before .before .before .before .before .before .before .before .before .before .before .before .before .before .args .s .now)) ((1 + ((c .before .before .before .before .before .before .before .before .before .before .before .value .given .0 .1 .0)))) ((c .before .before .before .before .before .before .before .before .put .last .0)) ((c .before .before .before .before .before .before .before .before .before .before .before .before .before .before .before .before .before .before .before .args .at) + 2) ((c .before .before .before .before .before .children .last .1 .0)) (c .before .before .before .before .before .children .result) (c .before .before .before .before .before .children .ensures) ((c .before .before .before .count .given .0 .0)) ((c .before .before .before .count .given .0 .1 .0)) ((c .before .before .before .count .given .0 .1 .1 .0)) (c .before .before .before .count .given .1)))) in omega (arith, length-drop ((1 + ((c .before .before .before .before .before .before .before .before .before .before .before .value .given .0 .1 .0)))) ((c .before .before .before .before .before .before .before .before .before .before .before .before .before .before .before .before .before .before .before .args .s .now)), c .before .before .before .before .before .before .before .before .before .before .before .before .before .before .before .before .before .before .before .pre .1)
+tree-add-t30 t c = search tree-len-fits
 
 tree-add-t31 : (t : ℕ) → tree-lts.Need-add-t31 (tree-calls t) (tree-at t) tree.Post
-tree-add-t31 t c =
-    let b = (children-bounds (drop ((1 + ((c .before .before .before .before .before .before .before .before .before .before .before .value .given .0 .1 .0)))) ((c .before .before .before .before .before .before .before .before .before .before .before .before .before .before .before .before .before .before .before .args .s .now))) ((c .before .before .before .before .before .before .before .before .put .last .0)) ((c .before .before .before .before .before .before .before .before .before .before .before .before .before .before .before .before .before .before .before .args .at) + 2) ((c .before .before .before .before .before .children .last .1 .0)) ((c .before .before .before .count .given .0 .0)) ((c .before .before .before .count .given .0 .1 .0)) ((c .before .before .before .count .given .0 .1 .1 .0)) ((children-text ((c .before .before .before .before .before .before .before .before .before .before .before .before .before .before .before .before .before .before .before .args .s .now)) ((1 + ((c .before .before .before .before .before .before .before .before .before .before .before .value .given .0 .1 .0)))) ((c .before .before .before .before .before .before .before .before .put .last .0)) ((c .before .before .before .before .before .before .before .before .before .before .before .before .before .before .before .before .before .before .before .args .at) + 2) ((c .before .before .before .before .before .children .last .1 .0)) (c .before .before .before .before .before .children .result) (c .before .before .before .before .before .children .ensures) ((c .before .before .before .count .given .0 .0)) ((c .before .before .before .count .given .0 .1 .0)) ((c .before .before .before .count .given .0 .1 .1 .0)) (c .before .before .before .count .given .1)))) in omega (arith, length-drop ((1 + ((c .before .before .before .before .before .before .before .before .before .before .before .value .given .0 .1 .0)))) ((c .before .before .before .before .before .before .before .before .before .before .before .before .before .before .before .before .before .before .before .args .s .now)), c .before .before .before .before .before .before .before .before .before .before .before .before .before .before .before .before .before .before .before .pre .1)
+tree-add-t31 t c = search tree-used-fits
 
 tree-enum-known-place : (t : ℕ) → tree-lts.Need-enum-known-place (tree-calls t) (tree-at t) tree.Post
 tree-enum-known-place t c = search needs
 
 tree-add-t32 : (t : ℕ) → tree-lts.Need-add-t32 (tree-calls t) (tree-at t) tree.Post
-tree-add-t32 t c =
-    let b = (children-bad ((c .before .before .before .before .before .before .before .before .before .before .before .before .before .before .before .before .before .args .s .now)) ((1 + ((c .before .before .before .before .before .before .before .before .before .value .given .0 .1 .0)))) ((c .before .before .before .before .before .before .put .last .0)) ((c .before .before .before .before .before .before .before .before .before .before .before .before .before .before .before .before .before .args .at) + 2) ((c .before .before .before .children .last .1 .0)) (c .before .before .before .children .result) (c .before .before .before .children .ensures) (c .before .place .given .0 .0) (c .before .place .given .1)) in
-    let x = (label-read ((c .before .before .before .before .before .before .before .before .before .before .before .before .before .before .before .before .before .args .s .now)) (c .before .before .before .before .before .before .before .before .before .before .before .read-label .result) (c .before .before .before .before .before .before .before .before .before .before .before .read-label .ensures) ((c .before .before .before .before .before .before .before .before .before .value .given .0 .0)) ((c .before .before .before .before .before .before .before .before .before .value .given .0 .1 .0)) (c .before .before .before .before .before .before .before .before .before .value .given .1)) in
-    omega (arith, b .0 0 nil .within, x .0 .within, (length-drop 1 ((c .before .before .before .before .before .before .before .before .before .before .before .before .before .before .before .before .before .args .s .now))), length-drop ((1 + ((c .before .before .before .before .before .before .before .before .before .value .given .0 .1 .0)))) ((c .before .before .before .before .before .before .before .before .before .before .before .before .before .before .before .before .before .args .s .now)), c .before .before .before .before .before .before .before .before .before .before .before .before .before .before .before .before .before .pre .1)
+tree-add-t32 t c = search tree-broken-fits
 
 tree-returns-4 : (t : ℕ) → tree-lts.Need-returns-4 (tree-calls t) (tree-at t) tree.Post
-tree-returns-4 t c =
-    let x = (label-read ((c .before .before .before .before .before .before .before .before .before .before .before .before .before .before .before .before .before .before .before .args .s .now)) (c .before .before .before .before .before .before .before .before .before .before .before .before .before .read-label .result) (c .before .before .before .before .before .before .before .before .before .before .before .before .before .read-label .ensures) ((c .before .before .before .before .before .before .before .before .before .before .before .value .given .0 .0)) ((c .before .before .before .before .before .before .before .before .before .before .before .value .given .0 .1 .0)) (c .before .before .before .before .before .before .before .before .before .before .before .value .given .1)) in
-    let y = subst (λ y. ChildrenText (drop ((1 + ((c .before .before .before .before .before .before .before .before .before .before .before .value .given .0 .1 .0)))) ((c .before .before .before .before .before .before .before .before .before .before .before .before .before .before .before .before .before .before .before .args .s .now))) y ((c .before .before .before .before .before .before .before .before .before .before .before .before .before .before .before .before .before .before .before .args .at) + 2) ((c .before .before .before .before .before .children .last .1 .0)) ((c .before .before .before .count .given .0 .0)) ((c .before .before .before .count .given .0 .1 .0)) ((c .before .before .before .count .given .0 .1 .1 .0))) (c .before .before .before .before .before .before .before .before .put .ensures) ((children-text ((c .before .before .before .before .before .before .before .before .before .before .before .before .before .before .before .before .before .before .before .args .s .now)) ((1 + ((c .before .before .before .before .before .before .before .before .before .before .before .value .given .0 .1 .0)))) ((c .before .before .before .before .before .before .before .before .put .last .0)) ((c .before .before .before .before .before .before .before .before .before .before .before .before .before .before .before .before .before .before .before .args .at) + 2) ((c .before .before .before .before .before .children .last .1 .0)) (c .before .before .before .before .before .children .result) (c .before .before .before .before .before .children .ensures) ((c .before .before .before .count .given .0 .0)) ((c .before .before .before .count .given .0 .1 .0)) ((c .before .before .before .count .given .0 .1 .1 .0)) (c .before .before .before .count .given .1))) in
-    subst (λ y. TreeText ((c .before .before .before .before .before .before .before .before .before .before .before .before .before .before .before .before .before .before .before .args .s .now)) ((c .before .before .before .before .before .before .before .before .before .before .before .before .before .before .before .before .before .before .before .args .listing .now)) ((c .before .before .before .before .before .before .before .before .before .before .before .before .before .before .before .before .before .before .before .args .at)) y (((1 + ((c .before .before .before .before .before .before .before .before .before .before .before .value .given .0 .1 .0)))) + ((c .before .before .before .count .given .0 .1 .0))) (2 + ((c .before .before .before .count .given .0 .1 .1 .0)))) (sym (c .put2 .ensures))
-    (tree-read ((c .before .before .before .before .before .before .before .before .before .before .before .before .before .before .before .before .before .before .before .args .s .now)) (c .before .before .before .before .before .before .before .before .before .before .before .before .before .before .before .before .before .if1 .left) (c .before .before .before .before .before .before .before .before .before .before .before .before .before .before .before .if2 .left) ((c .before .before .before .before .before .before .before .before .before .before .before .value .given .0 .0)) ((c .before .before .before .before .before .before .before .before .before .before .before .value .given .0 .1 .0)) (x .0) ((c .before .before .before .before .before .before .before .before .before .before .before .before .before .before .before .before .before .before .before .args .listing .now)) ((c .before .before .before .before .before .before .before .before .before .before .before .before .before .before .before .before .before .before .before .args .at)) ((c .before .before .before .before .before .children .last .1 .0)) ((c .before .before .before .count .given .0 .0)) ((c .before .before .before .count .given .0 .1 .0)) ((c .before .before .before .count .given .0 .1 .1 .0)) y)
+tree-returns-4 t c = search tree-whole
 
 tree-returns-5 : (t : ℕ) → tree-lts.Need-returns-5 (tree-calls t) (tree-at t) tree.Post
-tree-returns-5 t c =
-    let x = (label-read ((c .before .before .before .before .before .before .before .before .before .before .before .before .before .before .before .before .before .args .s .now)) (c .before .before .before .before .before .before .before .before .before .before .before .read-label .result) (c .before .before .before .before .before .before .before .before .before .before .before .read-label .ensures) ((c .before .before .before .before .before .before .before .before .before .value .given .0 .0)) ((c .before .before .before .before .before .before .before .before .before .value .given .0 .1 .0)) (c .before .before .before .before .before .before .before .before .before .value .given .1)) in
-    let b = (children-bad ((c .before .before .before .before .before .before .before .before .before .before .before .before .before .before .before .before .before .args .s .now)) ((1 + ((c .before .before .before .before .before .before .before .before .before .value .given .0 .1 .0)))) ((c .before .before .before .before .before .before .put .last .0)) ((c .before .before .before .before .before .before .before .before .before .before .before .before .before .before .before .before .before .args .at) + 2) ((c .before .before .before .children .last .1 .0)) (c .before .before .before .children .result) (c .before .before .before .children .ensures) (c .before .place .given .0 .0) (c .before .place .given .1)) in
-    (tree-refused ((c .before .before .before .before .before .before .before .before .before .before .before .before .before .before .before .before .before .args .s .now)) (c .before .before .before .before .before .before .before .before .before .before .before .before .before .before .before .if1 .left) (c .before .before .before .before .before .before .before .before .before .before .before .before .before .if2 .left) ((c .before .before .before .before .before .before .before .before .before .value .given .0 .0)) ((c .before .before .before .before .before .before .before .before .before .value .given .0 .1 .0)) (x .0) (x .1) (c .before .place .given .0 .0) (b .0), b .1 ∙ ap length (c .before .before .before .before .before .before .put .ensures) ∙ ((length-set ((c .before .before .before .before .before .before .before .before .before .before .before .before .before .before .before .before .before .args .listing .now)) ((c .before .before .before .before .before .before .before .before .before .before .before .before .before .before .before .before .before .args .at)) ((c .before .before .before .before .before .before .before .before .before .value .given .0 .0)))))
+tree-returns-5 t c = search tree-broken
 
 pub +children+tree-spec : {M : Type 1} → statement M
 +children+tree-spec = close μ-children μ-tree (λ t. children-lts.spec (children-calls t)
@@ -268,7 +355,7 @@ pub +children+tree-spec : {M : Type 1} → statement M
     (children-part-tree-end t)
     (children-tree-requires t)
     (children-enum-known-len t)
-    (children-add-start t)
+    (children-add-next t)
     (children-sub-children t)
     (children-part-children-start t)
     (children-part-children-end t)

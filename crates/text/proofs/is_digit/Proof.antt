@@ -1,15 +1,12 @@
+-- `text::is_digit` meets its contract.
 use borrow.Author.Tests.{le-leb, lt-leb}
 use Rattle.text.specs.Grammar.{digit}
 use Rattle.text.proofs.is_digit.Statement.{statement}
 use Rattle.text.proofs.is_digit.Tie as tie
-use Rattle.text.proofs.is_digit.Reads as reads
-use Rattle.text.proofs.is_digit.Lts as lts
 
--- src/lib.rt:61:9
 returns : tie.Need-returns
 returns c = rw (lt-leb (digit 0) (c .before .args .b) (c .if1 .taken))
 
--- src/lib.rt:57:1
 returns-2 : tie.Need-returns-2
 returns-2 c = rw (le-leb (digit 0) (c .before .args .b) (c .if1 .left))
 

@@ -1,0 +1,35 @@
+-- What a caller of `read_line` gets: the answer, and the table of bytes that it lent.
+use mathlib.Core.List.{List, _++_}
+use Prim.Native.Nat.{_-_, ℕ}
+use lib.ListN.{length, replicate}
+use Rattle.text.specs.Grammar.{Command, toAdd, toAsk, toDrop}
+use Rattle.text.specs.Reader.{Line, form, formed, long}
+use Rattle.text.specs.declared.Parsed.{Parsed}
+use Rattle.text.specs.declared.Parsed.the-variants.{Add, Ask, Drop, Form, Long}
+
+-- the bytes that are lent for a listing: a line of 512 bytes has at most 126 nodes
+abbrev pub listingBytes : ℕ
+listingBytes = 252
+
+-- a table of zeros, and one that holds a listing and zeros behind it
+unfoldable pub blank : List ℕ
+blank = replicate listingBytes 0
+
+unfoldable pub padded : List ℕ → List ℕ
+padded l = l ++ replicate (listingBytes - length l) 0
+
+-- the answer for a line, and what the lent table holds after it: zeros where there is no listing
+abbrev pub parsedAs : Command → ℕ → Parsed
+parsedAs toAdd n = Add n
+parsedAs toDrop n = Drop n
+parsedAs toAsk n = Ask n
+
+unfoldable pub parsed : Line → Parsed
+parsed (formed c l) = parsedAs c (length l)
+parsed (form n) = Form n
+parsed long = Long
+
+unfoldable pub listed : Line → List ℕ
+listed (formed c l) = padded l
+listed (form n) = blank
+listed long = blank
