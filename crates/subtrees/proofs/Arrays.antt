@@ -1,8 +1,4 @@
-<<<<<<< ours
 -- Loops that fill eight bytes, test bytes, compare nodes, and store eight bytes in an array.
-=======
--- Loops that fill eight bytes, look for the first that passes, and store eight bytes in an array.
->>>>>>> theirs
 use mathlib.Core.Bool.{Bool, _||_, false}
 use mathlib.Core.List.{List, [], _∷_, map}
 use mathlib.Core.Path.{_∙_, _≡_, ap, refl, subst, sym}
@@ -17,12 +13,8 @@ use borrow.Author.Tests.{eq-eqb, ne-eqb}
 use Rattle.format.specs.Format.{maxArity}
 use Rattle.lists.specs.Positions.{upFrom}
 use Rattle.lists.specs.Tests.{any, every}
-<<<<<<< ours
 use Rattle.subtrees.specs.Steps.{ChildrenStored, Filled, sameChild, sameNode}
 use Rattle.subtrees.specs.Store.{childAt}
-=======
-use Rattle.subtrees.specs.Store.{ChildrenStored, Filled, childAt, sameChild, sameNode}
->>>>>>> theirs
 use Rattle.lists.proofs.Intervals.{length-tabulated, tabulated}
 use Rattle.lists.proofs.Loops.{tabulated-at}
 
@@ -50,16 +42,11 @@ module _ {f : ℕ → ℕ} where
     beyond = λ j l. getD-set-other r k j (f k) 0 (λ e. omega arith) ∙ inv .beyond j (omega arith);
   }
 
-<<<<<<< ours
   pub filled-at : {k n : ℕ} {r : List ℕ} → Filled f k r → k ≡ n → Filled f n r
   filled-at {k} {n} {r} inv e = subst (λ (m : ℕ). Filled f m r) e inv
 
   pub filled-end : {k n : ℕ} {r : List ℕ} → Filled f k r → k ≤ n → n ≤ k → Filled f n r
   filled-end inv h l = filled-at inv (omega arith)
-=======
-  pub filled-end : {k n : ℕ} {r : List ℕ} → Filled f k r → k ≤ n → n ≤ k → Filled f n r
-  filled-end {k} {n} {r} inv h l = let e : k ≡ n = omega arith in subst (λ (m : ℕ). Filled f m r) e inv
->>>>>>> theirs
 
 -- the first n of eight bytes are the first n values
 pub filled-take : {f : ℕ → ℕ} {n : ℕ} {r : List ℕ} → Filled f n r → n ≤ maxArity → take n r ≡ map f (upFrom 0 n)

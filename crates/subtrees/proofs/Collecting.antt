@@ -2,16 +2,11 @@
 -- their distinct subtrees.
 use mathlib.Core.Bool.{Bool, cond, false, true}
 use mathlib.Core.List.{List, [], _++_, _∷_}
-<<<<<<< ours
-=======
-use mathlib.Core.Option.{some}
->>>>>>> theirs
 use mathlib.Core.Path.{_∙_, _≡_, ap, ap₂, refl, subst, sym}
 use Prim.Native.Nat.{_+_, _-_, _<_, _≤_, suc, ℕ}
 use native.Mathlib.Omega.{arith}
 use lib.ListN.{drop, drop-of-length-le, getD, length, length-drop, length-set, set, take}
 use lib.Seq.{drop-cons, drop-drop, drop-set-lt, ext-getD, getD-drop, getD-set-same, getD-take, length-take-le}
-<<<<<<< ours
 use Rattle.automata.specs.Automaton.{Automaton, Transition}
 use Rattle.automata.specs.Change.{subtrees}
 use Rattle.format.specs.Format.{maxArity, maxNodes}
@@ -33,23 +28,6 @@ labelBefore s i = labelAt s (i - 1)
 abbrev pub arityBefore : List ℕ → ℕ → ℕ
 arityBefore s i = childrenAt s (i - 1)
 
-=======
-use Rattle.automata.specs.Automaton.{Automaton, Transition, run, states}
-use Rattle.automata.specs.Change.{subtrees}
-use Rattle.automata.specs.Numbered.{numbered}
-use Rattle.format.specs.Format.{maxArity, maxNodes}
-use Rattle.lists.specs.Closure.{elem}
-use Rattle.subtrees.specs.Store.{Children, Entered, Filled, Lists, Numbered, Sized, Stored, addLast, bottomUp}
-use Rattle.subtrees.specs.Store.{byteFrom, foundIn, treeNumbered, treesNumbered}
-use Rattle.table.specs.Layout.{transitionsIn}
-use Rattle.trees.specs.Listing.{childrenAt, firstTrees, labelAt, laterTrees, narrow, nodesIn, readTree, readTrees}
-use Rattle.trees.specs.Tree.{Forest, Tree, cons, count, eqTree, nil, node}
-use Rattle.subtrees.proofs.Numbers.{Among, among-drop, among-index, among-more, numbered-append}
-use Rattle.subtrees.proofs.Numbers.{numbered-count, numbered-first, numbered-later}
-use Rattle.subtrees.proofs.Orders.{found-node, in-reverse, reverse-in}
-use Rattle.subtrees.proofs.Suffixes.{Passed, children-there, nodes-end, nodesFrom, read-next, read-whole}
-
->>>>>>> theirs
 -- the subtrees found from node i on
 abbrev pub foundFrom : List ℕ → ℕ → List Tree
 foundFrom s i = foundIn (readTrees (nodesFrom s i))
@@ -140,7 +118,6 @@ module _ {s run : List ℕ} {many i top found : ℕ} {stack l r c q : List ℕ}
   trees-count : count (readTrees (nodesFrom s i)) ≡ maxNodes - top
   trees-count = ap count (inv .trees) ∙ numbered-count (foundFrom s i) (drop top stack) ∙ stack-length
 
-<<<<<<< ours
 -- the node before those that are done
 module _ {s run : List ℕ} {many i top found : ℕ} {stack l r c q : List ℕ} (ok : Passed s)
     (done : Collecting s run many i top found stack l r c q) (more : 0 < i) where
@@ -155,19 +132,6 @@ module _ {s run : List ℕ} {many i top found : ℕ} {stack l r c q : List ℕ} 
 
   module _ {ns : List ℕ} (filled : Filled (byteFrom stack top) (arityBefore s i) ns) where
     pub pop-children : Children ns (arityBefore s i) found
-=======
--- node j is next
-module _ {s run : List ℕ} {many : ℕ} (j : ℕ) {top found : ℕ} {stack l r c q : List ℕ} (ok : Passed s)
-    (inv : Collecting s run many (j + 1) top found stack l r c q) where
-  pub pop-room : top + childrenAt s j ≤ maxNodes
-  pop-room = omega (arith, children-there ok j (omega (arith, inv .left)), trees-count inv, inv .within)
-
-  pub pop-narrow : childrenAt s j ≤ maxArity
-  pop-narrow = ok .narrow j (omega (arith, inv .left))
-
-  module _ {ns : List ℕ} (filled : Filled (byteFrom stack top) (childrenAt s j) ns) where
-    pub pop-children : Children ns (childrenAt s j) found
->>>>>>> theirs
     pop-children = record {
       narrow = pop-narrow;
       some = λ k b. rw (at k b) (among k b .0);
@@ -175,17 +139,10 @@ module _ {s run : List ℕ} {many : ℕ} (j : ℕ) {top found : ℕ} {stack l r 
       beyond = filled .beyond;
     }
       where
-<<<<<<< ours
         at : (k : ℕ) → k < arityBefore s i → getD ns k 0 ≡ getD (drop top stack) k 0
         at k b = filled .filled k b ∙ sym (getD-drop top stack k 0)
 
         among : (k : ℕ) → k < arityBefore s i → (1 ≤ getD (drop top stack) k 0) × (getD (drop top stack) k 0 ≤ found)
-=======
-        at : (k : ℕ) → k < childrenAt s j → getD ns k 0 ≡ getD (drop top stack) k 0
-        at k b = filled .filled k b ∙ sym (getD-drop top stack k 0)
-
-        among : (k : ℕ) → k < childrenAt s j → (1 ≤ getD (drop top stack) k 0) × (getD (drop top stack) k 0 ≤ found)
->>>>>>> theirs
         among k b =
             among-index found (drop top stack) (inv .numbers) k (omega (arith, stack-length inv, pop-room))
 
@@ -193,7 +150,6 @@ module _ {s run : List ℕ} {many : ℕ} (j : ℕ) {top found : ℕ} {stack l r 
     module _ {m num : ℕ} (given : Numbered found m num) {l' r' c' q' : List ℕ} (sz : Sized l' r' c' q')
         (holds : (A : Automaton) (ts : List Tree) → A .transitions ≡ transitionsIn run many →
         Stored A ts found l r c q →
-<<<<<<< ours
         Entered A ts (node (labelBefore s i) (treesNumbered ts (take (arityBefore s i) ns))) m num l' r' c' q') where
       abbrev place : ℕ
       place = top + arityBefore s i - 1
@@ -251,62 +207,6 @@ module _ {s run : List ℕ} {many : ℕ} (j : ℕ) {top found : ℕ} {stack l r 
               (rw (found-length inv) later))
 
       pub collecting-next : Collecting s run many (i - 1) place m (set stack place num) l' r' c' q'
-=======
-        Entered A ts (node (labelAt s j) (treesNumbered ts (take (childrenAt s j) ns))) m num l' r' c' q') where
-      abbrev place : ℕ
-      place = top + childrenAt s j - 1
-
-      abbrev before : List Tree
-      before = foundFrom s (j + 1)
-
-      abbrev entrant : Tree
-      entrant = node (labelAt s j) (treesNumbered before (take (childrenAt s j) ns))
-
-      children : treesNumbered before (take (childrenAt s j) ns) ≡
-          firstTrees (childrenAt s j) (readTrees (nodesFrom s (j + 1)))
-      children =
-          ap (treesNumbered before)
-          (popped-take stack top (childrenAt s j) filled pop-narrow (omega (arith, pop-room, inv .stacked))) ∙
-          sym (numbered-first before (childrenAt s j) (drop top stack)) ∙
-          ap (firstTrees (childrenAt s j)) (sym (inv .trees))
-
-      found-next : foundFrom s j ≡ addLast before entrant
-      found-next =
-          ap foundIn (read-next ok j (omega (arith, inv .left))) ∙
-          found-node (labelAt s j) (childrenAt s j) (readTrees (nodesFrom s (j + 1))) ∙
-          ap (λ f. addLast before (node (labelAt s j) f)) (sym children)
-
-      dropped : drop place (set stack place num) ≡ num ∷ drop (childrenAt s j) (drop top stack)
-      dropped =
-          let z : place + 1 ≡ top + childrenAt s j = omega (arith, inv .below) in
-          drop-set stack place num (omega (arith, pop-room, inv .stacked, inv .below)) ∙
-          ap (λ n. num ∷ drop n stack) z ∙ ap (λ ns. num ∷ ns) (sym (drop-drop (childrenAt s j) top stack))
-
-      later : Among found (drop (childrenAt s j) (drop top stack))
-      later = among-drop found (childrenAt s j) (drop top stack) (inv .numbers)
-
-      trees-next : readTrees (nodesFrom s j) ≡ treesNumbered (foundFrom s j) (drop place (set stack place num))
-      trees-next =
-          read-next ok j (omega (arith, inv .left)) ∙ (λ i. cons (first i) (rest i)) ∙
-          sym (ap₂ treesNumbered found-next dropped)
-        where
-          first : node (labelAt s j) (firstTrees (childrenAt s j) (readTrees (nodesFrom s (j + 1)))) ≡
-              treeNumbered (addLast before entrant) num
-          first =
-              ap (node (labelAt s j)) (sym children) ∙
-              sym (holds (bare (transitionsIn run many)) before refl (inv .stored (bare (transitionsIn run many)) refl)
-              .numbered)
-
-          rest : laterTrees (childrenAt s j) (readTrees (nodesFrom s (j + 1))) ≡
-              treesNumbered (addLast before entrant) (drop (childrenAt s j) (drop top stack))
-          rest =
-              ap (laterTrees (childrenAt s j)) (inv .trees) ∙
-              numbered-later before (childrenAt s j) (drop top stack) ∙
-              sym (numbered-last before entrant (drop (childrenAt s j) (drop top stack))
-              (subst (λ (n : ℕ). Among n (drop (childrenAt s j) (drop top stack))) (sym (found-length inv)) later))
-
-      pub collecting-next : Collecting s run many j place m (set stack place num) l' r' c' q'
->>>>>>> theirs
       collecting-next = record {
         left = omega (arith, inv .left);
         below = omega (arith, inv .below);
@@ -316,11 +216,7 @@ module _ {s run : List ℕ} {many : ℕ} (j : ℕ) {top found : ℕ} {stack l r 
         sized = sz;
         numbers = rw dropped (
           (given .some, given .known),
-<<<<<<< ours
           among-more found m (drop (arityBefore s i) (drop top stack)) (given .grows) later,
-=======
-          among-more found m (drop (childrenAt s j) (drop top stack)) (given .grows) later,
->>>>>>> theirs
         );
         trees = trees-next;
         stored = λ A h. subst (λ (ts : List Tree). Stored A ts m l' r' c' q') (sym found-next)

@@ -3,10 +3,6 @@
 use mathlib.Core.Bool.{false, false≢true, true}
 use mathlib.Core.List.{List, [], _++_, _∷_, map}
 use mathlib.Core.Logic.{inl, inr}
-<<<<<<< ours
-=======
-use mathlib.Core.Option.{some}
->>>>>>> theirs
 use mathlib.Core.Path.{_∙_, _≡_, ap, subst, sym}
 use Prim.Native.Nat.{_*_, _+_, _-_, _<_, _≤_, ℕ}
 use native.Mathlib.Nat.{zero-add}
@@ -17,7 +13,6 @@ use lib.Seq.{getD-at, getD-set-other, getD-set-same, getD-take, length-take-le}
 use borrow.Author.Count.{below-more}
 use borrow.Author.Tests.{eq-eqb, eqb-true}
 use Rattle.automata.specs.Automaton.{Automaton, Transition, run, runs}
-<<<<<<< ours
 use Rattle.format.specs.Format.{maxArity, maxNodes}
 use Rattle.lists.specs.Positions.{upFrom}
 use Rattle.lists.specs.Tests.{_∈_, every}
@@ -25,18 +20,6 @@ use Rattle.subtrees.specs.Steps.{Children, ChildrenStored, Entered, Fill
 use Rattle.subtrees.specs.Steps.{sameChild, sameNode, stateFrom}
 use Rattle.subtrees.specs.Store.{Stored, childAt, childNumbers, noTree, treeNumbered, treesNumbered}
 use Rattle.trees.specs.Tree.{Forest, Tree, node}
-=======
-use Rattle.automata.specs.Numbered.{numbered}
-use Rattle.format.specs.Format.{maxArity, maxNodes}
-use Rattle.lists.specs.Positions.{upFrom}
-use Rattle.lists.specs.Tests.{_∈_, every}
-use Rattle.subtrees.specs.Store.{Children, ChildrenStored, Entered, Filled, First, Sized, Stored, addLast}
-use Rattle.subtrees.specs.Store.{childAt, childNumbers, childState, noTree, sameChild, sameNode, stateFrom}
-use Rattle.subtrees.specs.Store.{treeNumbered, treesNumbered}
-use Rattle.trees.specs.Listing.{narrow}
-use Rattle.trees.specs.Tree.{Forest, Tree, node}
-use Rattle.automata.proofs.Unique.{children}
->>>>>>> theirs
 use Rattle.lists.proofs.Distinct.{append-distinct}
 use Rattle.lists.proofs.Intervals.{getD-in, getD-map, getD-tabulated, in-getD, length-tabulated, tabulated}
 use Rattle.lists.proofs.Loops.{at-every, every-at}
@@ -50,16 +33,12 @@ use Rattle.subtrees.proofs.Orders.{last-new, last-old}
 pub children-more : {ns : List ℕ} {k n : ℕ} → Children ns k n → (i m : ℕ) → i ≡ k → n ≤ m → Children ns i m
 children-more {ns} {k} {n} ch i m e h =
     subst (λ (j : ℕ). Children ns j m) (sym e)
-<<<<<<< ours
     (record {
       narrow = ch .narrow;
       some = ch .some;
       known = λ j b. omega (arith, ch .known j b);
       beyond = ch .beyond;
     })
-=======
-    (record { narrow = ch .narrow; some = ch .some; known = λ j b. omega (arith, ch .known j b); beyond = ch .beyond })
->>>>>>> theirs
 
 -- stores keep the lengths
 pub sized-new : {l r c q : List ℕ} → Sized l r c q → (n a k v : ℕ) {ns c' : List ℕ} → ChildrenStored c n ns c' →
@@ -99,12 +78,8 @@ module _ {ns : List ℕ} {k n : ℕ} (ch : Children ns k n) (eight : length ns �
 
       at : (i : ℕ) → i < k → childAt c j i ≡ getD ns i 0
       at i h =
-<<<<<<< ours
           ap (childAt c j) (sym (zero-add i)) ∙
           sym (getD-tabulated (childAt c j) 0 (getD r j 0) i 0 (omega (arith, size))) ∙
-=======
-          sym (getD-tabulated (childAt c j) 0 (getD r j 0) i 0 (omega (arith, size)) ∙ ap (childAt c j) (zero-add i)) ∙
->>>>>>> theirs
           ap (λ xs. getD xs i 0) e ∙ getD-take k ns i 0 h
 
 label-of : (a b : ℕ) (f g : Forest) → node a f ≡ node b g → a ≡ b
@@ -216,12 +191,8 @@ module _ {A : Automaton} {ts : List Tree} {n : ℕ} {l r c q : List ℕ} (st : S
       kept-numbers : (j : ℕ) → j < n → childNumbers (set r n k) c' j ≡ childNumbers r c j
       kept-numbers j h =
           rw (kept r k j h)
-<<<<<<< ours
           (tabulated (childAt c' j) 0 (getD r j 0) 0 (childNumbers r c j)
           (length-tabulated (childAt c j) 0 (getD r j 0))
-=======
-          (tabulated (childAt c' j) 0 (getD r j 0) 0 (childNumbers r c j) (length-tabulated (childAt c j) 0 (getD r j 0))
->>>>>>> theirs
           (λ i b. ap (childAt c' j) (zero-add i) ∙ kept-child j i h (omega (arith, st .narrow j h)) ∙
           ap (childAt c j) (sym (zero-add i)) ∙ sym (getD-tabulated (childAt c j) 0 (getD r j 0) i 0 b)))
 
@@ -271,13 +242,8 @@ module _ {A : Automaton} {ts : List Tree} {n : ℕ} {l r c q : List ℕ} (st : S
           tree-old : (j : ℕ) → j < n → getD more j noTree ≡ node (getD (set l n a) j 0)
               (treesNumbered more (childNumbers (set r n k) c' j))
           tree-old j h =
-<<<<<<< ours
               let e = numbered-append ts (entrant ∷ []) (childNumbers r c j) (stored-among j h) in
               rw (kept l a j h, kept-numbers j h, e) (more-old j h ∙ st .tree j h)
-=======
-              rw (kept l a j h, kept-numbers j h, numbered-append ts (entrant ∷ []) (childNumbers r c j) (stored-among j h))
-              (more-old j h ∙ st .tree j h)
->>>>>>> theirs
 
           tree-new : getD more n noTree ≡ node (getD (set l n a) n 0)
               (treesNumbered more (childNumbers (set r n k) c' n))

@@ -4,7 +4,4 @@ pub mod Orders
 pub mod Entering
 pub mod Suffixes
 pub mod Collecting
-<<<<<<< ours
 pub mod Listed
-=======
->>>>>>> theirs

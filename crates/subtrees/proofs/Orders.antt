@@ -8,26 +8,18 @@ use Prim.Native.Nat.{suc, zero, ℕ}
 use Rattle.automata.specs.Change.{addNew, collect, collects}
 use Rattle.lists.specs.Closure.{elem}
 use Rattle.lists.specs.Tests.{_∈_}
-<<<<<<< ours
 use Rattle.subtrees.specs.Steps.{addLast}
-=======
-use Rattle.subtrees.specs.Store.{addLast, foundIn}
->>>>>>> theirs
 use Rattle.trees.specs.Listing.{firstTrees, laterTrees}
 use Rattle.trees.specs.Tree.{Forest, Tree, _⧺_, cons, eqTree, nil, node}
 use Rattle.lists.proofs.Closure.{elem-in, in-elem}
 use Rattle.lists.proofs.Tests.{append-in, in-append-left, in-append-right}
 use Rattle.trees.proofs.Trees.{eqTree-same, eqTree-true}
 
-<<<<<<< ours
 -- the distinct subtrees of a list of trees, in the order in which a pass from the last node finds them
 abbrev pub foundIn : Forest → List Tree
 foundIn f = reverse (collects f [])
 
 first-later : (c : ℕ) (f : Forest) → firstTrees c f ⧺ laterTrees c f ≡ f
-=======
-pub first-later : (c : ℕ) (f : Forest) → firstTrees c f ⧺ laterTrees c f ≡ f
->>>>>>> theirs
 first-later zero f = refl
 first-later (suc c) nil = refl
 first-later (suc c) (cons t f) = ap (cons t) (first-later c f)

@@ -9,10 +9,6 @@ use lib.ListN.{drop, drop-of-length-le, length}
 use lib.Seq.{drop-cons}
 use borrow.Author.Tests.{eqb-true, leb-true}
 use Rattle.automata.specs.Minimal.{first}
-<<<<<<< ours
-=======
-use Rattle.automata.specs.Product.{lists}
->>>>>>> theirs
 use Rattle.format.specs.Format.{labelBytes, maxArity, maxListing, maxNodes, nodeBytes}
 use Rattle.trees.specs.Listing.{allNarrow, childrenAt, firstTree, firstTrees, labelAt, laterTrees}
 use Rattle.trees.specs.Listing.{listingConditions, listingRefusal, listsTrees, narrow, nodesIn, oneTree, readTree}

@@ -1,5 +1,2 @@
 pub mod Store
-<<<<<<< ours
 pub mod Steps
-=======
->>>>>>> theirs

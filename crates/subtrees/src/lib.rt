@@ -13,15 +13,9 @@ ghost use Rattle.lists.specs.Tests.{any, every};
 ghost use Rattle.table.specs.Layout.{transitionsIn};
 ghost use Rattle.trees.specs.Listing.{listingRefusal, readTree};
 ghost use Rattle.trees.specs.Tree.{Tree, node};
-<<<<<<< ours
 ghost use Rattle.subtrees.specs.Steps.{Children, ChildrenStored, Entered, Filled, First, Numbered, Sized};
 ghost use Rattle.subtrees.specs.Steps.{byteFrom, childState, sameChild, sameNode, stateFrom};
 ghost use Rattle.subtrees.specs.Store.{Lists, Stored, bottomUp, treesNumbered};
-=======
-ghost use Rattle.subtrees.specs.Store.{Children, ChildrenStored, Entered, Filled, First, Lists, Numbered, Sized};
-ghost use Rattle.subtrees.specs.Store.{Stored, bottomUp, byteFrom, childState, sameChild, sameNode, stateFrom};
-ghost use Rattle.subtrees.specs.Store.{treesNumbered};
->>>>>>> theirs
 use fields::Found;
 use fields::find;
 use fields::wide;
@@ -29,12 +23,9 @@ use format::MAX_ARITY;
 use format::MAX_NODES;
 use format::NODE_BYTES;
 
-<<<<<<< ours
 // A node's label comes before its child count.
 const LABEL_BYTES: usize = NODE_BYTES - 1;
 
-=======
->>>>>>> theirs
 const CHILD_NUMBERS: usize = MAX_NODES * MAX_ARITY;
 
 // Subtree j, from 1 to count, stands at index j - 1; its child k at 8 (j - 1) + k, 0 beyond the arity.
@@ -101,12 +92,8 @@ fn same_node(
 ) -> bool
     requires { ⌜ j < maxNodes ⌝ }
     requires { ⌜ arity ≤ maxArity ⌝ }
-<<<<<<< ours
     ensures { λ r. ⌜ r ≡ sameNode (now (labels .entry)) (now (arities .entry)) (now (children .entry)) label arity
         numbers j ⌝ }
-=======
-    ensures { λ r. ⌜ r ≡ sameNode (now (labels .entry)) (now (arities .entry)) (now (children .entry)) label arity numbers j ⌝ }
->>>>>>> theirs
 {
     if labels[j] != label {
         return false;
@@ -129,12 +116,8 @@ fn search(
 ) -> usize
     requires { ⌜ found ≤ maxNodes ⌝ }
     requires { ⌜ arity ≤ maxArity ⌝ }
-<<<<<<< ours
     ensures { λ r. ⌜ First (sameNode (now (labels .entry)) (now (arities .entry)) (now (children .entry)) label arity
         numbers) found r ⌝ }
-=======
-    ensures { λ r. ⌜ First (sameNode (now (labels .entry)) (now (arities .entry)) (now (children .entry)) label arity numbers) found r ⌝ }
->>>>>>> theirs
 {
     let mut j = 0;
     while j < found {
@@ -168,11 +151,7 @@ fn some_none(arity: usize, args: [u8; MAX_ARITY]) -> bool
 {
     let mut k = 0;
     while k < arity {
-<<<<<<< ours
         if args[k] == 0 {
-=======
-        if 0 == args[k] {
->>>>>>> theirs
             return true;
         }
         k += 1;
@@ -248,14 +227,9 @@ fn enter(
             found: found,
         };
     }
-<<<<<<< ours
     let width = wide(arity);
     let args = child_states(states, width, numbers);
     let q = state(run, count, label, width, args);
-=======
-    let args = child_states(states, wide(arity), numbers);
-    let q = state(run, count, label, wide(arity), args);
->>>>>>> theirs
     labels[found] = label;
     arities[found] = arity;
     store_children(children, found, numbers);
@@ -285,14 +259,9 @@ pub fn collect(tree: &[u8], run: &[u8], count: usize) -> Subtrees
     while i > 0 {
         i -= 1;
         let label = tree[NODE_BYTES * i];
-<<<<<<< ours
         let arity = tree[NODE_BYTES * i + LABEL_BYTES];
         let width = wide(arity);
         let numbers = popped(&stack, top, width);
-=======
-        let arity = tree[NODE_BYTES * i + 1];
-        let numbers = popped(&stack, top, wide(arity));
->>>>>>> theirs
         let place = enter(
             run,
             count,
@@ -306,11 +275,7 @@ pub fn collect(tree: &[u8], run: &[u8], count: usize) -> Subtrees
             numbers,
         );
         found = place.found;
-<<<<<<< ours
         top = top + width - 1;
-=======
-        top = top + wide(arity) - 1;
->>>>>>> theirs
         stack[top] = place.number;
     }
     Subtrees {

@@ -1,4 +1,3 @@
-<<<<<<< ours
 -- The loop at k has filled the first k bytes with the children's states.
 use borrow.Author.Needs.{needs}
 use Prim.Native.Nat.{_-_, _≤_}
@@ -7,19 +6,6 @@ use Rattle.subtrees.specs.Steps.{Filled, childState}
 use Rattle.subtrees.proofs.Arrays.{filled-end, filled-next, filled-start}
 use Rattle.subtrees.proofs.child_states.Statement.{statement}
 use Rattle.subtrees.proofs.child_states.Tie as tie
-=======
-use mathlib.Core.Path.{ap}
-use Rattle.subtrees.proofs.Arrays.{filled-end, filled-next, filled-start}
-use Prim.Native.Nat.{_≤_, _-_}
-use native.Mathlib.Omega.{arith}
-use Rattle.subtrees.specs.Store.{Filled, childState}
-use borrow.Author.Needs.{needs}
-use Rattle.subtrees.proofs.child_states.Statement.{statement}
-use Rattle.subtrees.proofs.child_states.Tie as tie
-use Rattle.subtrees.proofs.child_states.Reads as reads
-use Rattle.subtrees.proofs.child_states.Lts as lts
-use Rattle.fields.proofs.wide.Reads as wide-reads
->>>>>>> theirs
 
 abbrev Inv-loop : tie.InvT-loop
 Inv-loop states arity numbers args₀ k₀ args k = (k ≤ arity) × Filled (childState states numbers) k args
@@ -27,7 +13,6 @@ Inv-loop states arity numbers args₀ k₀ args k = (k ≤ arity) × Filled (chi
 abbrev μ-loop : tie.MeasureT-loop
 μ-loop states arity numbers args₀ k₀ args k = arity - k
 
-<<<<<<< ours
 loop-holds : tie.Need-loop-holds Inv-loop μ-loop
 loop-holds c = (omega arith, filled-start)
 
@@ -37,26 +22,10 @@ array-read-wide c = search needs
 wide-requires : tie.Need-wide-requires Inv-loop μ-loop
 wide-requires c κs = search needs
 
-=======
--- src/lib.rt:129:5
-loop-holds : tie.Need-loop-holds Inv-loop μ-loop
-loop-holds c = (omega arith, filled-start)
-
--- src/lib.rt:130:22
-array-read-wide : tie.Need-array-read-wide Inv-loop μ-loop
-array-read-wide c = search needs
-
--- src/lib.rt:130:13
-wide-requires : tie.Need-wide-requires Inv-loop μ-loop
-wide-requires c κs = search needs
-
--- src/lib.rt:131:26
->>>>>>> theirs
 sub-args : tie.Need-sub-args Inv-loop μ-loop
 sub-args c =
     omega (arith, c .wide .ensures, c .before .before .before .pre .some ((c .before .before .loop .k)) (omega arith))
 
-<<<<<<< ours
 element-copy-out-args : tie.Need-element-copy-out-args Inv-loop μ-loop
 element-copy-out-args c =
     let k = c .before .before .loop .k in
@@ -78,31 +47,6 @@ loop-again c =
     let next = filled-next (head .loop .inv .1) (omega (arith, head .before .pre .narrow)) in
     (omega arith, rw (c .before .wide .ensures) next)
 
-=======
--- src/lib.rt:131:19
-element-copy-out-args : tie.Need-element-copy-out-args Inv-loop μ-loop
-element-copy-out-args c =
-    omega (arith, c .wide .ensures, c .before .before .before .pre .some ((c .before .before .loop .k)) (omega arith), c .before .before .before .pre .known ((c .before .before .loop .k)) (omega arith))
-
--- src/lib.rt:131:9
-array-write-args : tie.Need-array-write-args Inv-loop μ-loop
-array-write-args c = search needs
-
--- src/lib.rt:132:9
-add-k : tie.Need-add-k Inv-loop μ-loop
-add-k c = search needs
-
--- src/lib.rt:129:5
-loop-less : tie.Need-loop-less Inv-loop μ-loop
-loop-less c = search needs
-
--- src/lib.rt:129:5
-loop-again : tie.Need-loop-again Inv-loop μ-loop
-loop-again c =
-    (omega arith, rw (c .before .wide .ensures) (filled-next (c .before .before .before .loop .inv .1) (omega (arith, c .before .before .before .before .pre .narrow))))
-
--- src/lib.rt:123:1
->>>>>>> theirs
 returns : tie.Need-returns Inv-loop μ-loop
 returns c = filled-end (c .before .loop .inv .1) (c .before .loop .inv .0) (omega arith)
 

@@ -1,4 +1,3 @@
-<<<<<<< ours
 -- The loop at i has gone through the nodes from i on: their trees are on the stack, their subtrees in the arrays.
 use borrow.Author.Needs.{needs}
 use mathlib.Core.Path.{refl}
@@ -114,124 +113,6 @@ returns c =
     let start = c .before .before .before .before in
     let ok = passed (start .args .tree .now) (start .pre .0) in
     collecting-end ok (collecting-at (c .before .loop .inv) 0 (omega arith))
-=======
-use mathlib.Core.Path.{refl, subst, sym, _≡_}
-use native.Mathlib.Omega.{arith}
-use Prim.Native.Nat.{ℕ, _+_, _-_}
-use lib.ListN.{set}
-use Rattle.subtrees.specs.Store.{Filled, byteFrom}
-use Rattle.subtrees.proofs.Suffixes.{passed}
-use Rattle.subtrees.proofs.Collecting.{Collecting, collecting-at, collecting-end, collecting-next, collecting-start, end-top, pop-children, pop-narrow, pop-room}
-use borrow.Author.Needs.{needs}
-use Rattle.subtrees.proofs.collect.Statement.{statement}
-use Rattle.subtrees.proofs.collect.Tie as tie
-use Rattle.subtrees.proofs.collect.Reads as reads
-use Rattle.subtrees.proofs.collect.Lts as lts
-use Rattle.fields.proofs.wide.Reads as wide-reads
-use Rattle.subtrees.proofs.enter.Reads as enter-reads
-use Rattle.subtrees.proofs.popped.Reads as popped-reads
-
-abbrev Inv-loop : tie.InvT-loop
-Inv-loop tree run count labels₀ arities₀ children₀ states₀ stack₀ top₀ found₀ i₀ labels arities children states stack top found i =
-    Collecting tree run count i top found stack labels arities children states
-
-abbrev μ-loop : tie.MeasureT-loop
-μ-loop tree run count labels₀ arities₀ children₀ states₀ stack₀ top₀ found₀ i₀ labels arities children states stack top found i =
-    i
-
--- src/lib.rt:245:5
-loop-holds : tie.Need-loop-holds Inv-loop μ-loop
-loop-holds c =
-    collecting-start ((passed (c .before .before .args .tree .now) (c .before .before .pre .0))) (c .before .before .args .run .now) (c .before .before .args .count) (record { labels = refl; arities = refl; children = refl; states = refl }) refl
-
--- src/lib.rt:246:9
-sub-i : tie.Need-sub-i Inv-loop μ-loop
-sub-i c = search needs
-
--- src/lib.rt:247:26
-mul-label : tie.Need-mul-label Inv-loop μ-loop
-mul-label c = search needs
-
--- src/lib.rt:247:21
-shared-slice-read-label : tie.Need-shared-slice-read-label Inv-loop μ-loop
-shared-slice-read-label c = search needs
-
--- src/lib.rt:248:26
-mul-arity : tie.Need-mul-arity Inv-loop μ-loop
-mul-arity c = search needs
-
--- src/lib.rt:248:26
-add-arity : tie.Need-add-arity Inv-loop μ-loop
-add-arity c = search needs
-
--- src/lib.rt:248:21
-shared-slice-read-arity : tie.Need-shared-slice-read-arity Inv-loop μ-loop
-shared-slice-read-arity c = search needs
-
--- src/lib.rt:249:43
-wide-requires : tie.Need-wide-requires Inv-loop μ-loop
-wide-requires c κs = search needs
-
--- src/lib.rt:249:13
-popped-requires : tie.Need-popped-requires Inv-loop μ-loop
-popped-requires c κs =
-    let ok = (passed (c .before .before .before .before .before .before .before .before .args .tree .now) (c .before .before .before .before .before .before .before .before .pre .0)) in
-    let inv = (collecting-at (c .before .before .before .before .before .loop .inv) (((c .before .before .before .before .before .loop .i)) - 1 + 1) (omega arith)) in
-    omega (arith, pop-room (((c .before .before .before .before .before .loop .i)) - 1) ok inv, pop-narrow (((c .before .before .before .before .before .loop .i)) - 1) ok inv, c .wide .ensures)
-
--- src/lib.rt:250:13
-enter-requires : tie.Need-enter-requires Inv-loop μ-loop
-enter-requires c κs =
-    let ok = (passed (c .before .before .before .before .before .before .before .before .before .before .before .before .before .args .tree .now) (c .before .before .before .before .before .before .before .before .before .before .before .before .before .pre .0)) in
-    let inv = (collecting-at (c .before .before .before .before .before .before .before .before .before .before .loop .inv) (((c .before .before .before .before .before .before .before .before .before .before .loop .i)) - 1 + 1) (omega arith)) in
-    let filled = (subst (λ (k : ℕ). Filled (byteFrom (c .before .before .before .before .before .before .before .before .before .before .loop .stack) (c .before .before .before .before .before .before .before .before .before .before .loop .top)) k (c .before .before .before .before .popped .result)) (c .before .before .before .before .before .wide .ensures) (c .before .before .before .before .popped .ensures)) in
-    (c .before .before .before .before .before .before .before .before .before .before .before .before .before .pre .1, (c .before .before .before .before .before .before .before .before .before .before .loop .inv .sized, (omega (arith, inv .room), pop-children (((c .before .before .before .before .before .before .before .before .before .before .loop .i)) - 1) ok inv filled)))
-
--- src/lib.rt:263:21
-wide-requires-2 : tie.Need-wide-requires-2 Inv-loop μ-loop
-wide-requires-2 c κs = search needs
-
--- src/lib.rt:263:15
-add-top : tie.Need-add-top Inv-loop μ-loop
-add-top c =
-    let ok = (passed (c .before .before .before .before .before .before .before .before .before .before .before .before .before .before .before .args .tree .now) (c .before .before .before .before .before .before .before .before .before .before .before .before .before .before .before .pre .0)) in
-    let inv = (collecting-at (c .before .before .before .before .before .before .before .before .before .before .before .before .loop .inv) (((c .before .before .before .before .before .before .before .before .before .before .before .before .loop .i)) - 1 + 1) (omega arith)) in
-    omega (arith, pop-room (((c .before .before .before .before .before .before .before .before .before .before .before .before .loop .i)) - 1) ok inv, c .wide2 .ensures)
-
--- src/lib.rt:263:15
-sub-top : tie.Need-sub-top Inv-loop μ-loop
-sub-top c = search needs
-
--- src/lib.rt:264:9
-array-write-stack : tie.Need-array-write-stack Inv-loop μ-loop
-array-write-stack c =
-    let ok = (passed (c .before .before .before .before .before .before .before .before .before .before .before .before .before .before .before .args .tree .now) (c .before .before .before .before .before .before .before .before .before .before .before .before .before .before .before .pre .0)) in
-    let inv = (collecting-at (c .before .before .before .before .before .before .before .before .before .before .before .before .loop .inv) (((c .before .before .before .before .before .before .before .before .before .before .before .before .loop .i)) - 1 + 1) (omega arith)) in
-    omega (arith, pop-room (((c .before .before .before .before .before .before .before .before .before .before .before .before .loop .i)) - 1) ok inv, inv .below, c .wide2 .ensures)
-
--- src/lib.rt:245:5
-loop-less : tie.Need-loop-less Inv-loop μ-loop
-loop-less c = search needs
-
--- src/lib.rt:245:5
-loop-again : tie.Need-loop-again Inv-loop μ-loop
-loop-again c =
-    let ok = (passed (c .before .before .before .before .before .before .before .before .before .before .before .before .before .before .before .args .tree .now) (c .before .before .before .before .before .before .before .before .before .before .before .before .before .before .before .pre .0)) in
-    let inv = (collecting-at (c .before .before .before .before .before .before .before .before .before .before .before .before .loop .inv) (((c .before .before .before .before .before .before .before .before .before .before .before .before .loop .i)) - 1 + 1) (omega arith)) in
-    let filled = (subst (λ (k : ℕ). Filled (byteFrom (c .before .before .before .before .before .before .before .before .before .before .before .before .loop .stack) (c .before .before .before .before .before .before .before .before .before .before .before .before .loop .top)) k (c .before .before .before .before .before .before .popped .result)) (c .before .before .before .before .before .before .before .wide .ensures) (c .before .before .before .before .before .before .popped .ensures)) in
-    rw (c .wide2 .ensures)
-    (collecting-next (((c .before .before .before .before .before .before .before .before .before .before .before .before .loop .i)) - 1) ok inv filled (c .before .enter .ensures .1 .0) (c .before .enter .ensures .0) (c .before .enter .ensures .1 .1))
-
--- src/lib.rt:268:15
-array-read-t32 : tie.Need-array-read-t32 Inv-loop μ-loop
-array-read-t32 c =
-    end-top ((passed (c .before .before .before .before .args .tree .now) (c .before .before .before .before .pre .0))) (collecting-at (c .before .loop .inv) 0 (omega arith))
-
--- src/lib.rt:231:1
-returns : tie.Need-returns Inv-loop μ-loop
-returns c =
-    collecting-end ((passed (c .before .before .before .before .args .tree .now) (c .before .before .before .before .pre .0))) (collecting-at (c .before .loop .inv) 0 (omega arith))
->>>>>>> theirs
 
 pub collect-spec : {M : Type 1} → statement M
 collect-spec =
@@ -249,18 +130,10 @@ collect-spec =
     wide-requires
     popped-requires
     enter-requires
-<<<<<<< ours
-=======
-    wide-requires-2
->>>>>>> theirs
     add-top
     sub-top
     array-write-stack
     loop-less
     loop-again
-<<<<<<< ours
     array-read-t33
-=======
-    array-read-t32
->>>>>>> theirs
     returns)

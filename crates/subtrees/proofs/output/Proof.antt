@@ -1,4 +1,3 @@
-<<<<<<< ours
 -- What the search found, or 0.
 use borrow.Author.Needs.{needs}
 use Rattle.subtrees.proofs.output.Statement.{statement}
@@ -16,32 +15,6 @@ enum-told c = search needs
 returns : tie.Need-returns
 returns c = rw (c .enum-told .given .1) at (c .before .before .find .ensures .0)
 
-=======
-use borrow.Author.Needs.{needs}
-use Rattle.subtrees.proofs.output.Statement.{statement}
-use Rattle.subtrees.proofs.output.Tie as tie
-use Rattle.subtrees.proofs.output.Reads as reads
-use Rattle.subtrees.proofs.output.Lts as lts
-use Rattle.fields.proofs.find.Reads as find-reads
-
--- src/lib.rt:158:27
-find-requires : tie.Need-find-requires
-find-requires c κs = search needs
-
--- src/lib.rt:158:22
-enum-known-q : tie.Need-enum-known-q
-enum-known-q c = search needs
-
--- src/lib.rt:159:9
-enum-told : tie.Need-enum-told
-enum-told c = search needs
-
--- src/lib.rt:159:9
-returns : tie.Need-returns
-returns c = rw (c .enum-told .given .1) at (c .before .before .find .ensures .0)
-
--- src/lib.rt:153:1
->>>>>>> theirs
 returns-2 : tie.Need-returns-2
 returns-2 c = rw (c .before .q .given .1) at (c .before .before .before .find .ensures .0)
 

@@ -1,4 +1,3 @@
-<<<<<<< ours
 -- The loop at k answers for the children from k on.
 use borrow.Author.Needs.{needs}
 use borrow.Author.Tests.{eq-eqb, ne-eqb}
@@ -11,22 +10,6 @@ use Rattle.lists.specs.Tests.{every}
 use Rattle.subtrees.specs.Steps.{sameChild}
 use Rattle.subtrees.proofs.same_children.Statement.{statement}
 use Rattle.subtrees.proofs.same_children.Tie as tie
-=======
-use borrow.Author.Tests.{eq-eqb, ne-eqb}
-use mathlib.Core.Path.{refl}
-use native.Mathlib.Nat.{zero-add}
-use Prim.Native.Nat.{_-_}
-use native.Mathlib.Omega.{arith}
-use Rattle.lists.specs.Positions.{upFrom}
-use Rattle.lists.specs.Tests.{every}
-use Rattle.lists.proofs.Loops.{EveryFrom, every-start, every-next, every-broken, every-end}
-use Rattle.subtrees.specs.Store.{sameChild}
-use borrow.Author.Needs.{needs}
-use Rattle.subtrees.proofs.same_children.Statement.{statement}
-use Rattle.subtrees.proofs.same_children.Tie as tie
-use Rattle.subtrees.proofs.same_children.Reads as reads
-use Rattle.subtrees.proofs.same_children.Lts as lts
->>>>>>> theirs
 
 abbrev Inv-loop : tie.InvT-loop
 Inv-loop children j arity numbers k₀ k =
@@ -35,7 +18,6 @@ Inv-loop children j arity numbers k₀ k =
 abbrev μ-loop : tie.MeasureT-loop
 μ-loop children j arity numbers k₀ k = arity - k
 
-<<<<<<< ours
 loop-holds : tie.Need-loop-holds Inv-loop μ-loop
 loop-holds c = every-start (c .args .arity) (zero-add (c .args .arity))
 
@@ -63,45 +45,6 @@ loop-less c = search needs
 loop-again : tie.Need-loop-again Inv-loop μ-loop
 loop-again c = every-next (c .before .before .before .loop .inv) (omega arith) (eq-eqb _ _ (c .if1 .left))
 
-=======
--- src/lib.rt:66:5
-loop-holds : tie.Need-loop-holds Inv-loop μ-loop
-loop-holds c = every-start (c .args .arity) (zero-add (c .args .arity))
-
--- src/lib.rt:67:21
-mul-if1 : tie.Need-mul-if1 Inv-loop μ-loop
-mul-if1 c = search needs
-
--- src/lib.rt:67:21
-add-if1 : tie.Need-add-if1 Inv-loop μ-loop
-add-if1 c = search needs
-
--- src/lib.rt:67:12
-element-copy-out-if1 : tie.Need-element-copy-out-if1 Inv-loop μ-loop
-element-copy-out-if1 c = search needs
-
--- src/lib.rt:67:43
-array-read-if1 : tie.Need-array-read-if1 Inv-loop μ-loop
-array-read-if1 c = search needs
-
--- src/lib.rt:68:13
-returns : tie.Need-returns Inv-loop μ-loop
-returns c = every-broken (c .before .before .before .loop .inv) (omega arith) (ne-eqb _ _ (c .if1 .taken))
-
--- src/lib.rt:70:9
-add-k : tie.Need-add-k Inv-loop μ-loop
-add-k c = search needs
-
--- src/lib.rt:66:5
-loop-less : tie.Need-loop-less Inv-loop μ-loop
-loop-less c = search needs
-
--- src/lib.rt:66:5
-loop-again : tie.Need-loop-again Inv-loop μ-loop
-loop-again c = every-next (c .before .before .before .loop .inv) (omega arith) (eq-eqb _ _ (c .if1 .left))
-
--- src/lib.rt:60:1
->>>>>>> theirs
 returns-2 : tie.Need-returns-2 Inv-loop μ-loop
 returns-2 c = every-end (c .before .loop .inv) (omega arith)
 

@@ -1,4 +1,3 @@
-<<<<<<< ours
 -- The loop at j has passed j subtrees, none of them with this label and these children.
 use borrow.Author.Count.{below-more}
 use borrow.Author.Needs.{needs}
@@ -9,20 +8,6 @@ use native.Mathlib.Omega.{arith}
 use Rattle.subtrees.specs.Steps.{sameNode}
 use Rattle.subtrees.proofs.search.Statement.{statement}
 use Rattle.subtrees.proofs.search.Tie as tie
-=======
-use borrow.Author.Count.{below-more}
-use mathlib.Core.Bool.{false}
-use mathlib.Core.Path.{_≡_, sym, _∙_}
-use Prim.Native.Nat.{_<_, _≤_, _-_, ℕ}
-use native.Mathlib.Omega.{arith}
-use Rattle.subtrees.specs.Store.{sameNode}
-use borrow.Author.Needs.{needs}
-use Rattle.subtrees.proofs.search.Statement.{statement}
-use Rattle.subtrees.proofs.search.Tie as tie
-use Rattle.subtrees.proofs.search.Reads as reads
-use Rattle.subtrees.proofs.search.Lts as lts
-use Rattle.subtrees.proofs.same_node.Reads as same-node-reads
->>>>>>> theirs
 
 abbrev Inv-loop : tie.InvT-loop
 Inv-loop labels arities children found label arity numbers j₀ j =
@@ -31,7 +16,6 @@ Inv-loop labels arities children found label arity numbers j₀ j =
 abbrev μ-loop : tie.MeasureT-loop
 μ-loop labels arities children found label arity numbers j₀ j = found - j
 
-<<<<<<< ours
 loop-holds : tie.Need-loop-holds Inv-loop μ-loop
 loop-holds c = (omega arith, λ i h. absurd (omega arith))
 
@@ -64,38 +48,6 @@ returns-2 c =
       before = λ i h. (c .before .loop) .inv .1 i (omega arith);
       there = λ h. absurd (omega arith);
     }
-=======
--- src/lib.rt:113:5
-loop-holds : tie.Need-loop-holds Inv-loop μ-loop
-loop-holds c = (omega arith, λ i h. absurd (omega arith))
-
--- src/lib.rt:114:12
-same-node-requires : tie.Need-same-node-requires Inv-loop μ-loop
-same-node-requires c κs = search needs
-
--- src/lib.rt:115:13
-returns : tie.Need-returns Inv-loop μ-loop
-returns c =
-    record { within = c .before .before .before .loop .inv .0; before = c .before .before .before .loop .inv .1; there = λ h. sym (c .before .same-node .ensures) ∙ c .if1 .taken }
-
--- src/lib.rt:117:9
-add-j : tie.Need-add-j Inv-loop μ-loop
-add-j c = search needs
-
--- src/lib.rt:113:5
-loop-less : tie.Need-loop-less Inv-loop μ-loop
-loop-less c = search needs
-
--- src/lib.rt:113:5
-loop-again : tie.Need-loop-again Inv-loop μ-loop
-loop-again c =
-    (omega arith, below-more _ _ (c .before .before .before .loop .inv .1) (sym (c .before .same-node .ensures) ∙ c .if1 .left))
-
--- src/lib.rt:99:1
-returns-2 : tie.Need-returns-2 Inv-loop μ-loop
-returns-2 c =
-    record { within = omega arith; before = λ i h. (c .before .loop) .inv .1 i (omega arith); there = λ h. absurd (omega arith) }
->>>>>>> theirs
 
 pub search-spec : {M : Type 1} → statement M
 search-spec =

@@ -1,4 +1,3 @@
-<<<<<<< ours
 -- The loop at k answers for the states from k on.
 use borrow.Author.Needs.{needs}
 use borrow.Author.Tests.{eq-eqb, ne-eqb}
@@ -12,22 +11,6 @@ use Rattle.lists.specs.Tests.{any}
 use Rattle.subtrees.proofs.Arrays.{any-take, noneAt}
 use Rattle.subtrees.proofs.some_none.Statement.{statement}
 use Rattle.subtrees.proofs.some_none.Tie as tie
-=======
-use mathlib.Core.Path.{_∙_}
-use borrow.Author.Tests.{eq-eqb, ne-eqb}
-use native.Mathlib.Nat.{zero-add}
-use Prim.Native.Nat.{_-_}
-use native.Mathlib.Omega.{arith}
-use Rattle.lists.specs.Positions.{upFrom}
-use Rattle.lists.specs.Tests.{any}
-use Rattle.lists.proofs.Loops.{AnyFrom, any-start, any-next, any-found, any-end}
-use Rattle.subtrees.proofs.Arrays.{noneAt, any-take}
-use borrow.Author.Needs.{needs}
-use Rattle.subtrees.proofs.some_none.Statement.{statement}
-use Rattle.subtrees.proofs.some_none.Tie as tie
-use Rattle.subtrees.proofs.some_none.Reads as reads
-use Rattle.subtrees.proofs.some_none.Lts as lts
->>>>>>> theirs
 
 abbrev Inv-loop : tie.InvT-loop
 Inv-loop arity args k₀ k = AnyFrom (any (noneAt args) (upFrom 0 arity)) (noneAt args) arity k
@@ -35,7 +18,6 @@ Inv-loop arity args k₀ k = AnyFrom (any (noneAt args) (upFrom 0 arity)) (noneA
 abbrev μ-loop : tie.MeasureT-loop
 μ-loop arity args k₀ k = arity - k
 
-<<<<<<< ours
 loop-holds : tie.Need-loop-holds Inv-loop μ-loop
 loop-holds c = any-start (c .args .arity) (zero-add (c .args .arity))
 
@@ -61,37 +43,6 @@ returns-2 : tie.Need-returns-2 Inv-loop μ-loop
 returns-2 c =
     let start = c .before .before in
     any-end (c .before .loop .inv) (omega arith) ∙ any-take (start .args .arity) (start .args .t2) (omega arith)
-=======
--- src/lib.rt:143:5
-loop-holds : tie.Need-loop-holds Inv-loop μ-loop
-loop-holds c = any-start (c .args .arity) (zero-add (c .args .arity))
-
--- src/lib.rt:144:17
-array-read-if1 : tie.Need-array-read-if1 Inv-loop μ-loop
-array-read-if1 c = search needs
-
--- src/lib.rt:145:13
-returns : tie.Need-returns Inv-loop μ-loop
-returns c =
-    any-found (c .before .before .loop .inv) (omega arith) (eq-eqb _ _ (c .if1 .taken)) ∙ any-take (c .before .before .before .args .arity) (c .before .before .before .args .t2) (omega arith)
-
--- src/lib.rt:147:9
-add-k : tie.Need-add-k Inv-loop μ-loop
-add-k c = search needs
-
--- src/lib.rt:143:5
-loop-less : tie.Need-loop-less Inv-loop μ-loop
-loop-less c = search needs
-
--- src/lib.rt:143:5
-loop-again : tie.Need-loop-again Inv-loop μ-loop
-loop-again c = any-next (c .before .before .loop .inv) (omega arith) (ne-eqb _ _ (c .if1 .left))
-
--- src/lib.rt:138:1
-returns-2 : tie.Need-returns-2 Inv-loop μ-loop
-returns-2 c =
-    any-end (c .before .loop .inv) (omega arith) ∙ any-take (c .before .before .args .arity) (c .before .before .args .t2) (omega arith)
->>>>>>> theirs
 
 pub some-none-spec : {M : Type 1} → statement M
 some-none-spec =

@@ -1,4 +1,3 @@
-<<<<<<< ours
 -- A child without a state, or the transition of the children's states.
 use borrow.Author.Needs.{needs}
 use mathlib.Core.Path.{_∙_, sym}
@@ -14,31 +13,6 @@ returns c = rw (sym (c .before .some-none .ensures) ∙ c .if1 .taken)
 output-requires : tie.Need-output-requires
 output-requires c κs = search needs
 
-=======
-use mathlib.Core.Bool.{cond}
-use mathlib.Core.Path.{sym, _∙_}
-use borrow.Author.Needs.{needs}
-use Rattle.subtrees.proofs.state.Statement.{statement}
-use Rattle.subtrees.proofs.state.Tie as tie
-use Rattle.subtrees.proofs.state.Reads as reads
-use Rattle.subtrees.proofs.state.Lts as lts
-use Rattle.subtrees.proofs.output.Reads as output-reads
-use Rattle.subtrees.proofs.some_none.Reads as some-none-reads
-
--- src/lib.rt:170:8
-some-none-requires : tie.Need-some-none-requires
-some-none-requires c κs = search needs
-
--- src/lib.rt:171:9
-returns : tie.Need-returns
-returns c = rw (sym (c .before .some-none .ensures) ∙ c .if1 .taken)
-
--- src/lib.rt:173:5
-output-requires : tie.Need-output-requires
-output-requires c κs = search needs
-
--- src/lib.rt:165:1
->>>>>>> theirs
 returns-2 : tie.Need-returns-2
 returns-2 c = rw (sym (c .before .before .some-none .ensures) ∙ c .before .if1 .left) (c .output .ensures)
 

@@ -1,4 +1,3 @@
-<<<<<<< ours
 -- The loop at k has stored the first k numbers.
 use borrow.Author.Needs.{needs}
 use Prim.Native.Nat.{_-_}
@@ -6,16 +5,6 @@ use native.Mathlib.Omega.{arith}
 use Rattle.subtrees.proofs.Arrays.{StoredTo, stored-end, stored-next}
 use Rattle.subtrees.proofs.store_children.Statement.{statement}
 use Rattle.subtrees.proofs.store_children.Tie as tie
-=======
-use Prim.Native.Nat.{_-_}
-use native.Mathlib.Omega.{arith}
-use Rattle.subtrees.proofs.Arrays.{StoredTo, stored-end, stored-next}
-use borrow.Author.Needs.{needs}
-use Rattle.subtrees.proofs.store_children.Statement.{statement}
-use Rattle.subtrees.proofs.store_children.Tie as tie
-use Rattle.subtrees.proofs.store_children.Reads as reads
-use Rattle.subtrees.proofs.store_children.Lts as lts
->>>>>>> theirs
 
 abbrev Inv-loop : tie.InvT-loop
 Inv-loop children₀ j numbers k₀ children k = StoredTo children₀ j numbers children k
@@ -23,7 +12,6 @@ Inv-loop children₀ j numbers k₀ children k = StoredTo children₀ j numbers 
 abbrev μ-loop : tie.MeasureT-loop
 μ-loop children₀ j numbers k₀ children k = 8 - k
 
-<<<<<<< ours
 loop-holds : tie.Need-loop-holds Inv-loop μ-loop
 loop-holds c = search needs
 
@@ -48,41 +36,6 @@ loop-less c = search needs
 loop-again : tie.Need-loop-again Inv-loop μ-loop
 loop-again c = stored-next (c .before .loop .inv) (omega arith) (omega arith)
 
-=======
--- src/lib.rt:182:5
-loop-holds : tie.Need-loop-holds Inv-loop μ-loop
-loop-holds c = search needs
-
--- src/lib.rt:183:39
-array-read-children : tie.Need-array-read-children Inv-loop μ-loop
-array-read-children c = search needs
-
--- src/lib.rt:183:18
-mul-children : tie.Need-mul-children Inv-loop μ-loop
-mul-children c = search needs
-
--- src/lib.rt:183:18
-add-children : tie.Need-add-children Inv-loop μ-loop
-add-children c = search needs
-
--- src/lib.rt:183:9
-element-write-children : tie.Need-element-write-children Inv-loop μ-loop
-element-write-children c = search needs
-
--- src/lib.rt:184:9
-add-k : tie.Need-add-k Inv-loop μ-loop
-add-k c = search needs
-
--- src/lib.rt:182:5
-loop-less : tie.Need-loop-less Inv-loop μ-loop
-loop-less c = search needs
-
--- src/lib.rt:182:5
-loop-again : tie.Need-loop-again Inv-loop μ-loop
-loop-again c = stored-next (c .before .loop .inv) (omega arith) (omega arith)
-
--- src/lib.rt:176:1
->>>>>>> theirs
 returns : tie.Need-returns Inv-loop μ-loop
 returns c = stored-end (c .before .loop .inv) (omega arith)
 
