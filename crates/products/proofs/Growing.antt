@@ -25,6 +25,7 @@ use Rattle.automata.proofs.ProductLaws.{rising-distinct}
 use Rattle.automata.proofs.Steps.{Has, lookup-in, lookup-view}
 use Rattle.fields.proofs.Transitions.{length-transitionsIn}
 use Rattle.sorted.proofs.Inserted.{in-inserted-old, inserted-in}
+use Rattle.sorted.proofs.Searched.{key-args, key-label}
 use Rattle.table.specs.Layout.{bit}
 
 -- ---- sets
@@ -143,12 +144,6 @@ module _ (W : ℕ → Transition → Type 0) where
       let e : i ≡ m = omega arith in subst (λ (j : ℕ). Added (UpTo W j) s t n k) e a
 
 -- ---- one entry
-
-key-label : (σ τ : Transition) → key σ ≡ key τ → σ .label ≡ τ .label
-key-label σ τ e = cc
-
-key-args : (σ τ : Transition) → key σ ≡ key τ → σ .args ≡ τ .args
-key-args σ τ e = cc
 
 insert-keyed : (τ : Transition) (ls : List Transition) → Keyed (insertOrdered τ ls) τ
 insert-keyed τ [] = (τ, inl refl, refl, refl)

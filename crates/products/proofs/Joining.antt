@@ -95,6 +95,7 @@ module _ {A : Automaton} {t : Tree} {run : List ℕ} {count n : ℕ} {s : Subtre
 
   setting : Setting A t (bottomUp t) n (s .count) (s .labels) (s .arities) (s .children) (s .states)
   setting = record {
+    size = H .size;
     fit = in-every (λ τ. leb (τ .out) (states A)) (A .transitions)
         (λ τ i. le-leb (τ .out) (states A) (omega (arith, out τ i, H .size)));
     rises = H .rises;

@@ -17,7 +17,7 @@ use Rattle.lists.specs.Tests.{_∈_, any}
 use Rattle.products.specs.Growth.{Keyed, UpTo}
 use Rattle.products.specs.Pairs.{NodeAt, nodeTransition, pairOf}
 use Rattle.subtrees.specs.Store.{childAt, childNumbers, noTree, treesNumbered}
-use Rattle.trees.specs.Tree.{Forest, Tree, node}
+use Rattle.trees.specs.Tree.{Tree, node}
 use Rattle.automata.proofs.Change.{subtrees-closed}
 use Rattle.automata.proofs.Steps.{Has, Taken, lookup-in, lookup-view, step-view}
 use Rattle.automata.proofs.Subtrees.{numbered-subtree, run-subtree}
@@ -43,12 +43,6 @@ pub record NodeList (n m : ℕ) (l r c : List ℕ) (T : List Transition) : Type 
 abbrev pub Makes : ℕ → ℕ → List ℕ → List ℕ → List ℕ → List Transition → ℕ → List ℕ → Type 0
 Makes n m l r c T a ps =
     (j : ℕ) × (j < m) × (lookup a ps T ≡ n + j + 1) × (a ≡ getD l j 0) × (ps ≡ nodeTransition n l r c j .args)
-
-node-label : (a b : ℕ) (f g : Forest) → node a f ≡ node b g → a ≡ b
-node-label a b f g e = cc
-
-node-children : (a b : ℕ) (f g : Forest) → node a f ≡ node b g → f ≡ g
-node-children a b f g e = cc
 
 module _ {A : Automaton} {t : Tree} {ts : List Tree} {n m : ℕ} {l r c q : List ℕ}
     (S : Setting A t ts n m l r c q) where
@@ -151,10 +145,12 @@ module _ {A : Automaton} {t : Tree} {ts : List Tree} {n m : ℕ} {l r c q : List
             let (j, h, g) = in-getD ts (node a f) noTree (S .whole (node a f) i) in
             let b : j < m = omega (arith, S .stored .size) in
             let s = g ∙ S .stored .tree j b in
+            let x : a ≡ getD l j 0 = cc in
+            let y : treesNumbered ts ns ≡ treesNumbered ts (childNumbers r c j) = cc in
             let u = numbered-inj ts (S .stored .distinct) ns (childNumbers r c j)
             (subst (λ (k : ℕ). Among k ns) (sym (S .stored .size)) v) (stored-among (S .stored) j b)
-            (node-children _ _ _ _ s) in
-            lookup-some j b a ps (node-label _ _ _ _ s)
+            y in
+            lookup-some j b a ps x
             (d ∙ ap (map (plus n)) u ∙ sym (map-plus n (childAt c j) (upFrom 0 (getD r j 0)))) z
 
         go : (out ≡ 0) ⊎ Taken (treeAutomaton t) a (map snd (map (pairOf t ts n q) ps)) → out ≡ 0

@@ -8,7 +8,7 @@ use Prim.Native.Nat.{_+_, _-_, _≤_, ℕ}
 use native.Mathlib.Omega.{arith}
 use lib.Dec.{eqb, leb}
 use borrow.Author.Tests.{eqb-false, eqb-true, le-leb, leb-false, leb-true, lt-leb}
-use Rattle.automata.specs.Automaton.{Automaton, Transition, run, runs, step}
+use Rattle.automata.specs.Automaton.{Automaton, Transition, run, runs, states, step}
 use Rattle.automata.specs.Change.{subtreeAutomaton, subtreeNumber, subtrees}
 use Rattle.automata.specs.Order.{rising}
 use Rattle.automata.specs.Product.{fst, live, outPair, snd}
@@ -30,6 +30,7 @@ use Rattle.trees.proofs.Trees.{eqTree-same, eqTree-true}
 
 -- the automaton and the tree that the arrays of the subtrees hold
 pub record Setting (A : Automaton) (t : Tree) (ts : List Tree) (n m : ℕ) (l r c q : List ℕ) : Type 0 where
+  pub size : states A ≡ n
   pub fit : Fits A
   pub rises : rising (A .transitions) ≡ true
   pub args : (τ : Transition) → τ ∈ A .transitions → (b : ℕ) → b ∈ τ .args → (1 ≤ b) × (b ≤ n)

@@ -19,6 +19,7 @@ use Rattle.products.specs.Pairs.{LostAt, inUse, pairOf}
 use Rattle.subtrees.specs.Store.{childAt, childNumbers, noTree, treeNumbered}
 use Rattle.trees.specs.Tree.{Forest, Tree, cons, nil, node}
 use Rattle.automata.proofs.Change.{subtrees-closed}
+use Rattle.automata.proofs.Distinguishable.{run-fits}
 use Rattle.automata.proofs.Order.{lookup-transition}
 use Rattle.automata.proofs.ProductView.{PairStep}
 use Rattle.automata.proofs.Steps.{Taken, step-view}
@@ -113,11 +114,7 @@ module _ {A : Automaton} {t : Tree} {ts : List Tree} {n m : ℕ} {l r c q : List
   -- ---- trees
 
   pub run-bound : (u : Tree) → run A u ≤ n
-  run-bound (node a f) = go (step-view A a (runs A f))
-    where
-      go : (step A a (runs A f) ≡ 0) ⊎ Taken A a (runs A f) → step A a (runs A f) ≤ n
-      go (inl z) = omega arith
-      go (inr (e, (σ, i, x, y, o))) = omega (arith, S .out σ i, o)
+  run-bound u = omega (arith, run-fits A (S .fit) u, S .size)
 
   subtree-number : (u : Tree) → 1 ≤ run (treeAutomaton t) u →
       (x : ℕ) × (1 ≤ x) × (x ≤ m) × (treeNumbered ts x ≡ u)

@@ -7,7 +7,7 @@ ghost use Rattle.fields.specs.Fields.{RunsOver};
 ghost use Rattle.format.specs.Format.{maxNodes, maxStates, scratchBytes};
 ghost use Rattle.marking.specs.Marks.{marked};
 ghost use Rattle.sorted.specs.Sorted.{Sorted};
-ghost use Rattle.table.specs.Layout.{arityOf, nthTransition, transitionAt, transitionsIn};
+ghost use Rattle.table.specs.Layout.{arityOf, transitionAt, transitionsIn};
 ghost use Rattle.products.specs.Choices.{ChosenFrom, ChosenWith, Entry, Over, candidate, nthExpands, over};
 ghost use Rattle.products.specs.Growth.{Is, Live, Outcome, UpTo};
 ghost use Rattle.products.specs.Pairs.{LostAt, Nodes};
@@ -239,6 +239,7 @@ fn expand_node(
     emit(scratch, count, entry)
 }
 
+// Adds the transitions of all subtrees that run to no state.
 pub fn expand_lost(
     n: usize,
     m: usize,
