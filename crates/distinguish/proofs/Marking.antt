@@ -10,8 +10,8 @@ use lib.ListN.{getD, length, length-replicate, replicate, set}
 use lib.Seq.{getD-set-other, getD-set-same}
 use borrow.Author.Tests.{eq-eqb, eqb-false, eqb-true, ne-eqb, not-false, not-true}
 use Rattle.automata.specs.Automaton.{Automaton, accepting, lookup}
-use Rattle.distinguish.specs.Telling.{Copied, Seed, Tell, eitherWay, pairAt, pairCount, slotAt, stepAt}
-use Rattle.distinguish.specs.Telling.{toldApart, unmarked}
+use Rattle.distinguish.specs.Telling.{Led, Copied, Seed, Tell, eitherWay, pairAt, pairCount, slotAt, stepAt}
+use Rattle.distinguish.specs.Telling.{Led, toldApart, unmarked}
 use Rattle.fields.specs.Fields.{RunsOver}
 use Rattle.fields.specs.View.{viewed}
 use Rattle.format.specs.Format.{argsAt, maxArity, transitionBytes}
@@ -242,3 +242,25 @@ module _ (s : List ℕ) (c at k q : ℕ) (m : List ℕ) {a b : ℕ} (arg : a ≡
         (subst₂ (λ (u v : ℕ). eitherWay (marked m) u v ≡ true) out to (sym e ∙ not-false r d))
         (subst₂ (λ (i j : ℕ). Spread (Has (pairAt i j)) m m' f) arg other t)
         (subst₂ (λ (i j : ℕ). Spread (Has (pairAt j i)) m' m'' g) arg other u)
+
+-- ---- a pass with no claim to be complete
+
+pub led-none : (C : Rule) (m : List ℕ) → Led C m m
+led-none C m = record { size = refl; kept = λ i d. d; sound = λ p c h. h }
+
+pub led-then : {C : Rule} {m m' m'' : List ℕ} → Led C m m' → Led C m' m'' → Led C m m''
+led-then f g = record {
+  size = g .size ∙ f .size;
+  kept = λ i d. g .kept i (f .kept i d);
+  sound = λ p c h. g .sound p c (f .sound p c h);
+}
+
+pub led-spread : {C : Rule} {m m' : List ℕ} {r : Bool} → Spread C m m' r → Led C m m'
+led-spread s = record { size = s .swept .size; kept = s .swept .kept; sound = s .sound }
+
+-- a part of the rule was led
+pub led-part : {C D : Rule} {m m' : List ℕ} → ((p : ℕ → Bool) → D p → C p) → Led C m m' → Led D m m'
+led-part f s = record { size = s .size; kept = s .kept; sound = λ p d h. s .sound p (f p d) h }
+
+pub grown-led : {C : Rule} {m m' : List ℕ} {p : ℕ → Bool} → C p → Grown p m → Led C m m' → Grown p m'
+grown-led {p = p} c g s = record { size = s .size ∙ g .size; within = s .sound p c (g .within) }

@@ -14,7 +14,7 @@ use Rattle.lists.specs.Positions.{upFrom}
 use Rattle.lists.specs.Tests.{every}
 use Rattle.marking.specs.Marks.{marked, marks}
 use Rattle.table.specs.Layout.{argOf, arityOf, labelOf, outOf}
-use Rattle.validity.specs.Spread.{Rule, UpTo}
+use Rattle.validity.specs.Spread.{Covers, Rule, UpTo}
 
 abbrev pub pairCount : ℕ
 pairCount = 65536
@@ -86,3 +86,9 @@ SeedRow A n p = UpTo (Seed A p) (n + 1)
 pub record Copied (s : List ℕ) (at : ℕ) (r : List ℕ) : Type 0 where
   pub size : length r ≡ transitionBytes
   pub bytes : (j : ℕ) → j < transitionBytes → getD r j 0 ≡ getD s (at + j) 0
+
+-- marks were added, none that a closed set with the old marks lacks
+pub record Led (C : Rule) (m m' : List ℕ) : Type 0 where
+  pub size : length m' ≡ length m
+  pub kept : (i : ℕ) → marked m i ≡ true → marked m' i ≡ true
+  pub sound : (p : ℕ → Bool) → C p → Covers p m → Covers p m'

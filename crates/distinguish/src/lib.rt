@@ -5,6 +5,7 @@ mod marks; // a mark for each pair
 mod steps; // a transition with another argument
 mod seeds; // pairs of different classes
 mod telling; // from outputs to arguments
+mod ordering; // a good order for a first pass
 
 ghost use mathlib.Core.Bool.{true};
 ghost use mathlib.Core.Path.{_≡_};
@@ -19,6 +20,7 @@ ghost use Rattle.table.specs.Layout.{transitionsIn};
 ghost use Rattle.distinguish.specs.Telling.{MarksOf, allToldApart, toldApart, unmarked};
 use marks::PAIRS;
 pub use marks::blank;
+use ordering::tell_in_order;
 use seeds::seed_all;
 use telling::sweep;
 
@@ -30,6 +32,7 @@ pub fn distinguish(classes: &[u8], run: &[u8], count: usize, n: usize, marks: &m
     ensures { λ _. ⌜ MarksOf (now (marks .exit)) (viewed (now (classes .entry)) (now (run .entry)) n count) ⌝ }
 {
     while seed_all(classes, n, marks) {}
+    tell_in_order(run, count, n, marks);
     while sweep(run, count, n, marks) {}
 }
 

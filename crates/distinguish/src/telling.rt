@@ -70,7 +70,7 @@ fn tell_arg(run: &[u8], count: usize, n: usize, i: usize, k: usize, marks: &mut 
     changed
 }
 
-fn tell_at(run: &[u8], count: usize, n: usize, i: usize, marks: &mut [u8; PAIRS]) -> bool
+pub fn tell_at(run: &[u8], count: usize, n: usize, i: usize, marks: &mut [u8; PAIRS]) -> bool
     requires { ⌜ Sorted (now run) count ⌝ }
     requires { ⌜ RunsOver (now run) count n ⌝ }
     requires { ⌜ n ≤ 255 ⌝ }

@@ -1,0 +1,151 @@
+// A first pass in a good order: transitions whose outputs are nearer to the root come first, so that the sweeps that
+// follow find little left. An order decides how fast marks spread and never which, so depths have no contract.
+ghost use mathlib.Core.Path.{_≡_};
+ghost use Prim.Native.Nat.{_<_, _≤_};
+ghost use lib.ListN.{length};
+ghost use Rattle.fields.specs.Fields.{RunsOver};
+ghost use Rattle.sorted.specs.Sorted.{Sorted};
+ghost use Rattle.validity.specs.Spread.{UpTo};
+ghost use Rattle.distinguish.specs.Telling.{Led, nthTell, pairCount};
+use crate::marks::PAIRS;
+use crate::telling::tell_at;
+use fields::wide;
+use format::ARGS_AT;
+use format::OUT_AT;
+use format::TRANSITION_BYTES;
+
+// State a is deeper than out. Answers whether its depth has grown.
+fn put_below(depths: &mut [u8; 256], a: usize, out: usize) -> bool
+    requires { ⌜ a ≤ 255 ⌝ }
+    requires { ⌜ out ≤ 255 ⌝ }
+    requires { ⌜ length (now depths) ≡ 256 ⌝ }
+    ensures { λ _. ⌜ length (now (depths .exit)) ≡ 256 ⌝ }
+{
+    let depth = depths[out];
+    if 254 < depth {
+        return false;
+    }
+    if depth < depths[a] {
+        return false;
+    }
+    depths[a] = depth + 1;
+    true
+}
+
+// Each argument of transition i is deeper than its output. Answers whether a depth has grown.
+fn deepen(run: &[u8], count: usize, n: usize, i: usize, depths: &mut [u8; 256]) -> bool
+    requires { ⌜ RunsOver (now run) count n ⌝ }
+    requires { ⌜ n ≤ 255 ⌝ }
+    requires { ⌜ i < count ⌝ }
+    requires { ⌜ length (now depths) ≡ 256 ⌝ }
+    ensures { λ _. ⌜ length (now (depths .exit)) ≡ 256 ⌝ }
+{
+    let arity = wide(run[TRANSITION_BYTES * i + ARGS_AT - 1]);
+    let out = wide(run[TRANSITION_BYTES * i + OUT_AT]);
+    let mut changed = false;
+    let mut k = 0;
+    while k < arity {
+        let a = wide(run[TRANSITION_BYTES * i + ARGS_AT + k]);
+        let r = put_below(depths, a, out);
+        changed = changed | r;
+        k += 1;
+    }
+    changed
+}
+
+fn deepen_all(run: &[u8], count: usize, n: usize, depths: &mut [u8; 256]) -> bool
+    requires { ⌜ RunsOver (now run) count n ⌝ }
+    requires { ⌜ n ≤ 255 ⌝ }
+    requires { ⌜ length (now depths) ≡ 256 ⌝ }
+    ensures { λ _. ⌜ length (now (depths .exit)) ≡ 256 ⌝ }
+{
+    let mut changed = false;
+    let mut i = 0;
+    while i < count {
+        let r = deepen(run, count, n, i, depths);
+        changed = changed | r;
+        i += 1;
+    }
+    changed
+}
+
+// Transition i, where its output is at this depth.
+fn tell_there(
+    run: &[u8],
+    count: usize,
+    n: usize,
+    depths: &[u8; 256],
+    depth: usize,
+    i: usize,
+    marks: &mut [u8; PAIRS],
+)
+    requires { ⌜ Sorted (now run) count ⌝ }
+    requires { ⌜ RunsOver (now run) count n ⌝ }
+    requires { ⌜ n ≤ 255 ⌝ }
+    requires { ⌜ i < count ⌝ }
+    requires { ⌜ length (now marks) ≡ pairCount ⌝ }
+    ensures { λ _. ⌜ Led (nthTell (now (run .entry)) count n i) (now (marks .entry)) (now (marks .exit)) ⌝ }
+{
+    let out = wide(run[TRANSITION_BYTES * i + OUT_AT]);
+    if wide(depths[out]) != depth {
+        return;
+    }
+    tell_at(run, count, n, i, marks);
+}
+
+// The transitions whose outputs are at one depth.
+fn tell_level(
+    run: &[u8],
+    count: usize,
+    n: usize,
+    depths: &[u8; 256],
+    depth: usize,
+    marks: &mut [u8; PAIRS],
+)
+    requires { ⌜ Sorted (now run) count ⌝ }
+    requires { ⌜ RunsOver (now run) count n ⌝ }
+    requires { ⌜ n ≤ 255 ⌝ }
+    requires { ⌜ length (now marks) ≡ pairCount ⌝ }
+    ensures { λ _. ⌜ Led (UpTo (nthTell (now (run .entry)) count n) count) (now (marks .entry)) (now (marks .exit)) ⌝ }
+{
+    let mut i = 0;
+    while i < count {
+        tell_there(run, count, n, depths, depth, i, marks);
+        i += 1;
+    }
+}
+
+// All transitions, the least depth first.
+fn tell_levels(run: &[u8], count: usize, n: usize, depths: &[u8; 256], marks: &mut [u8; PAIRS])
+    requires { ⌜ Sorted (now run) count ⌝ }
+    requires { ⌜ RunsOver (now run) count n ⌝ }
+    requires { ⌜ n ≤ 255 ⌝ }
+    requires { ⌜ length (now marks) ≡ pairCount ⌝ }
+    ensures { λ _. ⌜ Led (UpTo (nthTell (now (run .entry)) count n) count) (now (marks .entry)) (now (marks .exit)) ⌝ }
+{
+    let mut depth = 0;
+    while depth < 256 {
+        tell_level(run, count, n, depths, depth, marks);
+        depth += 1;
+    }
+}
+
+// Twice: the first time also tells every state from none, which may tell apart pairs that came too early.
+pub fn tell_in_order(run: &[u8], count: usize, n: usize, marks: &mut [u8; PAIRS])
+    requires { ⌜ Sorted (now run) count ⌝ }
+    requires { ⌜ RunsOver (now run) count n ⌝ }
+    requires { ⌜ n ≤ 255 ⌝ }
+    requires { ⌜ length (now marks) ≡ pairCount ⌝ }
+    ensures { λ _. ⌜ Led (UpTo (nthTell (now (run .entry)) count n) count) (now (marks .entry)) (now (marks .exit)) ⌝ }
+{
+    let mut depths = [0u8; 256];
+    let mut turn = 0;
+    while turn < n {
+        if !deepen_all(run, count, n, &mut depths) {
+            break;
+        }
+        turn += 1;
+    }
+    tell_levels(run, count, n, &depths, marks);
+    tell_levels(run, count, n, &depths, marks);
+}
