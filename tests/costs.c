@@ -75,7 +75,7 @@ static void star(void)
     leave(STATES);
 }
 
-/* Each state under the next, the labels rising or falling along the chain; `places` arguments, `each` of them for a state
+/* Each state under the next, the labels rising or falling along the chain; `places` arguments, `each` of them a state
    where there is room. */
 static void chain(int falling, unsigned places, unsigned each)
 {
