@@ -1,0 +1,18 @@
+//! The proved library through its C interface.
+
+mod c {
+    extern "C" {
+        pub fn scalebench_ask(tree: *const u8, tree_len: usize, table: *const u8, table_len: usize) -> u64;
+        pub fn scalebench_intake(table: *const u8, table_len: usize) -> u64;
+    }
+}
+
+pub fn ask(tree: &[u8], table: &[u8]) -> u64 {
+    // SAFETY: pointer and length are those of a slice; the call only reads.
+    unsafe { c::scalebench_ask(tree.as_ptr(), tree.len(), table.as_ptr(), table.len()) }
+}
+
+pub fn intake(table: &[u8]) -> u64 {
+    // SAFETY: as above.
+    unsafe { c::scalebench_intake(table.as_ptr(), table.len()) }
+}

@@ -1,0 +1,93 @@
+//! A second Scalebench, written from the paper (split, clone and local minimisation) and from document 01's numbering,
+//! layout and refusals. It shares nothing with the proved one and is compared with it, byte for byte.
+
+pub mod automaton;
+pub mod table;
+pub mod tree;
+
+use automaton::{Automaton, TooMany};
+use table::{encode, intake, MAX_PRODUCT, MAX_STATES, MAX_TRANSITIONS, SCRATCH_BYTES, TABLE_BYTES};
+
+/// What a call answers.
+#[derive(Clone, Copy, Debug, PartialEq, Eq)]
+pub enum Answer {
+    Approved,
+    NotApproved,
+    Counts { states: usize, transitions: usize },
+    Refused(u8),
+}
+
+impl Answer {
+    /// The number that the C interface returns.
+    pub fn packed(self) -> u64 {
+        match self {
+            Answer::Approved => 256,
+            Answer::NotApproved => 0,
+            Answer::Counts { states, transitions } => 65_536 * states as u64 + 4_294_967_296 * transitions as u64,
+            Answer::Refused(number) => u64::from(number),
+        }
+    }
+}
+
+fn counts(automaton: &Automaton) -> Answer {
+    Answer::Counts { states: automaton.accepting.len(), transitions: automaton.transitions.len() }
+}
+
+pub fn ask(listing: &[u8], table: &[u8]) -> Answer {
+    let read = tree::read(listing).and_then(|tree| Ok((tree, intake(table)?)));
+    match read {
+        Err(number) => Answer::Refused(number),
+        Ok((tree, automaton)) if automaton.accepts(automaton.run(&tree)) => Answer::Approved,
+        Ok(_) => Answer::NotApproved,
+    }
+}
+
+pub fn take_in(table: &[u8]) -> Answer {
+    match intake(table) {
+        Err(number) => Answer::Refused(number),
+        Ok(automaton) => counts(&automaton),
+    }
+}
+
+pub fn add(listing: &[u8], table: &mut [u8], scratch: &mut [u8]) -> Answer {
+    change(listing, table, scratch, true)
+}
+
+pub fn remove(listing: &[u8], table: &mut [u8], scratch: &mut [u8]) -> Answer {
+    change(listing, table, scratch, false)
+}
+
+fn change(listing: &[u8], table: &mut [u8], scratch: &mut [u8], add: bool) -> Answer {
+    match changed(listing, table, scratch.len(), add) {
+        Err(number) => {
+            if number >= 16 {
+                scratch.fill(0);
+            }
+            Answer::Refused(number)
+        }
+        Ok(automaton) => {
+            table.copy_from_slice(&encode(&automaton));
+            scratch.fill(0);
+            counts(&automaton)
+        }
+    }
+}
+
+fn changed(listing: &[u8], table: &[u8], scratch: usize, add: bool) -> Result<Automaton, u8> {
+    let tree = tree::read(listing)?;
+    if table.len() != TABLE_BYTES {
+        return Err(5);
+    }
+    if scratch != SCRATCH_BYTES {
+        return Err(6);
+    }
+    let automaton = intake(table)?;
+    if automaton.accepts(automaton.run(&tree)) == add {
+        return Err(if add { 14 } else { 15 });
+    }
+    match automaton.changed(&tree, add, MAX_PRODUCT) {
+        Err(TooMany) => Err(16),
+        Ok(new) if new.accepting.len() > MAX_STATES || new.transitions.len() > MAX_TRANSITIONS => Err(17),
+        Ok(new) => Ok(new),
+    }
+}
