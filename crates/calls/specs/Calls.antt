@@ -66,11 +66,15 @@ abbrev pub presence : Change → Bool → Condition
 presence (insert t) present = condition 14 (not present)
 presence (delete t) present = condition 15 present
 
+-- 16 and 17, from the set's automaton
+abbrev pub sizeConditions : Change → Automaton → List Condition
+sizeConditions c A =
+    condition 16 (leb (productTransitions A (changedTree c)) maxProduct) ∷
+    condition 17 (fitsTable (changed c A)) ∷ []
+
 -- 14 or 15, 16 and 17, from whether the tree is in the set and the set's automaton
 unfoldable pub changeConditions : Change → Bool → Automaton → List Condition
-changeConditions c present A =
-    presence c present ∷ condition 16 (leb (productTransitions A (changedTree c)) maxProduct) ∷
-    condition 17 (fitsTable (changed c A)) ∷ []
+changeConditions c present A = presence c present ∷ sizeConditions c A
 
 -- condition 6
 abbrev pub scratchCondition : List ℕ → Condition

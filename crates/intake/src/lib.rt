@@ -65,7 +65,7 @@ fn automaton_refusal(classes: &[u8], run: &[u8], count: usize, n: usize) -> u8
 }
 
 // Refusals 7 to 13 of a table of the right length, or 0.
-fn content_refusal(table: &[u8]) -> u8
+pub fn content_refusal(table: &[u8]) -> u8
     requires { ⌜ length (now table) ≡ tableBytes ⌝ }
     ensures { λ r. ⌜ r ≡ firstBroken (contentConditions (now (table .entry))) ⌝ }
 {

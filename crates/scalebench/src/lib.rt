@@ -1,11 +1,22 @@
 // The calls on byte slices, each also for a C host. No public function has a `requires`: any bytes of any length get
 // the answer that document 01 gives.
+mod lines; // lines of text
+
 ghost use mathlib.Core.Path.{_≡_};
 ghost use Prim.Native.Nat.{_*_, _+_, _≤_};
-ghost use Rattle.calls.specs.Calls.{askAnswer, askRefusal, intakeAnswer};
-ghost use Rattle.format.specs.Format.{maxTransitions};
+ghost use Rattle.calls.specs.Calls.{addResult, askAnswer, askRefusal, changeResult, intakeAnswer, removeResult};
+ghost use Rattle.change.specs.Changing.{changeOf, changedAnswer, resultOf};
+ghost use Rattle.format.specs.Format.{maxStates, maxTransitions};
+ghost use Rattle.trees.specs.Listing.{readTree};
+ghost use Rattle.trees.specs.Tree.{Tree};
+ghost use Rattle.scalebench.specs.Changes.{Counted, beforeChange, presenceRefusal};
 ghost use Rattle.scalebench.specs.Host.{askedAnswer, packed, packedCounts, takenAnswer};
+use change::Changed;
 use fields::transition_count;
+use fields::wide;
+use format::SCRATCH_BYTES;
+use format::TABLE_BYTES;
+use intake::content_refusal;
 use running::accepted;
 
 // What ask answers.
@@ -17,7 +28,7 @@ pub enum Asked {
 
 // What intake answers: the numbers of states and of transitions.
 pub enum Taken {
-    Accepted { states: u8, transitions: usize },
+    Accepted { states: usize, transitions: usize },
     Refused { number: u8 },
 }
 
@@ -29,11 +40,12 @@ fn widened(x: u8) -> u64
 }
 
 // Two numbers in one.
-fn counts(states: u8, transitions: usize) -> u64
+fn counts(states: usize, transitions: usize) -> u64
+    requires { ⌜ states ≤ maxStates ⌝ }
     requires { ⌜ transitions ≤ maxTransitions ⌝ }
     ensures { λ r. ⌜ r ≡ packedCounts states transitions ⌝ }
 {
-    65536 * widened(states) + 4294967296 * transitions as u64
+    65536 * states as u64 + 4294967296 * transitions as u64
 }
 
 // The first of refusals 1 to 5 and 7 to 13 that applies, or 0.
@@ -71,9 +83,117 @@ pub fn take_in(table: &[u8]) -> Taken
     }
     let transitions = transition_count(table);
     Taken::Accepted {
-        states: table[0],
+        states: wide(table[0]),
         transitions,
     }
+}
+
+// Refusal 14 where an added tree is there already, 15 where a removed one is not, or 0.
+fn presence_refusal(inserting: bool, present: bool) -> u8
+    ensures { λ r. ⌜ ((t : Tree) → r ≡ presenceRefusal (changeOf inserting t) present) ⌝ }
+{
+    if inserting {
+        if present {
+            return 14;
+        }
+        return 0;
+    }
+    if present {
+        return 0;
+    }
+    15
+}
+
+// The first of refusals 1 to 15 that applies to a change, or 0.
+fn change_refusal(tree: &[u8], table: &[u8], scratch: &[u8], inserting: bool) -> u8
+    ensures { λ r. ⌜ r ≡ beforeChange (changeOf inserting (readTree (now (tree .entry)))) (now (tree .entry))
+        (now (table .entry)) (now (scratch .entry)) ⌝ }
+{
+    let number = listing::refusal(tree);
+    if number != 0 {
+        return number;
+    }
+    if table.len() != TABLE_BYTES {
+        return 5;
+    }
+    if scratch.len() != SCRATCH_BYTES {
+        return 6;
+    }
+    let broken = content_refusal(table);
+    if broken != 0 {
+        return broken;
+    }
+    let present = accepted(tree, table);
+    presence_refusal(inserting, present)
+}
+
+// Puts the tree into the table's set or takes it out.
+fn change(tree: &[u8], table: &mut [u8], scratch: &mut [u8], inserting: bool) -> Changed
+    ensures { λ r. ⌜ resultOf r (now (table .exit)) (now (scratch .exit)) ≡
+        changeResult (changeOf inserting (readTree (now (tree .entry)))) (now (tree .entry)) (now (table .entry))
+        (now (scratch .entry)) ⌝ }
+{
+    let number = change_refusal(tree, table, scratch, inserting);
+    if number != 0 {
+        return Changed::Refused { number };
+    }
+    change::change(tree, table, scratch, inserting)
+}
+
+// Puts the tree into the table's set.
+pub fn add(tree: &[u8], table: &mut [u8], scratch: &mut [u8]) -> Changed
+    ensures { λ r. ⌜ resultOf r (now (table .exit)) (now (scratch .exit)) ≡
+        addResult (now (tree .entry)) (now (table .entry)) (now (scratch .entry)) ⌝ }
+{
+    change(tree, table, scratch, true)
+}
+
+// Takes the tree out of the table's set.
+pub fn remove(tree: &[u8], table: &mut [u8], scratch: &mut [u8]) -> Changed
+    ensures { λ r. ⌜ resultOf r (now (table .exit)) (now (scratch .exit)) ≡
+        removeResult (now (tree .entry)) (now (table .entry)) (now (scratch .entry)) ⌝ }
+{
+    change(tree, table, scratch, false)
+}
+
+// The number that stands for the answer to a change.
+fn packed_change(answer: Changed) -> u64
+    requires { ⌜ Counted answer ⌝ }
+    ensures { λ r. ⌜ r ≡ packed (changedAnswer answer) ⌝ }
+{
+    match answer {
+        Changed::Done {
+            states,
+            transitions,
+        } => counts(states, transitions),
+        Changed::Refused { number } => widened(number),
+    }
+}
+
+#[no_mangle]
+pub extern "C" fn scalebench_add(tree: &[u8], table: &mut [u8], scratch: &mut [u8]) -> u64
+    ensures answer { λ r. ⌜ r ≡
+        packed (addResult (now (tree .entry)) (now (table .entry)) (now (scratch .entry)) .answer) ⌝ }
+    ensures left { λ _. ⌜ now (table .exit) ≡
+        addResult (now (tree .entry)) (now (table .entry)) (now (scratch .entry)) .table ⌝ }
+    ensures cleared { λ _. ⌜ now (scratch .exit) ≡
+        addResult (now (tree .entry)) (now (table .entry)) (now (scratch .entry)) .scratch ⌝ }
+{
+    let answer = add(tree, table, scratch);
+    packed_change(answer)
+}
+
+#[no_mangle]
+pub extern "C" fn scalebench_remove(tree: &[u8], table: &mut [u8], scratch: &mut [u8]) -> u64
+    ensures answer { λ r. ⌜ r ≡
+        packed (removeResult (now (tree .entry)) (now (table .entry)) (now (scratch .entry)) .answer) ⌝ }
+    ensures left { λ _. ⌜ now (table .exit) ≡
+        removeResult (now (tree .entry)) (now (table .entry)) (now (scratch .entry)) .table ⌝ }
+    ensures cleared { λ _. ⌜ now (scratch .exit) ≡
+        removeResult (now (tree .entry)) (now (table .entry)) (now (scratch .entry)) .scratch ⌝ }
+{
+    let answer = remove(tree, table, scratch);
+    packed_change(answer)
 }
 
 #[no_mangle]

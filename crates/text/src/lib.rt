@@ -13,7 +13,8 @@ mod cursor; // cursor.rt: from the place of a byte to its column
 
 const MAX_LINE: usize = 512;
 
-const LISTING_BYTES: usize = 252;
+// The bytes of a table for a listing: a line of 512 bytes has at most 126 nodes.
+pub const LISTING_BYTES: usize = 252;
 
 const OPEN: u8 = 40;
 
@@ -103,7 +104,7 @@ fn read_label(s: &[u8]) -> Label
 }
 
 // Stores a byte, where there is room for it.
-fn put(listing: &mut [u8; 252], i: usize, value: u8)
+fn put(listing: &mut [u8; LISTING_BYTES], i: usize, value: u8)
     requires { ⌜ length (now listing) ≡ listingBytes ⌝ }
     ensures { λ _. ⌜ now (listing .exit) ≡ set (now (listing .entry)) i value ⌝ }
 {
@@ -113,7 +114,7 @@ fn put(listing: &mut [u8; 252], i: usize, value: u8)
 }
 
 // Reads the tree that s starts with, and writes its listing from byte `at` on.
-fn tree(s: &[u8], listing: &mut [u8; 252], at: usize) -> Read
+fn tree(s: &[u8], listing: &mut [u8; LISTING_BYTES], at: usize) -> Read
     requires { ⌜ Room (now s) (now listing) at ⌝ }
     ensures { λ r. ⌜ TreeRead (now (s .entry)) (now (listing .entry)) at (now (listing .exit)) r ⌝ }
 {
@@ -138,7 +139,7 @@ fn tree(s: &[u8], listing: &mut [u8; 252], at: usize) -> Read
 }
 
 // Reads children, each after a space, and the closing bracket behind them; writes their listings from byte `at` on.
-fn children(s: &[u8], listing: &mut [u8; 252], at: usize) -> Read
+fn children(s: &[u8], listing: &mut [u8; LISTING_BYTES], at: usize) -> Read
     requires { ⌜ Room (now s) (now listing) at ⌝ }
     ensures { λ r. ⌜ ChildrenRead (now (s .entry)) (now (listing .entry)) at (now (listing .exit)) r ⌝ }
 {
@@ -180,7 +181,7 @@ fn agreeing(s: &[u8], w: &[u8]) -> usize
     i
 }
 
-fn clear(listing: &mut [u8; 252])
+fn clear(listing: &mut [u8; LISTING_BYTES])
     requires { ⌜ length (now listing) ≡ listingBytes ⌝ }
     ensures { λ _. ⌜ now (listing .exit) ≡ blank ⌝ }
 {
@@ -209,7 +210,7 @@ fn close_line(line: &[u8], end: usize, len: usize) -> Found
 }
 
 // Reads a line that is to start with `head` and a tree, and writes the tree's listing.
-fn read_form(line: &[u8], head: &[u8], listing: &mut [u8; 252]) -> Found
+fn read_form(line: &[u8], head: &[u8], listing: &mut [u8; LISTING_BYTES]) -> Found
     requires { ⌜ length (now line) ≤ maxLine ⌝ }
     requires { ⌜ shortestHead ≤ length (now head) ⌝ }
     requires { ⌜ length (now listing) ≡ listingBytes ⌝ }
@@ -236,7 +237,7 @@ fn larger(x: usize, y: usize) -> usize
 }
 
 // Reads a line. The listing of its tree goes to `listing`, with zeros behind it; all zeros where there is none.
-pub fn read_line(line: &[u8], listing: &mut [u8; 252]) -> Parsed
+pub fn read_line(line: &[u8], listing: &mut [u8; LISTING_BYTES]) -> Parsed
     requires { ⌜ length (now listing) ≡ listingBytes ⌝ }
     ensures answer { λ r. ⌜ r ≡ parsed (readLine (now (line .entry))) ⌝ }
     ensures listing { λ r. ⌜ now (listing .exit) ≡ listed (readLine (now (line .entry))) ⌝ }

@@ -1,0 +1,5 @@
+pub mod Clearing
+pub mod Pairs
+pub mod Given
+pub mod Exact
+pub mod Answering

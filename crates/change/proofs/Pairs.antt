@@ -1,0 +1,68 @@
+-- The classes of the pairs of a product, one after another.
+use mathlib.Core.Bool.{Bool, false, true}
+use mathlib.Core.List.{List}
+use mathlib.Core.Logic.{_≢_}
+use mathlib.Core.Path.{_∙_, _≡_, ap, refl, sym}
+use Prim.Native.Nat.{_+_, _-_, _<_, _≤_, ℕ}
+use native.Mathlib.Omega.{arith}
+use lib.Dec.{eqb}
+use lib.ListN.{getD, length, length-replicate, length-set, replicate, set}
+use lib.Seq.{getD-set-other, getD-set-same}
+use borrow.Author.Tests.{eq-eqb, eqb-false, eqb-true, le-leb, lt-leb, ne-eqb}
+use Rattle.change.specs.Classes.{Classed, nameCount, pairClass}
+use Rattle.products.specs.Pairs.{stateOf}
+use Rattle.table.specs.Layout.{classAt}
+
+-- ---- the state and the class of a number
+
+module _ (n : ℕ) (q : List ℕ) (p : ℕ) where
+  pub state-low : p ≤ n → p ≡ stateOf n q p
+  state-low h = rw (le-leb p n h)
+
+  pub state-high : n < p → {s : ℕ} → s ≡ getD q (p - n - 1) 0 → s ≡ stateOf n q p
+  state-high h e = rw (lt-leb p n h) e
+
+module _ (b : List ℕ) (n : ℕ) (q : List ℕ) (own : ℕ) (inserting : Bool) (p : ℕ) where
+  pub class-own : p ≡ own → {c : Bool} → c ≡ inserting → c ≡ pairClass b n q own inserting p
+  unfolding pairClass
+  class-own e d = rw (eq-eqb p own e) d
+
+  module _ (other : p ≢ own) {s : ℕ} (e : s ≡ stateOf n q p) where
+    pub class-none : s ≡ 0 → false ≡ pairClass b n q own inserting p
+    unfolding pairClass
+    class-none z = rw (ne-eqb p own other, ← e, eq-eqb s 0 z)
+
+    pub class-some : s ≢ 0 → classAt b s ≡ pairClass b n q own inserting p
+    unfolding pairClass
+    class-some z = rw (ne-eqb p own other, ← e, ne-eqb s 0 z)
+
+-- ---- all numbers
+
+-- the classes below p are there
+pub record ClassedBelow (f : ℕ → Bool) (cl : List ℕ) (p : ℕ) : Type 0 where
+  pub size : length cl ≡ nameCount
+  pub class : (i : ℕ) → 1 ≤ i → i < p → classAt cl i ≡ f i
+
+module _ {f : ℕ → Bool} where
+  pub classed-start : ClassedBelow f (replicate nameCount 0) 1
+  classed-start =
+      record { size = length-replicate {A = ℕ} nameCount 0; class = λ i h l. absurd (omega arith) }
+
+  pub classed-next : {cl : List ℕ} {p : ℕ} → ClassedBelow f cl p → p < nameCount → (x : ℕ) → eqb x 1 ≡ f p →
+      ClassedBelow f (set cl p x) (p + 1)
+  classed-next {cl} {p} inv h x e = record {
+    size = length-set cl p x ∙ inv .size;
+    class = λ i l m. go i l m (eqb i p) refl;
+  }
+    where
+      go : (i : ℕ) → 1 ≤ i → i < p + 1 → (c : Bool) → eqb i p ≡ c → classAt (set cl p x) i ≡ f i
+      go i l m true z =
+          let d = eqb-true i p z in
+          ap (λ j. classAt (set cl p x) j) d ∙
+          ap (λ y. eqb y 1) (getD-set-same cl p x 0 (omega (arith, inv .size))) ∙ e ∙ ap f (sym d)
+      go i l m false z =
+          let d = eqb-false i p z in
+          ap (λ y. eqb y 1) (getD-set-other cl p i x 0 d) ∙ inv .class i l (omega arith)
+
+  pub classed-end : {cl : List ℕ} {p k : ℕ} → ClassedBelow f cl p → k < p → Classed f k cl
+  classed-end inv h = record { size = inv .size; class = λ i l m. inv .class i l (omega arith) }

@@ -1,0 +1,82 @@
+// The classes of the pairs of a product: those of their states, but that of the tree's own pair is set or cleared.
+ghost use mathlib.Core.Path.{_≡_};
+ghost use Prim.Native.Nat.{_+_, _≤_};
+ghost use lib.Dec.{eqb};
+ghost use lib.ListN.{length};
+ghost use Rattle.format.specs.Format.{maxNodes, maxStates, tableBytes};
+ghost use Rattle.products.specs.Pairs.{stateOf};
+ghost use Rattle.change.specs.Classes.{Classed, pairClass};
+use fields::wide;
+use format::MAX_NODES;
+
+// An entry for each number that a byte can have.
+pub const NAMES: usize = 256;
+
+// The state of the pair with number p.
+fn state_of(n: usize, states: &[u8; MAX_NODES], p: usize) -> u8
+    requires { ⌜ n ≤ maxStates ⌝ }
+    requires { ⌜ p ≤ n + maxNodes ⌝ }
+    ensures { λ r. ⌜ r ≡ stateOf n (now (states .entry)) p ⌝ }
+{
+    if p <= n {
+        return p as u8;
+    }
+    states[p - n - 1]
+}
+
+// The class of the pair with number p.
+fn class_of(
+    table: &[u8],
+    n: usize,
+    states: &[u8; MAX_NODES],
+    own: usize,
+    inserting: bool,
+    p: usize,
+) -> u8
+    requires { ⌜ length (now table) ≡ tableBytes ⌝ }
+    requires { ⌜ n ≤ maxStates ⌝ }
+    requires { ⌜ p ≤ n + maxNodes ⌝ }
+    ensures { λ r. ⌜ eqb r 1 ≡ pairClass (now (table .entry)) n (now (states .entry)) own inserting p ⌝ }
+{
+    if p == own {
+        return own_class(inserting);
+    }
+    let q = wide(state_of(n, states, p));
+    if q == 0 {
+        return 0;
+    }
+    table[q]
+}
+
+// A class as its byte.
+fn own_class(accepting: bool) -> u8
+    ensures { λ r. ⌜ eqb r 1 ≡ accepting ⌝ }
+{
+    if accepting {
+        return 1;
+    }
+    0
+}
+
+// The classes of the pairs 1 to n + m, each at the byte of its number.
+pub fn pair_classes(
+    table: &[u8],
+    n: usize,
+    m: usize,
+    states: &[u8; MAX_NODES],
+    own: usize,
+    inserting: bool,
+) -> [u8; NAMES]
+    requires { ⌜ length (now table) ≡ tableBytes ⌝ }
+    requires { ⌜ n ≤ maxStates ⌝ }
+    requires { ⌜ m ≤ maxNodes ⌝ }
+    ensures { λ r. ⌜ Classed (pairClass (now (table .entry)) n (now (states .entry)) own inserting) (n + m) r ⌝ }
+{
+    let mut classes = [0u8; NAMES];
+    let mut p = 1;
+    while p <= n + m {
+        classes[p] = class_of(table, n, states, own, inserting, p);
+        p += 1;
+    }
+    classes
+}

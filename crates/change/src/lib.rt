@@ -1,0 +1,103 @@
+// A tree put into the set of a table, or taken out: the product of the table and the tree in the scratch, the class of
+// the tree's own pair set or cleared, and the minimal automaton of that written to the table. Refusals 16 and 17.
+mod classes; // a class for each pair
+
+ghost use mathlib.Core.Bool.{true};
+ghost use mathlib.Core.Path.{_≡_};
+ghost use lib.ListN.{length, replicate};
+ghost use Rattle.automata.specs.Minimal.{minimal};
+ghost use Rattle.automata.specs.Order.{rising};
+ghost use Rattle.fields.specs.View.{Viewed, viewed};
+ghost use Rattle.format.specs.Format.{scratchBytes, tableBytes};
+ghost use Rattle.minimize.specs.Made.{madeOf, writtenTo};
+ghost use Rattle.table.specs.Intake.{tableRefusal};
+ghost use Rattle.table.specs.Layout.{transitionsIn};
+ghost use Rattle.trees.specs.Listing.{listingRefusal, readTree};
+ghost use Rattle.change.specs.Changing.{Worked, changeOf, changedOutcome, resultOf};
+use classes::pair_classes;
+use distinguish::blank;
+use distinguish::distinguish;
+use fields::transition_count;
+use fields::wide;
+use format::HEAD_BYTES;
+use minimize::write::Made;
+use minimize::write::write;
+use products::Produced;
+use products::product;
+use subtrees::collect;
+
+// What a change answers: the new numbers of states and of transitions.
+pub enum Changed {
+    Done { states: usize, transitions: usize },
+    Refused { number: u8 },
+}
+
+// Zeroes every byte.
+fn clear(scratch: &mut [u8])
+    ensures { λ _. ⌜ now (scratch .exit) ≡ replicate (length (now (scratch .entry))) 0 ⌝ }
+{
+    let mut i = 0;
+    while i < scratch.len() {
+        scratch[i] = 0;
+        i += 1;
+    }
+}
+
+// Writes the minimal automaton of a run to a table; where the table cannot hold it, leaves the table as it is.
+fn minimize(run: &mut [u8], count: usize, classes: &[u8], n: usize, table: &mut [u8]) -> Made
+    requires { ⌜ Viewed (now classes) (now run) n count ⌝ }
+    requires { ⌜ rising (transitionsIn (now run) count) ≡ true ⌝ }
+    requires { ⌜ length (now table) ≡ tableBytes ⌝ }
+    ensures { λ r. ⌜ r ≡ madeOf (minimal (viewed (now (classes .entry)) (now (run .entry)) n count)) ⌝ }
+    ensures { λ _. ⌜ now (table .exit) ≡
+        writtenTo (minimal (viewed (now (classes .entry)) (now (run .entry)) n count)) (now (table .entry)) ⌝ }
+{
+    let mut marks = blank();
+    distinguish(classes, run, count, n, &mut marks);
+    write(run, count, classes, n, &marks, table)
+}
+
+// Puts the tree in or takes it out, and leaves anything in the scratch.
+fn work(tree: &[u8], table: &mut [u8], scratch: &mut [u8], inserting: bool) -> Changed
+    requires { ⌜ listingRefusal (now tree) ≡ 0 ⌝ }
+    requires { ⌜ tableRefusal (now table) ≡ 0 ⌝ }
+    requires { ⌜ length (now scratch) ≡ scratchBytes ⌝ }
+    ensures { λ r. ⌜ Worked (changeOf inserting (readTree (now (tree .entry)))) (now (table .entry))
+        (now (table .exit)) r ⌝ }
+{
+    let n = wide(table[0]);
+    let count = transition_count(table);
+    let s = collect(tree, &table[HEAD_BYTES..], count);
+    let m = s.count;
+    let own = n + wide(s.root);
+    let states = s.states;
+    let Produced::Transitions { count: made } = product(&table[HEAD_BYTES..], count, n, s, scratch)
+    else {
+        return Changed::Refused { number: 16 };
+    };
+    let classes = pair_classes(table, n, m, &states, own, inserting);
+    let Made::Table {
+        states: left,
+        transitions,
+    } = minimize(scratch, made, &classes, n + m, table)
+    else {
+        return Changed::Refused { number: 17 };
+    };
+    Changed::Done {
+        states: left,
+        transitions: transitions,
+    }
+}
+
+// Puts the tree in or takes it out. The scratch is all zeros after that.
+pub fn change(tree: &[u8], table: &mut [u8], scratch: &mut [u8], inserting: bool) -> Changed
+    requires { ⌜ listingRefusal (now tree) ≡ 0 ⌝ }
+    requires { ⌜ tableRefusal (now table) ≡ 0 ⌝ }
+    requires { ⌜ length (now scratch) ≡ scratchBytes ⌝ }
+    ensures { λ r. ⌜ resultOf r (now (table .exit)) (now (scratch .exit)) ≡
+        changedOutcome (changeOf inserting (readTree (now (tree .entry)))) (now (table .entry)) (now (scratch .entry)) ⌝ }
+{
+    let answer = work(tree, table, scratch, inserting);
+    clear(scratch);
+    answer
+}

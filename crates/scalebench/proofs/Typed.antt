@@ -1,0 +1,127 @@
+-- A line of text for a host.
+use mathlib.Core.Bool.{Bool, cond, false, true, true≢false}
+use mathlib.Core.List.{List}
+use mathlib.Core.Logic.{_≢_}
+use mathlib.Core.Path.{_∙_, _≡_, ap, refl, subst, sym}
+use Prim.Native.Nat.{_+_, _-_, _<_, _≤_, ℕ}
+use native.Mathlib.Omega.{arith}
+use lib.Dec.{eqb, leb}
+use lib.ListN.{getD, length, length-append, length-replicate, length-set, replicate, set}
+use lib.Seq.{ext-getD, getD-set-other, getD-set-same}
+use borrow.Author.Tests.{eq-eqb, eqb-false, eqb-true, leb-false, leb-true, ne-eqb}
+use Rattle.scalebench.specs.Typed.{Small, packedLine, packedParsed}
+use Rattle.text.specs.Grammar.{Command, toAdd, toAsk, toDrop}
+use Rattle.text.specs.Outcome.{listed, listingBytes, padded, parsed, parsedAs}
+use Rattle.text.specs.Reader.{Line, form, formed, long, maxLine, readLine}
+use Rattle.text.specs.declared.Parsed.{Parsed}
+use Rattle.text.proofs.Heads.{length-blank}
+use Rattle.text.proofs.Laws.{line-form, line-long}
+use Rattle.text.proofs.Lines.{formed-size}
+
+-- ---- copying
+
+-- the first i bytes are copied
+pub record CopiedTo (from to : List ℕ) (i : ℕ) : Type 0 where
+  pub size : length to ≡ listingBytes
+  pub within : i ≤ listingBytes
+  pub bytes : (j : ℕ) → j < i → getD to j 0 ≡ getD from j 0
+
+pub copied-start : {from to : List ℕ} → length to ≡ listingBytes → CopiedTo from to 0
+copied-start h = record { size = h; within = omega arith; bytes = λ j l. absurd (omega arith) }
+
+pub copied-next : {from to : List ℕ} {i : ℕ} → CopiedTo from to i → i < listingBytes →
+    CopiedTo from (set to i (getD from i 0)) (i + 1)
+copied-next {from} {to} {i} x h = record {
+  size = length-set to i (getD from i 0) ∙ x .size;
+  within = omega arith;
+  bytes = λ j l. go j l (eqb j i) refl;
+}
+  where
+    go : (j : ℕ) → j < i + 1 → (b : Bool) → eqb j i ≡ b → getD (set to i (getD from i 0)) j 0 ≡ getD from j 0
+    go j l true e =
+        let d = eqb-true j i e in
+        ap (λ k. getD (set to i (getD from i 0)) k 0) d ∙
+        getD-set-same to i (getD from i 0) 0 (omega (arith, x .size)) ∙ ap (λ k. getD from k 0) (sym d)
+    go j l false e =
+        let d = eqb-false j i e in getD-set-other to i j (getD from i 0) 0 d ∙ x .bytes j (omega arith)
+
+pub copied-end : {from to : List ℕ} {i : ℕ} → CopiedTo from to i → listingBytes ≤ i → length from ≡ listingBytes →
+    to ≡ from
+copied-end {from} {to} x h e =
+    ext-getD 0 to from (x .size ∙ sym e) (λ j l. x .bytes j (omega (arith, x .size)))
+
+-- ---- numbers
+
+-- the number of what the reader answers is that of the line
+packed-parsed : (l : Line) → packedParsed (parsed l) ≡ packedLine l
+unfolding parsed
+packed-parsed (formed toAdd l) = refl
+packed-parsed (formed toDrop l) = refl
+packed-parsed (formed toAsk l) = refl
+packed-parsed (form n) = refl
+packed-parsed long = refl
+
+abbrev isLong : Line → Bool
+isLong (formed c l) = false
+isLong (form n) = false
+isLong long = true
+
+small-as : (c : Command) {n : ℕ} → n ≤ listingBytes → Small (parsedAs c n)
+small-as toAdd h = omega arith
+small-as toDrop h = omega arith
+small-as toAsk h = omega arith
+
+module _ (s : List ℕ) where
+  short : {l : Line} → readLine s ≡ l → isLong l ≡ false → length s ≤ maxLine
+  short {l} e n = test (leb (length s) maxLine) refl
+    where
+      test : (b : Bool) → leb (length s) maxLine ≡ b → length s ≤ maxLine
+      test true h = leb-true (length s) maxLine h
+      test false h =
+          absurd (true≢false (ap isLong (sym (line-long s .1 (leb-false (length s) maxLine h)) ∙ e) ∙ n))
+
+  small-line : Small (parsed (readLine s))
+  unfolding parsed
+  small-line = go (readLine s) refl
+    where
+      go : (l : Line) → readLine s ≡ l → Small (parsed l)
+      go (formed c l) e = small-as c (formed-size s c l (short e refl) e)
+      go (form n) e = omega (arith, line-form s n e .within .1, short e refl)
+      go long e = tt
+
+  -- the listing stands in a whole table
+  pub listed-size : length (listed (readLine s)) ≡ listingBytes
+  unfolding listed padded
+  listed-size = go (readLine s) refl
+    where
+      go : (l : Line) → readLine s ≡ l → length (listed l) ≡ listingBytes
+      go (formed c l) e =
+          omega (
+            arith,
+            length-append l (replicate (listingBytes - length l) 0),
+            length-replicate {A = ℕ} (listingBytes - length l) 0,
+            formed-size s c l (short e refl) e,
+          )
+      go (form n) e = length-blank
+      go long e = length-blank
+
+-- ---- the answer
+
+module _ (s : List ℕ) {p : Parsed} (e : p ≡ parsed (readLine s)) where
+  pub read-small : Small p
+  read-small = subst Small (sym e) (small-line s)
+
+  pub read-packed : {k : ℕ} → k ≡ packedParsed p → k ≡ packedLine (readLine s)
+  read-packed d = d ∙ ap packedParsed e ∙ packed-parsed (readLine s)
+
+-- a table of another size is left alone
+module _ (s l : List ℕ) where
+  pub read-other : length l ≢ listingBytes →
+      (_≡_ {A = ℕ} 0 (cond (eqb (length l) listingBytes) (packedLine (readLine s)) 0)) ×
+      (l ≡ cond (eqb (length l) listingBytes) (listed (readLine s)) l)
+  read-other n = rw (ne-eqb (length l) listingBytes n) (refl, refl)
+
+  pub read-listed : length l ≡ listingBytes → {k : ℕ} {t : List ℕ} → k ≡ packedLine (readLine s) → t ≡ listed (readLine s) →
+      (k ≡ cond (eqb (length l) listingBytes) (packedLine (readLine s)) 0) ×
+      (t ≡ cond (eqb (length l) listingBytes) (listed (readLine s)) l)
+  read-listed h d e = rw (eq-eqb (length l) listingBytes h) (d, e)
