@@ -1,28 +1,27 @@
 -- The product in the scratch with the classes of its pairs is the automaton of the changed set.
 use mathlib.Core.Bool.{Bool, _&&_, _||_, cond, false, not, true}
 use mathlib.Core.List.{List}
-use mathlib.Core.Logic.{_≢_}
 use mathlib.Core.Path.{_∙_, _≡_, ap, ap₂, refl, sym}
-use Prim.Native.Nat.{_+_, _-_, _<_, _≤_, suc, zero, ℕ}
+use Prim.Native.Nat.{_+_, _-_, _≤_, suc, zero, ℕ}
 use native.Mathlib.Omega.{arith}
 use lib.Dec.{eqb, leb}
-use lib.ListN.{getD, length}
-use borrow.Author.Tests.{eq-eqb, eqb-false, eqb-true, le-leb, leb-false, leb-true, lt-leb, ne-eqb}
+use lib.ListN.{getD}
+use borrow.Author.Tests.{eq-eqb, eqb-false, eqb-true, leb-false, leb-true, ne-eqb}
 use Rattle.automata.specs.Automaton.{Automaton, accepting, accepts}
 use Rattle.automata.specs.Canonical.{Canonical}
 use Rattle.automata.specs.Change.{subtreeNumber, subtrees}
 use Rattle.automata.specs.Minimal.{minimal}
 use Rattle.automata.specs.Order.{rising}
-use Rattle.calls.specs.Calls.{changed, delete, insert}
+use Rattle.calls.specs.Calls.{changed}
 use Rattle.change.specs.Changing.{changeOf}
-use Rattle.change.specs.Classes.{Classed, classIn, nameCount, pairClass}
+use Rattle.change.specs.Classes.{Classed, classIn, pairClass}
 use Rattle.fields.specs.View.{Viewed, viewed}
-use Rattle.format.specs.Format.{maxNodes, maxStates}
+use Rattle.format.specs.Format.{maxStates}
 use Rattle.products.specs.Pairs.{pairOf, stateOf, subtreeOf}
 use Rattle.products.specs.Result.{Holding, numberUsed, pairNumbered}
 use Rattle.subtrees.specs.Store.{Lists, bottomUp, treeNumbered}
 use Rattle.subtrees.specs.declared.Subtrees.{Subtrees}
-use Rattle.table.specs.Layout.{classAt, decode, stateCount, transitionsIn}
+use Rattle.table.specs.Layout.{decode, stateCount, transitionsIn}
 use Rattle.trees.specs.Tree.{Tree}
 use Rattle.automata.proofs.Change.{own-not-zero}
 use Rattle.automata.proofs.Distinguishable.{run-fits}

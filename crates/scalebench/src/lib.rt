@@ -109,9 +109,9 @@ fn change_refusal(tree: &[u8], table: &[u8], scratch: &[u8], inserting: bool) ->
     ensures { λ r. ⌜ r ≡ beforeChange (changeOf inserting (readTree (now (tree .entry)))) (now (tree .entry))
         (now (table .entry)) (now (scratch .entry)) ⌝ }
 {
-    let number = listing::refusal(tree);
-    if number != 0 {
-        return number;
+    let broken = listing::refusal(tree);
+    if broken != 0 {
+        return broken;
     }
     if table.len() != TABLE_BYTES {
         return 5;
@@ -119,9 +119,9 @@ fn change_refusal(tree: &[u8], table: &[u8], scratch: &[u8], inserting: bool) ->
     if scratch.len() != SCRATCH_BYTES {
         return 6;
     }
-    let broken = content_refusal(table);
-    if broken != 0 {
-        return broken;
+    let damage = content_refusal(table);
+    if damage != 0 {
+        return damage;
     }
     let present = accepted(tree, table);
     presence_refusal(inserting, present)

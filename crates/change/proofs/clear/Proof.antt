@@ -5,8 +5,6 @@ use Rattle.change.proofs.Clearing.{ClearedTo, cleared-end, cleared-next
 use borrow.Author.Needs.{needs}
 use Rattle.change.proofs.clear.Statement.{statement}
 use Rattle.change.proofs.clear.Tie as tie
-use Rattle.change.proofs.clear.Reads as reads
-use Rattle.change.proofs.clear.Lts as lts
 
 abbrev Inv-loop : tie.InvT-loop
 Inv-loop scratch₀ i₀ scratch i = ClearedTo (length scratch₀) scratch i
@@ -14,31 +12,24 @@ Inv-loop scratch₀ i₀ scratch i = ClearedTo (length scratch₀) scratch i
 abbrev μ-loop : tie.MeasureT-loop
 μ-loop scratch₀ i₀ scratch i = length scratch₀ - i
 
--- src/lib.rt:40:5
 loop-holds : tie.Need-loop-holds Inv-loop μ-loop
 loop-holds c = cleared-start _
 
--- src/lib.rt:41:9
 slice-write-scratch : tie.Need-slice-write-scratch Inv-loop μ-loop
 slice-write-scratch c = search needs
 
--- src/lib.rt:42:9
 add-i : tie.Need-add-i Inv-loop μ-loop
 add-i c = omega (arith, c .before .loop .inv .within, c .before .loop .inv .size)
 
--- src/lib.rt:40:5
 loop-less : tie.Need-loop-less Inv-loop μ-loop
 loop-less c = omega (arith, c .before .loop .inv .size)
 
--- src/lib.rt:40:5
 loop-again : tie.Need-loop-again Inv-loop μ-loop
 loop-again c = cleared-next (c .before .loop .inv) (omega (arith, c .before .loop .inv .size))
 
--- src/lib.rt:36:1
 same-length : tie.Need-same-length Inv-loop μ-loop
 same-length c = c .before .loop .inv .size
 
--- src/lib.rt:36:1
 returns : tie.Need-returns Inv-loop μ-loop
 returns c = cleared-end (c .before .loop .inv) (omega (arith, c .before .loop .inv .size))
 

@@ -5,45 +5,48 @@ use Rattle.scalebench.proofs.Changing.{change-given, change-refused, ch
 use borrow.Author.Needs.{needs}
 use Rattle.scalebench.proofs.change.Statement.{statement}
 use Rattle.scalebench.proofs.change.Tie as tie
-use Rattle.scalebench.proofs.change.Reads as reads
-use Rattle.scalebench.proofs.change.Lts as lts
-use Rattle.change.proofs.change.Reads as change-reads
-use Rattle.scalebench.proofs.change_refusal.Reads as change-refusal-reads
 
--- src/lib.rt:136:9
 change-refusal-requires : tie.Need-change-refusal-requires
 change-refusal-requires c κs = search needs
 
--- src/lib.rt:138:9
 same-length : tie.Need-same-length
 same-length c = search needs
 
--- src/lib.rt:138:9
 same-length-2 : tie.Need-same-length-2
 same-length-2 c = search needs
 
--- src/lib.rt:138:9
 returns : tie.Need-returns
 returns c =
-    change-refused ((changeOf (c .before .before .before .before .before .before .before .args .inserting) (readTree ((c .before .before .before .before .before .before .before .args .tree .now))))) ((c .before .before .before .before .before .before .before .args .tree .now)) ((c .before .before .before .before .before .before .before .args .table .now)) ((c .before .before .before .before .before .before .before .args .scratch .now)) (c .before .change-refusal .ensures) (c .if1 .taken)
+    let start = c .before .before .before .before .before .before .before in
+    change-refused ((changeOf (start .args .inserting) (readTree (start .args .tree .now)))) (start .args
+    .tree .now) (start .args .table .now) (start .args .scratch .now) (c .before .change-refusal .ensures)
+    (c .if1 .taken)
 
--- src/lib.rt:140:5
 change-requires : tie.Need-change-requires
 change-requires c κs =
-    let g = change-given ((changeOf (c .before .before .before .before .before .before .before .before .before .args .inserting) (readTree ((c .before .before .before .before .before .before .before .before .before .args .tree .now))))) ((c .before .before .before .before .before .before .before .before .before .args .tree .now)) ((c .before .before .before .before .before .before .before .before .before .args .table .now)) ((c .before .before .before .before .before .before .before .before .before .args .scratch .now)) (c .before .before .before .change-refusal .ensures) (c .before .before .if1 .left) in (g .0, (g .1, g .2))
+    let at-if1 = c .before .before in
+    let at-change-refusal = at-if1 .before in
+    let start = at-change-refusal .before .before .before .before .before .before in
+    let g = change-given ((changeOf (start .args .inserting) (readTree (start .args .tree .now)))) (start
+    .args .tree .now) (start .args .table .now) (start .args .scratch .now) (at-change-refusal
+    .change-refusal .ensures) (at-if1 .if1 .left) in
+    (g .0, (g .1, g .2))
 
--- src/lib.rt:131:1
 same-length-3 : tie.Need-same-length-3
 same-length-3 c = search needs
 
--- src/lib.rt:131:1
 same-length-4 : tie.Need-same-length-4
 same-length-4 c = search needs
 
--- src/lib.rt:131:1
 returns-2 : tie.Need-returns-2
 returns-2 c =
-    c .before .before .before .before .change .ensures ∙ change-settled ((changeOf (c .before .before .before .before .before .before .before .before .before .before .before .before .before .before .args .inserting) (readTree ((c .before .before .before .before .before .before .before .before .before .before .before .before .before .before .args .tree .now))))) ((c .before .before .before .before .before .before .before .before .before .before .before .before .before .before .args .tree .now)) ((c .before .before .before .before .before .before .before .before .before .before .before .before .before .before .args .table .now)) ((c .before .before .before .before .before .before .before .before .before .before .before .before .before .before .args .scratch .now)) (c .before .before .before .before .before .before .before .before .change-refusal .ensures) (c .before .before .before .before .before .before .before .if1 .left)
+    let at-change = c .before .before .before .before in
+    let at-if1 = at-change .before .before .before in
+    let at-change-refusal = at-if1 .before in
+    let start = at-change-refusal .before .before .before .before .before .before in
+    at-change .change .ensures ∙ change-settled ((changeOf (start .args .inserting) (readTree (start .args
+    .tree .now)))) (start .args .tree .now) (start .args .table .now) (start .args .scratch .now)
+    (at-change-refusal .change-refusal .ensures) (at-if1 .if1 .left)
 
 pub change-spec : {M : Type 1} → statement M
 change-spec =

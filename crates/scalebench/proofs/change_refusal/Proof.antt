@@ -7,54 +7,79 @@ use Rattle.scalebench.proofs.Reading.{passed-table}
 use borrow.Author.Needs.{needs}
 use Rattle.scalebench.proofs.change_refusal.Statement.{statement}
 use Rattle.scalebench.proofs.change_refusal.Tie as tie
-use Rattle.scalebench.proofs.change_refusal.Reads as reads
-use Rattle.scalebench.proofs.change_refusal.Lts as lts
-use Rattle.intake.proofs.content_refusal.Reads as content-refusal-reads
-use Rattle.listing.proofs.refusal.Reads as refusal-reads
-use Rattle.running.proofs.accepted.Reads as accepted-reads
-use Rattle.scalebench.proofs.presence_refusal.Reads as presence-refusal-reads
 
--- src/lib.rt:110:9
 refusal-requires : tie.Need-refusal-requires
 refusal-requires c κs = search needs
 
--- src/lib.rt:112:9
 returns : tie.Need-returns
 returns c =
-    early-listing ((changeOf (c .before .before .before .before .before .args .inserting) (readTree ((c .before .before .before .before .before .args .tree .now))))) ((c .before .before .before .before .before .args .tree .now)) ((c .before .before .before .before .before .args .table .now)) ((c .before .before .before .before .before .args .scratch .now)) (c .before .refusal .ensures) (c .if1 .taken)
+    let start = c .before .before .before .before .before in
+    early-listing ((changeOf (start .args .inserting) (readTree (start .args .tree .now)))) (start .args
+    .tree .now) (start .args .table .now) (start .args .scratch .now) (c .before .refusal .ensures) (c .if1
+    .taken)
 
--- src/lib.rt:115:9
 returns-2 : tie.Need-returns-2
 returns-2 c =
-    early-5 ((changeOf (c .before .before .before .before .before .before .args .inserting) (readTree ((c .before .before .before .before .before .before .args .tree .now))))) ((c .before .before .before .before .before .before .args .tree .now)) ((c .before .before .before .before .before .before .args .table .now)) ((c .before .before .before .before .before .before .args .scratch .now)) (c .before .before .refusal .ensures) (c .before .if1 .left) (c .if2 .taken)
+    let at-refusal = c .before .before in
+    let start = at-refusal .before .before .before .before in
+    early-5 ((changeOf (start .args .inserting) (readTree (start .args .tree .now)))) (start .args .tree
+    .now) (start .args .table .now) (start .args .scratch .now) (at-refusal .refusal .ensures) (c .before
+    .if1 .left) (c .if2 .taken)
 
--- src/lib.rt:118:9
 returns-3 : tie.Need-returns-3
 returns-3 c =
-    early-6 ((changeOf (c .before .before .before .before .before .before .before .args .inserting) (readTree ((c .before .before .before .before .before .before .before .args .tree .now))))) ((c .before .before .before .before .before .before .before .args .tree .now)) ((c .before .before .before .before .before .before .before .args .table .now)) ((c .before .before .before .before .before .before .before .args .scratch .now)) (c .before .before .before .refusal .ensures) (c .before .before .if1 .left) (c .before .if2 .left) (c .if3 .taken)
+    let at-if1 = c .before .before in
+    let at-refusal = at-if1 .before in
+    let start = at-refusal .before .before .before .before in
+    early-6 ((changeOf (start .args .inserting) (readTree (start .args .tree .now)))) (start .args .tree
+    .now) (start .args .table .now) (start .args .scratch .now) (at-refusal .refusal .ensures) (at-if1 .if1
+    .left) (c .before .if2 .left) (c .if3 .taken)
 
--- src/lib.rt:120:9
 content-refusal-requires : tie.Need-content-refusal-requires
 content-refusal-requires c κs = search needs
 
--- src/lib.rt:122:9
 returns-4 : tie.Need-returns-4
 returns-4 c =
-    early-content ((changeOf (c .before .before .before .before .before .before .before .before .before .args .inserting) (readTree ((c .before .before .before .before .before .before .before .before .before .args .tree .now))))) ((c .before .before .before .before .before .before .before .before .before .args .tree .now)) ((c .before .before .before .before .before .before .before .before .before .args .table .now)) ((c .before .before .before .before .before .before .before .before .before .args .scratch .now)) (c .before .before .before .before .before .refusal .ensures) (c .before .before .before .before .if1 .left) (c .before .before .before .if2 .left) (c .before .before .if3 .left) (c .before .content-refusal .ensures) (c .if4 .taken)
+    let at-if3 = c .before .before in
+    let at-if2 = at-if3 .before in
+    let at-if1 = at-if2 .before in
+    let at-refusal = at-if1 .before in
+    let start = at-refusal .before .before .before .before in
+    early-content ((changeOf (start .args .inserting) (readTree (start .args .tree .now)))) (start .args
+    .tree .now) (start .args .table .now) (start .args .scratch .now) (at-refusal .refusal .ensures)
+    (at-if1 .if1 .left) (at-if2 .if2 .left) (at-if3 .if3 .left) (c .before .content-refusal .ensures) (c .if4
+    .taken)
 
--- src/lib.rt:124:9
 accepted-requires : tie.Need-accepted-requires
 accepted-requires c κs =
-    (sym (c .before .before .before .before .before .refusal .ensures) ∙ c .before .before .before .before .if1 .left, passed-table ((c .before .before .before .before .before .before .before .before .before .args .table .now)) (sym (right-length ((c .before .before .before .before .before .before .before .before .before .args .table .now)) (c .before .before .before .if2 .left) (c .before .content-refusal .ensures)) ∙ c .if4 .left))
+    let at-if2 = c .before .before .before in
+    let at-if1 = at-if2 .before in
+    let at-refusal = at-if1 .before in
+    let start = at-refusal .before .before .before .before in (
+      sym (at-refusal .refusal .ensures) ∙ at-if1 .if1 .left,
+      passed-table (start .args .table .now) (sym
+          (right-length (start .args .table .now) (at-if2 .if2 .left) (c .before .content-refusal .ensures)) ∙ c
+          .if4 .left),
+    )
 
--- src/lib.rt:125:5
 presence-refusal-requires : tie.Need-presence-refusal-requires
 presence-refusal-requires c κs = search needs
 
--- src/lib.rt:106:1
 returns-5 : tie.Need-returns-5
 returns-5 c =
-    early-presence ((changeOf (c .before .before .before .before .before .before .before .before .before .before .before .args .inserting) (readTree ((c .before .before .before .before .before .before .before .before .before .before .before .args .tree .now))))) ((c .before .before .before .before .before .before .before .before .before .before .before .args .tree .now)) ((c .before .before .before .before .before .before .before .before .before .before .before .args .table .now)) ((c .before .before .before .before .before .before .before .before .before .before .before .args .scratch .now)) (c .before .before .before .before .before .before .before .refusal .ensures) (c .before .before .before .before .before .before .if1 .left) (c .before .before .before .before .before .if2 .left) (c .before .before .before .before .if3 .left) (c .before .before .before .content-refusal .ensures) (c .before .before .if4 .left) (presence-read (c .before .before .before .before .before .before .before .before .before .before .before .args .inserting) (readTree ((c .before .before .before .before .before .before .before .before .before .before .before .args .tree .now))) ((c .before .before .before .before .before .before .before .before .before .before .before .args .table .now)) (c .before .accepted .ensures) (c .presence-refusal .ensures (readTree ((c .before .before .before .before .before .before .before .before .before .before .before .args .tree .now)))))
+    let at-if4 = c .before .before in
+    let at-content-refusal = at-if4 .before in
+    let at-if3 = at-content-refusal .before in
+    let at-if2 = at-if3 .before in
+    let at-if1 = at-if2 .before in
+    let at-refusal = at-if1 .before in
+    let start = at-refusal .before .before .before .before in
+    early-presence ((changeOf (start .args .inserting) (readTree (start .args .tree .now)))) (start .args
+    .tree .now) (start .args .table .now) (start .args .scratch .now) (at-refusal .refusal .ensures)
+    (at-if1 .if1 .left) (at-if2 .if2 .left) (at-if3 .if3 .left) (at-content-refusal .content-refusal .ensures)
+    (at-if4 .if4 .left) (presence-read (start .args .inserting) (readTree (start .args .tree .now)) (start
+    .args .table .now) (c .before .accepted .ensures) (c .presence-refusal .ensures (readTree (start .args
+    .tree .now))))
 
 pub change-refusal-spec : {M : Type 1} → statement M
 change-refusal-spec =

@@ -4,33 +4,26 @@ use Rattle.change.specs.Changing.{changedAnswer}
 use borrow.Author.Needs.{needs}
 use Rattle.scalebench.proofs.packed_change.Statement.{statement}
 use Rattle.scalebench.proofs.packed_change.Tie as tie
-use Rattle.scalebench.proofs.packed_change.Reads as reads
-use Rattle.scalebench.proofs.packed_change.Lts as lts
-use Rattle.scalebench.proofs.counts.Reads as counts-reads
-use Rattle.scalebench.proofs.widened.Reads as widened-reads
 
--- src/lib.rt:166:13
 enum-known-answer : tie.Need-enum-known-answer
 enum-known-answer c = search needs
 
--- src/lib.rt:168:14
 counts-requires : tie.Need-counts-requires
 counts-requires c κs =
-    let f = c .before .before .before .pre .few (c .before .answer .given .0 .0) (c .before .answer .given .0 .1 .0) (c .before .answer .given .1) in (f .0, f .1)
+    let start = c .before .before .before in
+    let f = start .pre .few (c .before .answer .given .0 .0) (c .before .answer .given .0 .1 .0) (c .before
+    .answer .given .1) in
+    (f .0, f .1)
 
--- src/lib.rt:169:28
 enum-known-answer-2 : tie.Need-enum-known-answer-2
 enum-known-answer-2 c = search needs
 
--- src/lib.rt:169:40
 widened-requires : tie.Need-widened-requires
 widened-requires c κs = search needs
 
--- src/lib.rt:160:1
 returns : tie.Need-returns
 returns c = c .counts .ensures ∙ ap (λ a. packed (changedAnswer a)) (sym (c .before .before .answer .given .1))
 
--- src/lib.rt:160:1
 returns-2 : tie.Need-returns-2
 returns-2 c = search needs
 

@@ -1,22 +1,16 @@
 use Rattle.scalebench.proofs.Changing.{absence-15, absence-added, presence-14, presence-removed}
 use Rattle.scalebench.proofs.presence_refusal.Statement.{statement}
 use Rattle.scalebench.proofs.presence_refusal.Tie as tie
-use Rattle.scalebench.proofs.presence_refusal.Reads as reads
-use Rattle.scalebench.proofs.presence_refusal.Lts as lts
 
--- src/lib.rt:95:13
 returns : tie.Need-returns
 returns c = λ t. presence-14 t (c .before .if1 .taken) (c .if2 .taken)
 
--- src/lib.rt:97:9
 returns-2 : tie.Need-returns-2
 returns-2 c = λ t. absence-added t (c .before .if1 .taken) (c .if2 .left)
 
--- src/lib.rt:100:9
 returns-3 : tie.Need-returns-3
 returns-3 c = λ t. presence-removed t (c .before .if1 .left) (c .if3 .taken)
 
--- src/lib.rt:90:1
 returns-4 : tie.Need-returns-4
 returns-4 c = λ t. absence-15 t (c .before .if1 .left) (c .if3 .left)
 

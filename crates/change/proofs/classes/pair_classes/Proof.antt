@@ -5,9 +5,6 @@ use Rattle.change.proofs.Pairs.{ClassedBelow, classed-end, classed-next
 use borrow.Author.Needs.{needs}
 use Rattle.change.proofs.classes.pair_classes.Statement.{statement}
 use Rattle.change.proofs.classes.pair_classes.Tie as tie
-use Rattle.change.proofs.classes.pair_classes.Reads as reads
-use Rattle.change.proofs.classes.pair_classes.Lts as lts
-use Rattle.change.proofs.classes.class_of.Reads as class-of-reads
 
 abbrev Inv-loop : tie.InvT-loop
 Inv-loop table n m states own inserting classes₀ p₀ classes p =
@@ -16,36 +13,33 @@ Inv-loop table n m states own inserting classes₀ p₀ classes p =
 abbrev μ-loop : tie.MeasureT-loop
 μ-loop table n m states own inserting classes₀ p₀ classes p = n + m + 1 - p
 
--- src/classes.rt:77:5
 loop-holds : tie.Need-loop-holds Inv-loop μ-loop
 loop-holds c = (omega arith, omega arith, classed-start)
 
--- src/classes.rt:77:16
 add-loop : tie.Need-add-loop Inv-loop μ-loop
 add-loop c = search needs
 
--- src/classes.rt:78:22
 class-of-requires : tie.Need-class-of-requires Inv-loop μ-loop
 class-of-requires c κs = search needs
 
--- src/classes.rt:78:9
 array-write-classes : tie.Need-array-write-classes Inv-loop μ-loop
 array-write-classes c = search needs
 
--- src/classes.rt:79:9
 add-p : tie.Need-add-p Inv-loop μ-loop
 add-p c = search needs
 
--- src/classes.rt:77:5
 loop-less : tie.Need-loop-less Inv-loop μ-loop
 loop-less c = omega arith
 
--- src/classes.rt:77:5
 loop-again : tie.Need-loop-again Inv-loop μ-loop
 loop-again c =
-    (omega arith, omega arith, classed-next (c .before .before .loop .inv .2) (omega arith) (c .class-of .result) (c .class-of .ensures))
+    let at-loop = c .before .before in (
+      omega arith,
+      omega arith,
+      classed-next (at-loop .loop .inv .2) (omega arith) (c .class-of .result) (c
+          .class-of .ensures),
+    )
 
--- src/classes.rt:62:1
 returns : tie.Need-returns Inv-loop μ-loop
 returns c = classed-end (c .before .loop .inv .2) (omega arith)
 

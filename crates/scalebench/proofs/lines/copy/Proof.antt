@@ -5,8 +5,6 @@ use mathlib.Core.Path.{_∙_, sym}
 use borrow.Author.Needs.{needs}
 use Rattle.scalebench.proofs.lines.copy.Statement.{statement}
 use Rattle.scalebench.proofs.lines.copy.Tie as tie
-use Rattle.scalebench.proofs.lines.copy.Reads as reads
-use Rattle.scalebench.proofs.lines.copy.Lts as lts
 
 abbrev Inv-loop : tie.InvT-loop
 Inv-loop from to₀ i₀ to i = CopiedTo from to i
@@ -14,35 +12,27 @@ Inv-loop from to₀ i₀ to i = CopiedTo from to i
 abbrev μ-loop : tie.MeasureT-loop
 μ-loop from to₀ i₀ to i = 252 - i
 
--- src/lines.rt:27:5
 loop-holds : tie.Need-loop-holds Inv-loop μ-loop
 loop-holds c = copied-start (c .pre .1)
 
--- src/lines.rt:28:17
 element-copy-out-to : tie.Need-element-copy-out-to Inv-loop μ-loop
 element-copy-out-to c = search needs
 
--- src/lines.rt:28:9
 slice-write-to : tie.Need-slice-write-to Inv-loop μ-loop
 slice-write-to c = omega (arith, c .before .before .loop .inv .size)
 
--- src/lines.rt:29:9
 add-i : tie.Need-add-i Inv-loop μ-loop
 add-i c = search needs
 
--- src/lines.rt:27:5
 loop-less : tie.Need-loop-less Inv-loop μ-loop
 loop-less c = omega arith
 
--- src/lines.rt:27:5
 loop-again : tie.Need-loop-again Inv-loop μ-loop
 loop-again c = copied-next (c .before .before .loop .inv) (omega arith)
 
--- src/lines.rt:21:1
 same-length : tie.Need-same-length Inv-loop μ-loop
 same-length c = c .before .loop .inv .size ∙ sym (c .before .before .pre .1)
 
--- src/lines.rt:21:1
 returns : tie.Need-returns Inv-loop μ-loop
 returns c = copied-end (c .before .loop .inv) (omega arith) (c .before .before .pre .0)
 

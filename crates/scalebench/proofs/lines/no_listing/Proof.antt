@@ -2,10 +2,7 @@ use mathlib.Core.Path.{refl}
 use Rattle.text.specs.Outcome.{blank}
 use Rattle.scalebench.proofs.lines.no_listing.Statement.{statement}
 use Rattle.scalebench.proofs.lines.no_listing.Tie as tie
-use Rattle.scalebench.proofs.lines.no_listing.Reads as reads
-use Rattle.scalebench.proofs.lines.no_listing.Lts as lts
 
--- src/lines.rt:15:1
 returns : tie.Need-returns
 unfolding blank
 returns c = refl

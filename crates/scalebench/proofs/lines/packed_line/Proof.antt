@@ -4,66 +4,49 @@ use Rattle.scalebench.specs.Typed.{Small, packedParsed}
 use borrow.Author.Needs.{needs}
 use Rattle.scalebench.proofs.lines.packed_line.Statement.{statement}
 use Rattle.scalebench.proofs.lines.packed_line.Tie as tie
-use Rattle.scalebench.proofs.lines.packed_line.Reads as reads
-use Rattle.scalebench.proofs.lines.packed_line.Lts as lts
-use Rattle.scalebench.proofs.lines.packed.Reads as packed-reads
 
--- src/lines.rt:47:23
 enum-known-parsed : tie.Need-enum-known-parsed
 enum-known-parsed c = search needs
 
--- src/lines.rt:47:32
 packed-requires : tie.Need-packed-requires
 packed-requires c κs = (omega arith, subst Small (c .before .parsed .given .1) (c .before .before .before .pre))
 
--- src/lines.rt:48:24
 enum-known-parsed-2 : tie.Need-enum-known-parsed-2
 enum-known-parsed-2 c = search needs
 
--- src/lines.rt:48:33
 packed-requires-2 : tie.Need-packed-requires-2
 packed-requires-2 c κs =
     (omega arith, subst Small (c .before .parsed2 .given .1) (c .before .before .before .pre))
 
--- src/lines.rt:49:23
 enum-known-parsed-3 : tie.Need-enum-known-parsed-3
 enum-known-parsed-3 c = search needs
 
--- src/lines.rt:49:32
 packed-requires-3 : tie.Need-packed-requires-3
 packed-requires-3 c κs =
     (omega arith, subst Small (c .before .parsed3 .given .1) (c .before .before .before .pre))
 
--- src/lines.rt:50:24
 enum-known-parsed-4 : tie.Need-enum-known-parsed-4
 enum-known-parsed-4 c = search needs
 
--- src/lines.rt:50:36
 packed-requires-4 : tie.Need-packed-requires-4
 packed-requires-4 c κs =
     (omega arith, subst Small (c .before .parsed4 .given .1) (c .before .before .before .pre))
 
--- src/lines.rt:51:25
 enum-told : tie.Need-enum-told
 enum-told c = search needs
 
--- src/lines.rt:42:1
 returns : tie.Need-returns
 returns c = c .packed .ensures ∙ ap packedParsed (sym (c .before .before .parsed .given .1))
 
--- src/lines.rt:42:1
 returns-2 : tie.Need-returns-2
 returns-2 c = c .packed2 .ensures ∙ ap packedParsed (sym (c .before .before .parsed2 .given .1))
 
--- src/lines.rt:42:1
 returns-3 : tie.Need-returns-3
 returns-3 c = c .packed3 .ensures ∙ ap packedParsed (sym (c .before .before .parsed3 .given .1))
 
--- src/lines.rt:42:1
 returns-4 : tie.Need-returns-4
 returns-4 c = c .packed4 .ensures ∙ ap packedParsed (sym (c .before .before .parsed4 .given .1))
 
--- src/lines.rt:42:1
 returns-5 : tie.Need-returns-5
 returns-5 c = search needs
 

@@ -4,44 +4,46 @@ use Rattle.scalebench.proofs.Typed.{listed-size, read-listed, read-othe
 use borrow.Author.Needs.{needs}
 use Rattle.scalebench.proofs.lines.scalebench_read.Statement.{statement}
 use Rattle.scalebench.proofs.lines.scalebench_read.Tie as tie
-use Rattle.scalebench.proofs.lines.scalebench_read.Reads as reads
-use Rattle.scalebench.proofs.lines.scalebench_read.Lts as lts
-use Rattle.scalebench.proofs.lines.copy.Reads as copy-reads
-use Rattle.scalebench.proofs.lines.no_listing.Reads as no-listing-reads
-use Rattle.scalebench.proofs.lines.packed_line.Reads as packed-line-reads
-use Rattle.text.proofs.read_line.Reads as read-line-reads
 
--- src/lines.rt:65:9
 returns : tie.Need-returns
 returns c =
-    read-other ((c .before .before .before .args .line .now)) ((c .before .before .before .args .listing .now)) (c .if1 .taken)
+    let start = c .before .before .before in
+    read-other (start .args .line .now) (start .args .listing .now) (c .if1 .taken)
 
--- src/lines.rt:67:21
 no-listing-requires : tie.Need-no-listing-requires
 no-listing-requires c κs = search needs
 
--- src/lines.rt:68:9
 read-line-requires : tie.Need-read-line-requires
 read-line-requires c κs = search needs
 
--- src/lines.rt:69:5
 copy-requires : tie.Need-copy-requires
 copy-requires c κs =
-    (ap length (c .before .before .read-line .ensures .1) ∙ listed-size ((c .before .before .before .before .before .before .before .before .args .line .now)), c .before .before .before .before .before .if1 .left)
+    let at-read-line = c .before .before in
+    let at-if1 = at-read-line .before .before .before in
+    let start = at-if1 .before .before .before in (
+      ap length (at-read-line .read-line .ensures .1) ∙ listed-size (start .args .line .now),
+      at-if1 .if1
+          .left,
+    )
 
--- src/lines.rt:70:5
 packed-line-requires : tie.Need-packed-line-requires
 packed-line-requires c κs =
-    read-small ((c .before .before .before .before .before .before .before .before .before .before .before .args .line .now)) (c .before .before .before .before .before .read-line .ensures .0)
+    let at-read-line = c .before .before .before .before .before in
+    let start = at-read-line .before .before .before .before .before .before in
+    read-small (start .args .line .now) (at-read-line .read-line .ensures .0)
 
--- src/lines.rt:56:1
 same-length : tie.Need-same-length
 same-length c = search needs
 
--- src/lines.rt:56:1
 returns-2 : tie.Need-returns-2
 returns-2 c =
-    read-listed ((c .before .before .before .before .before .before .before .before .before .before .before .before .args .line .now)) ((c .before .before .before .before .before .before .before .before .before .before .before .before .args .listing .now)) (c .before .before .before .before .before .before .before .before .before .if1 .left) (read-packed ((c .before .before .before .before .before .before .before .before .before .before .before .before .args .line .now)) (c .before .before .before .before .before .before .read-line .ensures .0) (c .packed-line .ensures)) (c .before .before .before .copy .ensures ∙ c .before .before .before .before .before .before .read-line .ensures .1)
+    let at-copy = c .before .before .before in
+    let at-read-line = at-copy .before .before .before in
+    let at-if1 = at-read-line .before .before .before in
+    let start = at-if1 .before .before .before in
+    read-listed (start .args .line .now) (start .args .listing .now) (at-if1 .if1 .left) (read-packed
+    (start .args .line .now) (at-read-line .read-line .ensures .0) (c .packed-line .ensures)) (at-copy .copy
+    .ensures ∙ at-read-line .read-line .ensures .1)
 
 pub scalebench-read-spec : {M : Type 1} → statement M
 scalebench-read-spec =
