@@ -6,7 +6,8 @@ mkdir -p target/tests
 example=target/tests/example
 sed -n '/^ \* A whole program/,/^ \*\/$/s/^ \*     //p' include/scalebench.h >$example.c
 want=$(sed -n 's/^ \* A whole program. It prints "\(.*\)"\.$/\1/p' include/scalebench.h)
-gcc -std=c11 -O2 -Wall -Wextra -Werror -pedantic -Iinclude -o $example $example.c target/staticlib/libscalebench.a || exit 1
+gcc -std=c11 -O2 -Wall -Wextra -Werror -pedantic -Iinclude -o $example $example.c \
+    target/staticlib/libscalebench.a || exit 1
 got=$($example) || exit 1
 if [ -z "$want" ] || [ "$got" != "$want" ]; then
     echo "prints '$got', the comment says '$want'"
