@@ -31,7 +31,8 @@ impl Dice {
     /// Few leaves in one state and many transitions of many places over it: a tree that tells the leaves apart makes a
     /// product of a few hundred to some thousand transitions.
     pub fn families(&mut self) -> Automaton {
-        let mut lines: BTreeMap<Key, u8> = (1..=2 + self.roll(2) as u8).map(|leaf| (Key::new(leaf, vec![]), 1)).collect();
+        let leaves = 2 + self.roll(2) as u8;
+        let mut lines: BTreeMap<Key, u8> = (1..=leaves).map(|leaf| (Key::new(leaf, vec![]), 1)).collect();
         for label in 3..3 + 1 + self.roll(12) as u8 {
             lines.insert(Key::new(label, vec![1; 8 - self.roll(8) / 5]), 2);
         }

@@ -43,8 +43,8 @@ impl Dice {
 
     fn cut(&mut self, table: &[u8]) -> Vec<u8> {
         let mut bytes = table.to_vec();
-        let length = *self.pick(&[0, 1, HEAD - 1, HEAD, HEAD + 1, TABLE_BYTES - WIDTH, TABLE_BYTES - 1, TABLE_BYTES + 1]);
-        bytes.resize(length, 0);
+        let lengths = [0, 1, HEAD - 1, HEAD, HEAD + 1, TABLE_BYTES - WIDTH, TABLE_BYTES - 1, TABLE_BYTES + 1];
+        bytes.resize(*self.pick(&lengths), 0);
         bytes
     }
 

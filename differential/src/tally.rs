@@ -63,9 +63,11 @@ impl Tally {
         let (mut own_table, mut own_scratch) = (table.clone(), scratch.to_vec());
         let mut scratch = scratch.to_vec();
         let (library, reference) = if call == Call::Add {
-            (library::add(listing, &mut own_table, &mut own_scratch), reference::add(listing, table, &mut scratch))
+            let answer = library::add(listing, &mut own_table, &mut own_scratch);
+            (answer, reference::add(listing, table, &mut scratch))
         } else {
-            (library::remove(listing, &mut own_table, &mut own_scratch), reference::remove(listing, table, &mut scratch))
+            let answer = library::remove(listing, &mut own_table, &mut own_scratch);
+            (answer, reference::remove(listing, table, &mut scratch))
         };
         self.answers(call, listing, library, reference.packed());
         self.bytes(call, listing, "table", &own_table, table);
