@@ -2,19 +2,12 @@
 //! tables and from such near the limits; damaged tables; all lengths. Answers and every byte that a call may write
 //! are compared, and every answer of every call must be met.
 
-mod automata;
-mod damage;
-mod dice;
-mod library;
-mod series;
-mod tally;
-
-use dice::Dice;
+use differential::dice::Dice;
+use differential::series::{next_tree, series};
+use differential::tally::{Call, Tally};
 use reference::automaton::Automaton;
 use reference::table::{encode, SCRATCH_BYTES, TABLE_BYTES};
 use reference::tree::Tree;
-use series::{next_tree, series};
-use tally::{Call, Tally};
 
 const SERIES: usize = 400;
 const CALLS: usize = 60;

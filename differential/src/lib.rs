@@ -1,0 +1,8 @@
+//! What compares the proved library with the reference: calls of both, random trees and automata, damage.
+
+pub mod automata;
+pub mod damage;
+pub mod dice;
+pub mod library;
+pub mod series;
+pub mod tally;
