@@ -11,7 +11,9 @@ pub fn series(dice: &mut Dice, tally: &mut Tally, start: &Automaton, calls: usiz
     let mut table = encode(start);
     let mut used = vec![Tree::leaf(1)];
     for _ in 0..calls {
-        let automaton = intake(&table).expect("a series never leaves an illegal table");
+        let Ok(automaton) = intake(&table) else {
+            return tally.expect(false, || "a call of a series left a table that intake refuses".to_string());
+        };
         let tree = next_tree(dice, &automaton, &used);
         let listing = if dice.roll(25) == 0 { dice.damaged_listing(&tree.listing()) } else { tree.listing() };
         let scratch = scratch(dice);

@@ -22,7 +22,7 @@ pub struct Tally {
 const SHOWN: usize = 20;
 
 impl Tally {
-    fn expect(&mut self, equal: bool, tell: impl Fn() -> String) {
+    pub fn expect(&mut self, equal: bool, tell: impl Fn() -> String) {
         if equal {
             self.passed += 1;
             return;
