@@ -81,5 +81,5 @@ int main(int count, char **arguments)
         status = options.command ? carry_out_line(&book, options.command, dry_run)
                                  : carry_out_all(&book, stdin, dry_run);
     book_close(&book);
-    return status;
+    return (int)status;
 }

@@ -101,6 +101,25 @@ static void star(void)
         append(table, 2, 2, (const uint8_t[]){q, q}, STATES);
 }
 
+/* A chain over two leaves in one state, and this many labels that have each of its first 47 states in all places. A chain
+   of 48 nodes over one leaf takes a state of its own at each step: as many pairs as there can be. */
+static void ladder(unsigned states, unsigned places, unsigned labels)
+{
+    memset(table, 0, TABLE);
+    table[0] = (uint8_t)states;
+    table[states] = 1;
+    append(table, 1, 0, NULL, 1);
+    append(table, 255, 0, NULL, 1);
+    for (unsigned q = 1; q < states; q++)
+        append(table, 1 + q, 1, (const uint8_t[]){(uint8_t)q}, q + 1);
+    for (unsigned label = 1; label <= labels; label++)
+        for (unsigned q = 1; q < 48; q++) {
+            uint8_t args[8];
+            memset(args, (int)q, sizeof args);
+            append(table, label, places, args, states);
+        }
+}
+
 /* All transitions of these labels and arities from states 1, of (1) and (2), and 2, of (3) and (4); (20 (1)) and (20
    (2)) tell them apart. Adding (20 (3)) makes a product of 3,072 transitions, and (3) joins state 1. */
 static void fork_of_3072(void)
@@ -144,6 +163,11 @@ int main(void)
     cost_of_ask("a fork");
     cost_of_change("a fork of 3,072", joined, sizeof joined, counts(3, 239));
     cost_of_four();
+    ladder(150, 2, 3);
+    cost_of_ask("a ladder");
+    cost_of_48("a ladder, 198 states", 1, counts(198, 763));
+    ladder(200, 3, 7);
+    cost_of_48("a ladder, 248 pairs", 1, 17);
     star();
     cost_of_ask("a star");
     cost_of_48("a star, 48 subtrees", 201, 17);
