@@ -20,6 +20,7 @@ mod c {
             scratch: *mut u8,
             scratch_len: usize,
         ) -> u64;
+        pub fn scalebench_read(line: *const u8, line_len: usize, listing: *mut u8, listing_len: usize) -> u64;
     }
 }
 
@@ -43,4 +44,9 @@ pub fn remove(tree: &[u8], table: &mut [u8], scratch: &mut [u8]) -> u64 {
     let (bytes, work) = (table.as_mut_ptr(), scratch.as_mut_ptr());
     // SAFETY: as above.
     unsafe { c::scalebench_remove(tree.as_ptr(), tree.len(), bytes, table.len(), work, scratch.len()) }
+}
+
+pub fn read(line: &[u8], listing: &mut [u8]) -> u64 {
+    // SAFETY: as above.
+    unsafe { c::scalebench_read(line.as_ptr(), line.len(), listing.as_mut_ptr(), listing.len()) }
 }

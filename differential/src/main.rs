@@ -1,8 +1,9 @@
 //! The proved library and the reference on the same bytes: series of calls from the empty table, from random legal
-//! tables and from such near the limits; damaged tables; all lengths. Answers and every byte that a call may write
-//! are compared, and every answer of every call must be met.
+//! tables and from such near the limits; damaged tables; all lengths; lines of text. Answers and every byte that a call
+//! may write are compared, and every answer of every call must be met.
 
 use differential::dice::Dice;
+use differential::lines::lines;
 use differential::series::{next_tree, series};
 use differential::tally::{Call, Tally};
 use reference::automaton::Automaton;
@@ -100,7 +101,7 @@ fn lengths(dice: &mut Dice, tally: &mut Tally) {
 fn main() {
     let mut dice = Dice::new(1);
     let mut tally = Tally::default();
-    for part in [all_series, near_limits, damaged_tables, any_automata, lengths] {
+    for part in [all_series, near_limits, damaged_tables, any_automata, lengths, lines] {
         part(&mut dice, &mut tally);
         println!("{} calls", tally.calls());
     }

@@ -1,6 +1,7 @@
 //! One call made of both, answer and every byte compared, and what was met on the way.
 
 use crate::library;
+use reference::text::{self, READ_BYTES};
 use std::collections::BTreeMap;
 
 /// The calls, in the order in which their refusals are listed below.
@@ -10,6 +11,7 @@ pub enum Call {
     Intake,
     Add,
     Remove,
+    Read,
 }
 
 #[derive(Default)]
@@ -81,18 +83,33 @@ impl Tally {
         self.change(Call::Remove, listing, &mut table.to_vec(), scratch);
     }
 
+    /// Read, with a listing of this length lent; only the right one is written to.
+    pub fn line(&mut self, line: &[u8], listing: &[u8]) {
+        let mut own = listing.to_vec();
+        let answer = library::read(line, &mut own);
+        let (number, bytes) = if listing.len() == READ_BYTES {
+            let read = text::read(line);
+            (read.packed(), read.padded())
+        } else {
+            (0, listing.to_vec())
+        };
+        self.answers(Call::Read, line, answer, number);
+        self.bytes(Call::Read, line, "listing", &own, &bytes);
+    }
+
     pub fn calls(&self) -> usize {
         self.met.values().sum()
     }
 
     /// No refusal of a call, and no answer of it, was left untried.
     pub fn all_met(&mut self) {
-        for call in [Call::Ask, Call::Intake, Call::Add, Call::Remove] {
+        for call in [Call::Ask, Call::Intake, Call::Add, Call::Remove, Call::Read] {
             let answers: Vec<u64> = match call {
                 Call::Ask => (0..=5).chain(7..=13).chain([256]).collect(),
                 Call::Intake => [0, 5].into_iter().chain(7..=13).collect(),
                 Call::Add => (0..=14).chain([16, 17]).collect(),
                 Call::Remove => (0..=13).chain(15..=17).collect(),
+                Call::Read => (0..=5).map(|kind| 256 * kind).collect(),
             };
             for answer in answers {
                 let met = self.met.contains_key(&(call, answer));
