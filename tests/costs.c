@@ -101,8 +101,8 @@ static void star(void)
         append(table, 2, 2, (const uint8_t[]){q, q}, STATES);
 }
 
-/* A chain over two leaves in one state, and this many labels that have each of its first 47 states in all places. A chain
-   of 48 nodes over one leaf takes a state of its own at each step: as many pairs as there can be. */
+/* A chain over two leaves in one state, and this many labels that have each of its first 47 states in all places. A
+   chain of 48 nodes over one leaf takes a state of its own at each step: as many pairs as there can be. */
 static void ladder(unsigned states, unsigned places, unsigned labels)
 {
     memset(table, 0, TABLE);
