@@ -1,6 +1,7 @@
 /*
  * kill HOST BOOK: 200 changes on an empty book by a host that is killed again and again at random moments. After each
- * kill the book is, byte for byte, the table after the changes that the host told as done, or after one more.
+ * kill the book is, byte for byte, the table after the changes that the host told as done, or after one more. The exit
+ * status is 0 where that held of at least 20 kills.
  */
 #define _XOPEN_SOURCE 700
 
@@ -126,7 +127,8 @@ static unsigned half_saved(const char *book)
 
 int main(int count, char **arguments)
 {
-    unsigned done = 0, kills = 0, ahead = 0, within = 0, failed = 0;
+    unsigned done = 0, kills = 0, ahead = 0, within = 0;
+    int failed = 0;
     if (count != 3)
         return 2;
     work_out_tables();
@@ -138,7 +140,7 @@ int main(int count, char **arguments)
         int now = changes_in(arguments[2], done + told, done + told + 1);
         if (now < 0) {
             printf("after %u changes told: no table of the series\n", done + told);
-            failed++;
+            failed = 1;
         } else {
             ahead += (unsigned)now > done + told;
             done = (unsigned)now;
@@ -147,7 +149,5 @@ int main(int count, char **arguments)
         kills += (unsigned)killed;
     }
     printf("%u kills, %u within a save, %u between a save and its line\n", kills, within, ahead);
-    failed += kills < CHANGES / 10;
-    printf("%u passed, %u failed\n", kills, failed);
-    return failed != 0;
+    return failed || kills < CHANGES / 10;
 }
