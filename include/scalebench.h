@@ -12,7 +12,7 @@
  * else that the call gets, and nobody else writes to what a call is given while it runs. Two things that a call only
  * reads may overlap.
  *
- * Threads. The library has no state of its own and takes no memory but some stack (below 1 MiB). Calls on different
+ * Threads. The library has no state of its own and takes no memory but less than 256 KiB of stack. Calls on different
  * tables may run at the same time; so may ask and intake on one table while nobody changes it.
  *
  * A whole program. It prints "approved, 2 states, 2 transitions".

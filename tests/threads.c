@@ -1,5 +1,5 @@
 /*
- * What the header says of threads: four at once, each with a table and a scratch of its own and a stack of 1 MiB, leave
+ * What the header says of threads: four at once, each with a table and a scratch of its own and a stack of 256 KiB, leave
  * what one alone leaves; and all ask of one table meanwhile.
  */
 #define _XOPEN_SOURCE 700
@@ -8,11 +8,11 @@
 
 #include <pthread.h>
 
-enum { THREADS = 4, CHANGES = 120, STACK = 1 << 20 };
+enum { THREADS = 4, CHANGES = 120, STACK = 256 << 10 };
 
 struct work {
     unsigned seed;
-    uint64_t answers[CHANGES];
+    uint64_t answers[CHANGES], deepest;
     uint8_t table[TABLE], scratch[SCRATCH];
 };
 
@@ -33,6 +33,10 @@ static void *work_through(void *given)
         if (!scalebench_approved(scalebench_ask(known, sizeof known, shared, TABLE)))
             work->answers[i] = UINT64_MAX;
     }
+    uint8_t deep[96];
+    for (unsigned i = 0; i < sizeof deep; i++)
+        deep[i] = i % 2 == 0 ? (uint8_t)(10 + i) : i < 95;
+    work->deepest = scalebench_add(deep, sizeof deep, work->table, TABLE, work->scratch, SCRATCH);
     return NULL;
 }
 
@@ -53,7 +57,7 @@ int main(void)
     for (unsigned i = 0; i < THREADS; i++) {
         alone[i].seed = together[i].seed = i;
         work_through(&alone[i]);
-        expect("some change was made", alone[i].table[0] == 0, 0);
+        expect("48 nodes deep", scalebench_refusal(alone[i].deepest), 0);
     }
     start_all(threads);
     for (unsigned i = 0; i < THREADS; i++) {
