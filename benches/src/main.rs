@@ -11,23 +11,28 @@ use reference::tree::Tree;
 use std::hint::black_box;
 use std::time::{Duration, Instant};
 
-/// How long one call is measured, if it is not slower than that.
-const MEASURED: Duration = Duration::from_millis(250);
-const FEWEST_RUNS: usize = 3;
+/// How long a call is measured in a round, if it is not slower than that. Library and reference take turns, so that a
+/// busy moment of the machine does not fall on one of them alone.
+const MEASURED: Duration = Duration::from_millis(100);
+const ROUNDS: usize = 4;
 
 /// The least time of many runs in microseconds; what is made ready before a run is not counted.
 fn least<T>(ready: impl Fn() -> T, mut run: impl FnMut(&mut T) -> u64) -> f64 {
     let began = Instant::now();
     let mut least = Duration::MAX;
-    let mut runs = 0;
-    while runs < FEWEST_RUNS || began.elapsed() < MEASURED {
+    while least == Duration::MAX || began.elapsed() < MEASURED {
         let mut input = ready();
         let start = Instant::now();
         black_box(run(black_box(&mut input)));
         least = least.min(start.elapsed());
-        runs += 1;
     }
     least.as_secs_f64() * 1e6
+}
+
+/// The least times of the library and of the reference over all rounds.
+fn in_turns<F: Copy>(calls: (F, F), time: impl Fn(F) -> f64) -> (f64, f64) {
+    let rounds = (0..ROUNDS).map(|_| (time(calls.0), time(calls.1)));
+    rounds.fold((f64::MAX, f64::MAX), |least, round| (least.0.min(round.0), least.1.min(round.1)))
 }
 
 /// One call of both on the same bytes.
@@ -39,7 +44,7 @@ struct Measured {
 }
 
 impl Measured {
-    /// The call's name, its answer in words, both times and their ratio, as the end of a row.
+    /// The call's name, its answer in words, both times and their ratio: the end of a row.
     fn row(&self) -> String {
         let answer = match (self.call, self.answer & 255, self.answer >> 8 & 255) {
             (_, 0, 1) => "approved".to_string(),
@@ -62,7 +67,8 @@ const REMOVE: Changing = (library::remove, |tree, table, scratch| reference::rem
 
 fn reading(call: &'static str, calls: Reading, tree: &[u8], table: &[u8]) -> Measured {
     let time = |run: fn(&[u8], &[u8]) -> u64| least(|| (), |_| run(black_box(tree), black_box(table)));
-    Measured { call, answer: calls.0(tree, table), library: time(calls.0), reference: time(calls.1) }
+    let (library, reference) = in_turns(calls, time);
+    Measured { call, answer: calls.0(tree, table), library, reference }
 }
 
 /// The measure, and the table after the call.
@@ -71,7 +77,8 @@ fn changing(call: &'static str, calls: Changing, tree: &[u8], table: &[u8]) -> (
     let time = |run: fn(&[u8], &mut [u8], &mut [u8]) -> u64| least(ready, |(table, scratch)| run(tree, table, scratch));
     let (mut after, mut scratch) = ready();
     let answer = calls.0(tree, &mut after, &mut scratch);
-    (Measured { call, answer, library: time(calls.0), reference: time(calls.1) }, after)
+    let (library, reference) = in_turns(calls, time);
+    (Measured { call, answer, library, reference }, after)
 }
 
 /// A tree of the set, if one fits a listing, and one like it that is not in the set.
@@ -114,12 +121,11 @@ fn main() {
             println!("| {name} | {}", measured.row());
         }
     }
-    println!("\n| states | transitions | call | answer | library µs | reference µs | ratio |");
-    println!("|---|---|---|---|---|---|---|");
-    let sizes = [(25, 128), (50, 256), (100, 512), (200, 1024), (100, 256), (100, 1024), (50, 1024), (25, 1024)];
+    println!("\n| states | transitions | ask | intake | add | remove |\n|---|---|---|---|---|---|");
+    let sizes = [(25, 128), (50, 256), (100, 512), (200, 1024), (25, 1024), (50, 1024), (100, 1024), (100, 256)];
     for (states, transitions) in sizes {
-        for measured in four_calls(&tables::mixed(states, transitions), None) {
-            println!("| {states} | {transitions} | {}", measured.row());
-        }
+        let cell = |it: &Measured| format!("{:.1} ({:.2})", it.library, it.library / it.reference);
+        let cells: Vec<String> = four_calls(&tables::mixed(states, transitions), None).iter().map(cell).collect();
+        println!("| {states} | {transitions} | {} |", cells.join(" | "));
     }
 }
