@@ -46,7 +46,7 @@ impl Tally {
     fn bytes(&mut self, call: Call, listing: &[u8], what: &str, library: &[u8], reference: &[u8]) {
         self.expect(library == reference, || {
             let at = library.iter().zip(reference).position(|(x, y)| x != y);
-            format!("{call:?} of {listing:?}: the {what}s differ, first at {at:?}")
+            format!("{call:?} of {listing:?}: the bytes of the {what} differ, first at {at:?}")
         });
     }
 
