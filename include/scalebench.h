@@ -2,8 +2,39 @@
  * Scalebench: approved weighing assemblies as a minimal tree automaton in a table of bytes.
  *
  * A tree is handed in as its listing: two bytes a node, label (1 to 255) and child count (0 to 8), node first, then
- * its children's listings in order; 1 to 48 nodes. A table has SCALEBENCH_TABLE_BYTES bytes; the table of the empty
- * set is all zeros. Every call checks all that it is given and may be handed any bytes of any length.
+ * its children's listings in order; 1 to 48 nodes. A table holds the set of the approved trees; the table of the empty
+ * set is all zeros. The same set always has the same table, byte for byte.
+ *
+ * Every call may be handed any bytes of any length: it checks all that it is given and answers with the first
+ * condition that is broken. A pointer may be NULL where its length is 0.
+ *
+ * Aliasing. What a call writes (table and scratch of add and remove, the listing of read) shares no byte with anything
+ * else that the call gets, and nobody else writes to what a call is given while it runs. Two things that a call only
+ * reads may overlap.
+ *
+ * Threads. The library has no state of its own and takes no memory but less than 256 KiB of stack. Calls on different
+ * tables may run at the same time; so may ask and intake on one table while nobody changes it.
+ *
+ * A whole program. It prints "approved, 2 states, 2 transitions".
+ *
+ *     #include <scalebench.h>
+ *     #include <stdio.h>
+ *
+ *     static uint8_t table[SCALEBENCH_TABLE_BYTES], scratch[SCALEBENCH_SCRATCH_BYTES];
+ *
+ *     int main(void)
+ *     {
+ *         const uint8_t tree[] = {1, 2, 1, 0, 1, 0};
+ *         uint64_t added = scalebench_add(tree, sizeof tree, table, sizeof table, scratch, sizeof scratch);
+ *         if (scalebench_refusal(added)) {
+ *             fprintf(stderr, "refused: %s\n", scalebench_reason(scalebench_refusal(added)));
+ *             return 1;
+ *         }
+ *         uint64_t asked = scalebench_ask(tree, sizeof tree, table, sizeof table);
+ *         printf("%s, %u states, %u transitions\n", scalebench_approved(asked) ? "approved" : "not approved",
+ *                scalebench_states(added), scalebench_transitions(added));
+ *         return 0;
+ *     }
  */
 #ifndef SCALEBENCH_H
 #define SCALEBENCH_H
@@ -15,23 +46,100 @@
 extern "C" {
 #endif
 
+/* The lengths that a table and a scratch must have, and the greatest length of a listing for ask, add and remove. */
 #define SCALEBENCH_TABLE_BYTES 11467
+#define SCALEBENCH_SCRATCH_BYTES 33792
+#define SCALEBENCH_LISTING_BYTES 96
 
-/* Whether the tree is approved. Writes nothing. */
+/* The length that the listing lent to read must have, and the greatest length of a line. */
+#define SCALEBENCH_READ_BYTES 252
+#define SCALEBENCH_LINE_BYTES 512
+
+/* Whether the tree is approved. Refuses by 1 to 5 and 7 to 13. Writes nothing. */
 uint64_t scalebench_ask(const uint8_t *tree, size_t tree_len, const uint8_t *table, size_t table_len);
 
-/* Whether the table is one that these calls leave, with its numbers of states and transitions. Writes nothing. */
+/*
+ * Whether the table is one that these calls leave, with its numbers of states and transitions. Refuses by 5 and 7 to
+ * 13. Writes nothing. A host takes in every table that comes from outside; the other calls check it again.
+ */
 uint64_t scalebench_intake(const uint8_t *table, size_t table_len);
 
 /*
+ * Puts the tree into the set, or takes it out. Not refused: the table is that of the new set, and the answer has its
+ * numbers of states and transitions. Add refuses by all but 15, remove by all but 14; a refusal leaves every byte of
+ * the table as it was.
+ *
+ * The scratch is memory to work in; what it holds before the call does not matter. After refusals 1 to 15 it is as it
+ * was, after 16, 17 and a change it is all zeros.
+ */
+uint64_t scalebench_add(const uint8_t *tree, size_t tree_len, uint8_t *table, size_t table_len, uint8_t *scratch,
+                        size_t scratch_len);
+uint64_t scalebench_remove(const uint8_t *tree, size_t tree_len, uint8_t *table, size_t table_len, uint8_t *scratch,
+                           size_t scratch_len);
+
+/*
+ * Reads one line of text, without its end: (add TREE), (drop TREE) or (ask TREE), where TREE is a label in decimal with
+ * its child trees behind it in brackets, as in (1 (1) (2)). The kind of the answer is one of those below. The listing
+ * of the line's tree goes to the start of `listing`, with zeros behind it; all zeros where the line has no listing. It
+ * may break the conditions of the calls (label 0, nine children, more than 48 nodes), which then refuse it.
+ */
+uint64_t scalebench_read(const uint8_t *line, size_t line_len, uint8_t *listing, size_t listing_len);
+
+enum {
+    SCALEBENCH_NO_ROOM = 0, /* the listing is not SCALEBENCH_READ_BYTES long; nothing was read or written */
+    SCALEBENCH_ADD = 1,     /* put in, take out or ask for the tree listed */
+    SCALEBENCH_DROP = 2,
+    SCALEBENCH_ASK = 3,
+    SCALEBENCH_FORM = 4, /* malformed; the answer has the column */
+    SCALEBENCH_LONG = 5  /* above SCALEBENCH_LINE_BYTES */
+};
+
+/*
  * The number that a call returns is refusal + 256 * kind + 65536 * first + 4294967296 * second. A refused call returns
- * the number of the refusal and nothing else. Ask: kind 1 where the tree is approved, 0 where it is not. Intake: first
- * the number of states, second that of transitions.
+ * the number of the refusal and nothing else; 0 is no refusal.
  */
 static inline unsigned scalebench_refusal(uint64_t answer) { return (unsigned)(answer & 255); }
 static inline unsigned scalebench_kind(uint64_t answer) { return (unsigned)(answer >> 8 & 255); }
+
+/* Of ask: whether the tree is approved. */
+static inline int scalebench_approved(uint64_t answer) { return scalebench_kind(answer) == 1; }
+
+/* Of intake, add and remove, not refused: the numbers of states and of transitions that the table has now. */
 static inline unsigned scalebench_states(uint64_t answer) { return (unsigned)(answer >> 16 & 65535); }
 static inline unsigned scalebench_transitions(uint64_t answer) { return (unsigned)(answer >> 32); }
+
+/* Of read: the length of the listing; the column, from 1, of the first byte that no well-formed line has there. */
+static inline size_t scalebench_length(uint64_t answer) { return (size_t)(answer >> 16 & 65535); }
+static inline unsigned scalebench_column(uint64_t answer) { return (unsigned)(answer >> 16 & 65535); }
+
+/*
+ * A refusal in words. Each condition is checked over its whole input before the next, so that the number returned is
+ * that of the first one broken.
+ */
+static inline const char *scalebench_reason(unsigned refusal)
+{
+    static const char *const reasons[] = {
+        /*  0 */ "not refused",
+        /*  1 */ "the listing is shorter than 2 bytes, longer than 96, or odd in length",
+        /*  2 */ "a label is 0",
+        /*  3 */ "a child count is above 8",
+        /*  4 */ "the child counts do not make exactly one tree",
+        /*  5 */ "the table is not 11467 bytes long",
+        /*  6 */ "the scratch is not 33792 bytes long",
+        /*  7 */ "a field of the table is out of its range, or a byte that must be 0 is not",
+        /*  8 */ "the transitions of the table are not in strictly rising order",
+        /*  9 */ "some state of the table has no tree that leads to it",
+        /* 10 */ "some state of the table has no approved tree with a part that leads to it",
+        /* 11 */ "some state of the table comes back to itself, going from arguments to outputs",
+        /* 12 */ "two different states of the table are alike",
+        /* 13 */ "the states of the table are not numbered by the rule",
+        /* 14 */ "the tree is approved already",
+        /* 15 */ "the tree is not approved",
+        /* 16 */ "the product of the table and the tree has more than 3072 transitions",
+        /* 17 */ "the new table needs more than 200 states or 1024 transitions",
+    };
+    return refusal < sizeof reasons / sizeof reasons[0] ? reasons[refusal] : "no such refusal";
+}
 
 #ifdef __cplusplus
 }

@@ -1,47 +1,5 @@
 /* Ask and intake through the C interface: document 01's listings, and a damaged table for each of 5 and 7 to 13. */
-#include "scalebench.h"
-
-#include <stdio.h>
-#include <string.h>
-
-enum { TABLE = SCALEBENCH_TABLE_BYTES, HEAD = 203, WIDTH = 11 };
-
-static int passed, failed;
-
-static void expect(const char *what, uint64_t got, uint64_t want)
-{
-    if (got == want) {
-        passed++;
-        return;
-    }
-    failed++;
-    printf("%s: got %llu, want %llu\n", what, (unsigned long long)got, (unsigned long long)want);
-}
-
-static uint64_t counts(uint64_t states, uint64_t transitions) { return states << 16 | transitions << 32; }
-
-struct line {
-    uint8_t label, arity, args[8], out;
-};
-
-/* A table with these classes and transitions. */
-static void build(uint8_t *table, unsigned states, const char *classes, const struct line *lines, unsigned count)
-{
-    memset(table, 0, TABLE);
-    table[0] = (uint8_t)states;
-    for (unsigned q = 0; q < states; q++)
-        table[1 + q] = classes[q] == '1';
-    table[201] = (uint8_t)(count / 256);
-    table[202] = (uint8_t)(count % 256);
-    for (unsigned i = 0; i < count; i++)
-        memcpy(table + HEAD + WIDTH * i, &lines[i], WIDTH);
-}
-
-/* The paper's example. */
-static const struct line example[] = {
-    {1, 0, {0}, 1},    {2, 0, {0}, 2},    {1, 2, {1, 1}, 3}, {1, 2, {1, 2}, 3},
-    {1, 2, {2, 1}, 3}, {1, 2, {2, 2}, 3}, {2, 2, {1, 2}, 3},
-};
+#include "tables.h"
 
 static void listings(void)
 {
@@ -68,7 +26,7 @@ static void listings(void)
 static void approved(void)
 {
     uint8_t table[TABLE];
-    build(table, 3, "001", example, 7);
+    build(table, "001", example, 7);
     expect("the example", scalebench_intake(table, TABLE), counts(3, 7));
     expect("(1 (1) (1))", scalebench_ask((const uint8_t[]){1, 2, 1, 0, 1, 0}, 6, table, TABLE), 256);
     expect("(2 (1) (2))", scalebench_ask((const uint8_t[]){2, 2, 1, 0, 2, 0}, 6, table, TABLE), 256);
@@ -82,7 +40,7 @@ static void approved(void)
 static void one_byte(const char *what, unsigned at, uint8_t byte, uint64_t want)
 {
     uint8_t table[TABLE], copy[TABLE];
-    build(table, 3, "001", example, 7);
+    build(table, "001", example, 7);
     table[at] = byte;
     memcpy(copy, table, TABLE);
     expect(what, scalebench_intake(table, TABLE), want);
@@ -114,11 +72,10 @@ static void fields(void)
     one_byte("falling arguments", HEAD + WIDTH * 3 + 2, 2, 8);
 }
 
-static void refused(const char *what, unsigned states, const char *classes, const struct line *lines, unsigned count,
-                    uint64_t want)
+static void refused(const char *what, const char *classes, const struct line *lines, unsigned count, uint64_t want)
 {
     uint8_t table[TABLE];
-    build(table, states, classes, lines, count);
+    build(table, classes, lines, count);
     expect(what, scalebench_intake(table, TABLE), want);
     expect(what, scalebench_ask((const uint8_t[]){1, 0}, 2, table, TABLE), want);
 }
@@ -126,28 +83,28 @@ static void refused(const char *what, unsigned states, const char *classes, cons
 static void automata(void)
 {
     const struct line alone[] = {{1, 0, {0}, 1}, {3, 1, {2}, 2}};
-    refused("no tree leads to state 2", 2, "11", alone, 2, 9);
-    refused("nor in a loop that is used", 2, "10", alone, 2, 9);
+    refused("no tree leads to state 2", "11", alone, 2, 9);
+    refused("nor in a loop that is used", "10", alone, 2, 9);
     const struct line useless[] = {{1, 0, {0}, 1}, {2, 0, {0}, 2}};
-    refused("state 2 leads nowhere", 2, "10", useless, 2, 10);
-    refused("states 1 and 2 lead nowhere", 2, "00", useless, 2, 10);
+    refused("state 2 leads nowhere", "10", useless, 2, 10);
+    refused("states 1 and 2 lead nowhere", "00", useless, 2, 10);
     const struct line loop[] = {{1, 0, {0}, 1}, {2, 1, {1}, 2}, {2, 1, {2}, 2}};
-    refused("state 2 comes back", 2, "01", loop, 3, 11);
+    refused("state 2 comes back", "01", loop, 3, 11);
     const struct line circle[] = {{1, 0, {0}, 1}, {2, 1, {1}, 2}, {2, 1, {2}, 3}, {2, 1, {3}, 2}};
-    refused("states 2 and 3 come back", 3, "010", circle, 4, 11);
-    refused("two alike", 2, "11", useless, 2, 12);
+    refused("states 2 and 3 come back", "010", circle, 4, 11);
+    refused("two alike", "11", useless, 2, 12);
     const struct line uses[] = {{1, 0, {0}, 1}, {2, 0, {0}, 2}, {5, 2, {1, 1}, 3}, {5, 2, {1, 2}, 3}, {5, 2, {2, 1}, 3},
                                 {5, 2, {2, 2}, 3}};
-    refused("two alike in every use", 3, "001", uses, 6, 12);
+    refused("two alike in every use", "001", uses, 6, 12);
     uint8_t table[TABLE];
-    build(table, 3, "001", uses, 5);
+    build(table, "001", uses, 5);
     expect("told apart by the second place", scalebench_intake(table, TABLE), counts(3, 5));
     const struct line turned[] = {{1, 0, {0}, 2}, {2, 0, {0}, 1}, {3, 1, {1}, 2}};
-    refused("state 2 first", 2, "01", turned, 3, 13);
+    refused("state 2 first", "01", turned, 3, 13);
     const struct line late[] = {{1, 0, {0}, 1}, {3, 1, {1}, 3}, {4, 1, {1}, 2}, {5, 1, {2}, 3}};
-    refused("state 3 before state 2", 3, "001", late, 4, 13);
+    refused("state 3 before state 2", "001", late, 4, 13);
     const struct line both[] = {{1, 0, {0}, 2}, {2, 0, {0}, 1}};
-    refused("alike and misnumbered", 2, "11", both, 2, 12);
+    refused("alike and misnumbered", "11", both, 2, 12);
 }
 
 int main(void)
@@ -156,6 +113,5 @@ int main(void)
     approved();
     fields();
     automata();
-    printf("%d passed, %d failed\n", passed, failed);
-    return failed != 0;
+    return finished();
 }

@@ -1,8 +1,7 @@
-//! Pseudo-random trees and tables, the same on every machine.
+//! Pseudo-random numbers, trees and bytes, the same on every machine.
 
-use reference::automaton::{Automaton, Key};
-use reference::tree::Tree;
-use std::collections::BTreeMap;
+use reference::automaton::Automaton;
+use reference::tree::{Tree, MAX_CHILDREN, MAX_NODES};
 
 pub struct Dice(u64);
 
@@ -22,99 +21,110 @@ impl Dice {
         self.roll(256) as u8
     }
 
-    /// A tree of few labels and shapes, so that parts are met again.
-    pub fn tree(&mut self, depth: usize, labels: usize, width: usize) -> Tree {
+    pub fn pick<'a, T>(&mut self, from: &'a [T]) -> &'a T {
+        &from[self.roll(from.len())]
+    }
+
+    /// Bytes for a scratch: a call may not care what they are.
+    pub fn noise(&mut self, length: usize) -> Vec<u8> {
+        let start = self.byte();
+        (0..length).map(|i| (i as u8).wrapping_mul(31) ^ start).collect()
+    }
+
+    fn tree(&mut self, depth: usize, labels: usize, width: usize) -> Tree {
         let children = if depth == 0 { 0 } else { self.roll(width + 1) };
         let label = 1 + self.roll(labels) as u8;
         Tree::new(label, (0..children).map(|_| self.tree(depth - 1, labels, width)).collect())
     }
 
-    /// A tree that a listing can hold.
+    /// A tree of few labels and shapes, so that parts are met again; a listing can hold it.
     pub fn small_tree(&mut self, depth: usize, labels: usize, width: usize) -> Tree {
         loop {
             let tree = self.tree(depth, labels, width);
-            if tree.nodes() <= 48 {
+            if tree.nodes() <= MAX_NODES {
                 return tree;
             }
         }
     }
 
-    /// Transitions between states in any order of numbers; nothing is promised of them but that fields are in range.
-    pub fn automaton(&mut self, states: usize, transitions: usize, labels: usize, width: usize) -> Automaton {
-        let mut lines = BTreeMap::new();
-        for _ in 0..transitions {
-            let arity = self.roll(width + 1);
-            let args = (0..arity).map(|_| 1 + self.roll(states) as u8).collect();
-            lines.insert(Key::new(1 + self.roll(labels) as u8, args), 1 + self.roll(states) as u8);
-        }
-        Automaton { accepting: (0..states).map(|_| self.roll(3) == 0).collect(), transitions: lines }
+    /// Some tree that runs to the state; the automaton has no loops and no state without a tree.
+    fn tree_of(&mut self, automaton: &Automaton, state: u8) -> Tree {
+        let into: Vec<_> = automaton.transitions.iter().filter(|(_, &out)| out == state).collect();
+        let (key, _) = *self.pick(&into);
+        Tree::new(key.label, key.args.iter().map(|&a| self.tree_of(automaton, a)).collect())
     }
-}
 
-/// The automaton of the same language that is legal: unused states dropped, alike ones joined, numbered by the rule.
-/// It must have no loops; then two states are alike somewhere exactly where two of one class have the same uses.
-pub fn legal(automaton: &Automaton) -> Automaton {
-    let mut accepting: BTreeMap<u8, bool> = (1..).zip(automaton.accepting.iter().copied()).collect();
-    let mut lines = automaton.transitions.clone();
-    loop {
-        let before = (accepting.len(), lines.len());
-        let made: Vec<u8> = lines.values().copied().collect();
-        let used: Vec<u8> = lines.keys().flat_map(|key| key.args.iter().copied()).collect();
-        accepting.retain(|q, class| made.contains(q) && (*class || used.contains(q)));
-        lines.retain(|key, out| accepting.contains_key(out) && key.args.iter().all(|a| accepting.contains_key(a)));
-        if let Some((p, q)) = alike(&accepting, &lines) {
-            accepting.remove(&q);
-            lines.retain(|key, _| !key.args.contains(&q));
-            lines.values_mut().for_each(|out| *out = if *out == q { p } else { *out });
+    /// A tree that a legal automaton accepts, if the one drawn fits a listing.
+    pub fn accepted(&mut self, automaton: &Automaton) -> Option<Tree> {
+        let accepting: Vec<u8> = (1..=automaton.accepting.len() as u8).filter(|&q| automaton.accepts(q)).collect();
+        if accepting.is_empty() {
+            return None;
         }
-        if (accepting.len(), lines.len()) == before {
-            break;
-        }
+        let state = *self.pick(&accepting);
+        Some(self.tree_of(automaton, state)).filter(|tree| tree.nodes() <= MAX_NODES)
     }
-    let number: BTreeMap<u8, u8> = accepting.keys().copied().zip(1..).collect();
-    let renamed = |q: &u8| number[q];
-    Automaton {
-        accepting: accepting.values().copied().collect(),
-        transitions: lines
-            .iter()
-            .map(|(key, out)| (Key::new(key.label, key.args.iter().map(renamed).collect()), renamed(out)))
-            .collect(),
-    }
-    .renumbered()
-}
 
-fn alike(accepting: &BTreeMap<u8, bool>, lines: &BTreeMap<Key, u8>) -> Option<(u8, u8)> {
-    let mut seen = BTreeMap::new();
-    for (&q, &class) in accepting {
-        let mut uses = Vec::new();
-        for (key, &out) in lines {
-            for k in 0..key.arity {
-                if key.args[k] == q {
-                    let mut around = key.args.clone();
-                    around[k] = 0;
-                    uses.push((key.label, k, around, out));
-                }
+    /// The tree with one thing changed at a random node: its label, the order or number of its children, or the whole
+    /// part exchanged for one of another state. The automaton is one that accepts the tree.
+    pub fn near_miss(&mut self, automaton: &Automaton, tree: &Tree) -> Tree {
+        let mut new = tree.clone();
+        let mut node = &mut new;
+        while !node.children.is_empty() && self.roll(3) > 0 {
+            let k = self.roll(node.children.len());
+            node = &mut node.children[k];
+        }
+        match self.roll(4) {
+            0 => node.label = 1 + self.roll(5) as u8,
+            1 => node.children.reverse(),
+            2 => drop(node.children.pop()),
+            _ => {
+                let state = 1 + self.roll(automaton.accepting.len()) as u8;
+                *node = self.tree_of(automaton, state);
             }
         }
-        uses.sort();
-        if let Some(&p) = seen.get(&(class, uses.clone())) {
-            return Some((p, q));
-        }
-        seen.insert((class, uses), q);
+        if new.nodes() <= MAX_NODES { new } else { tree.clone() }
     }
-    None
+
+    /// A tree with all trees of some state among its parts, if a state has few enough: then no other tree is left that
+    /// runs to this state, and its pair with none is missing from the product.
+    pub fn covering(&mut self, automaton: &Automaton) -> Option<Tree> {
+        if automaton.accepting.is_empty() {
+            return None;
+        }
+        let state = 1 + self.roll(automaton.accepting.len()) as u8;
+        let mut parts = all_trees(automaton, state)?;
+        while parts.len() > MAX_CHILDREN {
+            let last = parts.split_off(parts.len() - MAX_CHILDREN);
+            parts.push(Tree::new(1 + self.roll(4) as u8, last));
+        }
+        let tree = if parts.len() == 1 && self.roll(2) == 0 {
+            parts.remove(0)
+        } else {
+            Tree::new(1 + self.roll(4) as u8, parts)
+        };
+        Some(tree).filter(|tree| tree.nodes() <= MAX_NODES)
+    }
 }
 
-impl Dice {
-    /// A legal automaton: lines go from lower to higher numbers before it is brought into order.
-    pub fn legal(&mut self, states: usize, transitions: usize, labels: usize, width: usize) -> Automaton {
-        let mut lines = BTreeMap::new();
-        for _ in 0..transitions {
-            let out = 1 + self.roll(states);
-            let arity = if out == 1 { 0 } else { self.roll(width + 1) };
-            let args = (0..arity).map(|_| 1 + self.roll(out - 1) as u8).collect();
-            lines.insert(Key::new(1 + self.roll(labels) as u8, args), out as u8);
+/// All trees that run to a state, unless they are more than a listing holds.
+fn all_trees(automaton: &Automaton, state: u8) -> Option<Vec<Tree>> {
+    let mut trees = Vec::new();
+    for (key, _) in automaton.transitions.iter().filter(|(_, &out)| out == state) {
+        let mut rows: Vec<Vec<Tree>> = vec![Vec::new()];
+        for &a in &key.args {
+            let choices = all_trees(automaton, a)?;
+            let longer = |row: &Vec<Tree>| -> Vec<Vec<Tree>> {
+                choices.iter().map(|tree| row.iter().chain([tree]).cloned().collect()).collect()
+            };
+            rows = rows.iter().flat_map(longer).collect();
+            if rows.len() > MAX_NODES {
+                return None;
+            }
         }
-        legal(&Automaton { accepting: (0..states).map(|_| self.roll(4) == 0).collect(), transitions: lines })
+        trees.extend(rows.into_iter().map(|row| Tree::new(key.label, row)));
+        if trees.iter().map(Tree::nodes).sum::<usize>() > MAX_NODES {
+            return None;
+        }
     }
+    Some(trees)
 }

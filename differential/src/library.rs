@@ -4,6 +4,23 @@ mod c {
     extern "C" {
         pub fn scalebench_ask(tree: *const u8, tree_len: usize, table: *const u8, table_len: usize) -> u64;
         pub fn scalebench_intake(table: *const u8, table_len: usize) -> u64;
+        pub fn scalebench_add(
+            tree: *const u8,
+            tree_len: usize,
+            table: *mut u8,
+            table_len: usize,
+            scratch: *mut u8,
+            scratch_len: usize,
+        ) -> u64;
+        pub fn scalebench_remove(
+            tree: *const u8,
+            tree_len: usize,
+            table: *mut u8,
+            table_len: usize,
+            scratch: *mut u8,
+            scratch_len: usize,
+        ) -> u64;
+        pub fn scalebench_read(line: *const u8, line_len: usize, listing: *mut u8, listing_len: usize) -> u64;
     }
 }
 
@@ -15,4 +32,21 @@ pub fn ask(tree: &[u8], table: &[u8]) -> u64 {
 pub fn intake(table: &[u8]) -> u64 {
     // SAFETY: as above.
     unsafe { c::scalebench_intake(table.as_ptr(), table.len()) }
+}
+
+pub fn add(tree: &[u8], table: &mut [u8], scratch: &mut [u8]) -> u64 {
+    let (bytes, work) = (table.as_mut_ptr(), scratch.as_mut_ptr());
+    // SAFETY: pointers and lengths are those of slices, and what is written is lent for writing alone.
+    unsafe { c::scalebench_add(tree.as_ptr(), tree.len(), bytes, table.len(), work, scratch.len()) }
+}
+
+pub fn remove(tree: &[u8], table: &mut [u8], scratch: &mut [u8]) -> u64 {
+    let (bytes, work) = (table.as_mut_ptr(), scratch.as_mut_ptr());
+    // SAFETY: as above.
+    unsafe { c::scalebench_remove(tree.as_ptr(), tree.len(), bytes, table.len(), work, scratch.len()) }
+}
+
+pub fn read(line: &[u8], listing: &mut [u8]) -> u64 {
+    // SAFETY: as above.
+    unsafe { c::scalebench_read(line.as_ptr(), line.len(), listing.as_mut_ptr(), listing.len()) }
 }

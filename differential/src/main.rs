@@ -1,118 +1,111 @@
-//! Ask and intake of the proved library and of the reference on the same bytes: tables that series of changes leave,
-//! tables of random automata, and both damaged, with listings that are whole or not. Every refusal must be met.
+//! The proved library and the reference on the same bytes: series of calls from the empty table, from random legal
+//! tables and from such near the limits; damaged tables; all lengths; lines of text. Answers and every byte that a call
+//! may write are compared, and every answer of every call must be met.
 
-mod dice;
-mod library;
-
-use dice::Dice;
+use differential::dice::Dice;
+use differential::lines::lines;
+use differential::series::{next_tree, series};
+use differential::tally::{Call, Tally};
+use reference::automaton::Automaton;
 use reference::table::{encode, SCRATCH_BYTES, TABLE_BYTES};
-use std::collections::BTreeMap;
+use reference::tree::Tree;
 
-const SERIES: usize = 200;
-const CHANGES: usize = 25;
-const AUTOMATA: usize = 20;
+const SERIES: usize = 400;
+const CALLS: usize = 60;
+const NEAR_LIMITS: usize = 60;
+const AUTOMATA: usize = 2_500;
+const DAMAGED: usize = 20_000;
 
-#[derive(Default)]
-struct Tally {
-    asked: BTreeMap<u64, usize>,
-    passed: usize,
-    failed: usize,
+fn small_legal(dice: &mut Dice) -> Automaton {
+    let (states, transitions) = (2 + dice.roll(12), 2 + dice.roll(40));
+    let (labels, width) = (1 + dice.roll(4), 1 + dice.roll(3));
+    dice.legal(states, transitions, labels, width)
 }
 
-impl Tally {
-    fn expect(&mut self, what: &str, got: u64, want: u64) {
-        if got == want {
-            self.passed += 1;
-        } else {
-            self.failed += 1;
-            println!("{what}: library {got}, reference {want}");
+fn all_series(dice: &mut Dice, tally: &mut Tally) {
+    for i in 0..SERIES {
+        let start = if i % 2 == 0 { Automaton::default() } else { small_legal(dice) };
+        series(dice, tally, &start, CALLS);
+    }
+}
+
+/// Tables near the limits, where 16 and 17 are met, and trees that tell their leaves apart.
+fn near_limits(dice: &mut Dice, tally: &mut Tally) {
+    for i in 0..NEAR_LIMITS {
+        let automaton = if i % 6 == 0 { dice.deep() } else { dice.families() };
+        let table = encode(&automaton);
+        let scratch = dice.noise(SCRATCH_BYTES);
+        let split = Tree::new(20, (0..1 + dice.roll(2)).map(|_| Tree::leaf(1 + dice.roll(2) as u8)).collect());
+        tally.change(Call::Add, &split.listing(), &mut table.clone(), &scratch);
+        if let Some(tree) = dice.accepted(&automaton) {
+            tally.change(Call::Remove, &tree.listing(), &mut table.clone(), &scratch);
         }
+        series(dice, tally, &automaton, 4);
     }
+}
 
-    fn compare(&mut self, listing: &[u8], table: &[u8]) {
-        let answer = library::ask(listing, table);
-        *self.asked.entry(answer).or_default() += 1;
-        self.expect("ask", answer, reference::ask(listing, table).packed());
-        self.expect("intake", library::intake(table), reference::take_in(table).packed());
-    }
-
-    /// No refusal, and neither of the two answers, was left untried.
-    fn all_met(&mut self) {
-        for answer in [0, 1, 2, 3, 4, 5, 7, 8, 9, 10, 11, 12, 13, 256] {
-            self.expect("answers met", self.asked.contains_key(&answer).into(), 1);
+fn damaged_tables(dice: &mut Dice, tally: &mut Tally) {
+    let mut legal = Automaton::default();
+    for i in 0..DAMAGED {
+        if i % 10 == 1 {
+            legal = small_legal(dice);
         }
+        let refusal = *dice.pick(&[5, 7, 8, 9, 10, 11, 12, 13]);
+        let table = dice.damaged(&encode(&legal), refusal);
+        let listing = next_tree(dice, &legal, &[Tree::leaf(2)]).listing();
+        let call = if dice.roll(2) == 0 { Call::Add } else { Call::Remove };
+        let scratch = if dice.roll(50) == 0 { dice.noise(7) } else { dice.noise(SCRATCH_BYTES) };
+        tally.read(&listing, &table);
+        tally.change(call, &listing, &mut table.clone(), &scratch);
     }
 }
 
-/// One or two bytes changed, most of them where the transitions are.
-fn damaged(dice: &mut Dice, table: &[u8]) -> Vec<u8> {
-    let mut bytes = table.to_vec();
-    let count = 256 * usize::from(bytes[201]) + usize::from(bytes[202]);
-    let end = (203 + 11 * count + 3).min(TABLE_BYTES);
-    for _ in 0..1 + dice.roll(2) {
-        let at = if dice.roll(5) == 0 { dice.roll(204) } else { dice.roll(end) };
-        bytes[at] = match dice.roll(3) {
-            0 => dice.byte(),
-            1 => bytes[at].wrapping_add(1),
-            _ => bytes[at].wrapping_sub(1),
-        };
-    }
-    if dice.roll(20) == 0 {
-        bytes.pop();
-    }
-    bytes
-}
-
-fn damaged_listing(dice: &mut Dice, listing: &[u8]) -> Vec<u8> {
-    let mut bytes = listing.to_vec();
-    if dice.roll(3) == 0 {
-        let at = dice.roll(bytes.len());
-        bytes[at] = dice.roll(10) as u8;
-    }
-    if dice.roll(9) == 0 {
-        bytes.pop();
-    }
-    bytes
-}
-
-fn series(dice: &mut Dice, tally: &mut Tally) {
-    let (mut table, mut scratch) = (vec![0; TABLE_BYTES], vec![0; SCRATCH_BYTES]);
-    let mut listings: Vec<Vec<u8>> = Vec::new();
-    for _ in 0..CHANGES {
-        let listing = dice.small_tree(3, 3, 3).listing();
-        listings.push(listing.clone());
-        if dice.roll(4) == 0 {
-            let old = &listings[dice.roll(listings.len())];
-            reference::remove(old, &mut table, &mut scratch);
-        } else {
-            reference::add(&listing, &mut table, &mut scratch);
-        }
-        tally.compare(&listing, &table);
-        for _ in 0..4 {
-            tally.compare(&damaged_listing(dice, &listing), &damaged(dice, &table));
-        }
-    }
-}
-
-fn automata(dice: &mut Dice, tally: &mut Tally) {
+/// Automata of which nothing is promised but that fields are in range.
+fn any_automata(dice: &mut Dice, tally: &mut Tally) {
     for _ in 0..AUTOMATA {
-        let listing = dice.small_tree(3, 3, 3).listing();
         let (states, transitions) = (2 + dice.roll(12), 2 + dice.roll(40));
         let (labels, width) = (1 + dice.roll(4), 1 + dice.roll(3));
-        tally.compare(&listing, &encode(&dice.automaton(states, transitions, labels, width)));
-        tally.compare(&listing, &encode(&dice.legal(states, transitions, labels, width)));
+        let table = encode(&dice.automaton(states, transitions, labels, width));
+        let listing = dice.small_tree(3, 3, 3).listing();
+        tally.all(&listing, &table, &dice.noise(SCRATCH_BYTES));
+    }
+}
+
+/// Listings of every length up to some beyond the greatest, and tables and scratches of wrong lengths.
+fn lengths(dice: &mut Dice, tally: &mut Tally) {
+    let legal = encode(&small_legal(dice));
+    for length in 0..=104 {
+        let chain: Vec<u8> = (0..length).map(|i| if i % 2 == 0 { 1 } else { u8::from(i + 1 < length) }).collect();
+        let leaves: Vec<u8> = (0..length).map(|i| if i % 2 == 0 { 2 } else { 0 }).collect();
+        let any: Vec<u8> = (0..length).map(|_| dice.roll(11) as u8).collect();
+        for listing in [chain, leaves, any] {
+            tally.all(&listing, &legal, &dice.noise(SCRATCH_BYTES));
+        }
+    }
+    let near = |right: usize| (0..=12).chain(200..=216).chain(right - 12..=right + 12).chain([2 * right]);
+    for length in near(TABLE_BYTES) {
+        let mut table = legal.clone();
+        table.resize(length, 0);
+        for scratch in [SCRATCH_BYTES, SCRATCH_BYTES - 1] {
+            tally.all(&[1, 0], &table, &dice.noise(scratch));
+        }
+    }
+    for length in near(SCRATCH_BYTES) {
+        let broken = dice.damaged(&legal, 7);
+        for table in [&legal, &broken] {
+            tally.all(&[1, 0], table, &dice.noise(length));
+        }
     }
 }
 
 fn main() {
     let mut dice = Dice::new(1);
     let mut tally = Tally::default();
-    for _ in 0..SERIES {
-        series(&mut dice, &mut tally);
-        automata(&mut dice, &mut tally);
+    for part in [all_series, near_limits, damaged_tables, any_automata, lengths, lines] {
+        part(&mut dice, &mut tally);
+        println!("{} calls", tally.calls());
     }
     tally.all_met();
-    println!("{:?}", tally.asked);
     println!("{} passed, {} failed", tally.passed, tally.failed);
     std::process::exit((tally.failed != 0).into());
 }

@@ -3,6 +3,7 @@
 
 pub mod automaton;
 pub mod table;
+pub mod text;
 pub mod tree;
 
 use automaton::{Automaton, TooMany};

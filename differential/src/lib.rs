@@ -1,0 +1,9 @@
+//! What compares the proved library with the reference: calls of both, random trees, automata and lines, damage.
+
+pub mod automata;
+pub mod damage;
+pub mod dice;
+pub mod library;
+pub mod lines;
+pub mod series;
+pub mod tally;

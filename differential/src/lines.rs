@@ -1,0 +1,60 @@
+//! Lines of text: well-formed, with a byte changed, put in or left out, cut at every length, and of any bytes.
+
+use crate::dice::Dice;
+use crate::tally::Tally;
+use reference::text::READ_BYTES;
+use reference::tree::Tree;
+
+const LINES: usize = 20_000;
+const USED: &[u8] = b"()  0123456789adkoprs\r\n\0x";
+
+/// Lines of all kinds, and listings of wrong lengths lent.
+pub fn lines(dice: &mut Dice, tally: &mut Tally) {
+    for i in 0..LINES {
+        let (depth, width) = if i % 8 == 0 { (6, 3) } else { (3, 4) };
+        let line = dice.line(depth, width);
+        let noise = dice.noise(READ_BYTES);
+        tally.line(&line, &noise);
+        tally.line(&dice.damaged_line(&line), &noise);
+        tally.line(&line[..dice.roll(line.len() + 1)], &noise);
+    }
+    let long = dice.line_of(&(0..125).fold(Tree::leaf(1), |tree, _| Tree::new(1, vec![tree])));
+    for length in 0..=530 {
+        let noise = dice.noise(READ_BYTES);
+        let any: Vec<u8> = (0..length).map(|_| *dice.pick(USED)).collect();
+        let start: Vec<u8> = long.iter().copied().chain(std::iter::repeat(b' ')).take(length).collect();
+        tally.line(&any, &noise);
+        tally.line(&start, &noise);
+        tally.line(&long, &noise[..length.min(READ_BYTES - 1)]);
+    }
+    tally.line(&long, &dice.noise(READ_BYTES + 1));
+}
+
+impl Dice {
+    fn line(&mut self, depth: usize, width: usize) -> Vec<u8> {
+        let tree = self.small_tree(depth, 255, width);
+        self.line_of(&tree)
+    }
+
+    fn line_of(&mut self, tree: &Tree) -> Vec<u8> {
+        let word = *self.pick(&["add", "drop", "ask"]);
+        format!("({word} {})", bracketed(tree)).into_bytes()
+    }
+
+    fn damaged_line(&mut self, line: &[u8]) -> Vec<u8> {
+        let mut bytes = line.to_vec();
+        let at = self.roll(bytes.len());
+        let byte = *self.pick(USED);
+        match self.roll(3) {
+            0 => bytes[at] = byte,
+            1 => bytes.insert(at, byte),
+            _ => drop(bytes.remove(at)),
+        }
+        bytes
+    }
+}
+
+fn bracketed(tree: &Tree) -> String {
+    let children: Vec<String> = tree.children.iter().map(|child| format!(" {}", bracketed(child))).collect();
+    format!("({}{})", tree.label, children.concat())
+}

@@ -1,0 +1,123 @@
+//! One call made of both, answer and every byte compared, and what was met on the way.
+
+use crate::library;
+use reference::text::{self, READ_BYTES};
+use std::collections::BTreeMap;
+
+/// The calls, in the order in which their refusals are listed below.
+#[derive(Clone, Copy, Debug, PartialEq, Eq, PartialOrd, Ord)]
+pub enum Call {
+    Ask,
+    Intake,
+    Add,
+    Remove,
+    Read,
+}
+
+#[derive(Default)]
+pub struct Tally {
+    met: BTreeMap<(Call, u64), usize>,
+    pub passed: usize,
+    pub failed: usize,
+}
+
+const SHOWN: usize = 20;
+
+impl Tally {
+    pub fn expect(&mut self, equal: bool, tell: impl Fn() -> String) {
+        if equal {
+            self.passed += 1;
+            return;
+        }
+        self.failed += 1;
+        if self.failed <= SHOWN {
+            println!("{}", tell());
+        }
+    }
+
+    fn answers(&mut self, call: Call, listing: &[u8], library: u64, reference: u64) {
+        // The refusal and the kind; the numbers of states and transitions are no answer of their own.
+        *self.met.entry((call, library & 0xffff)).or_default() += 1;
+        self.expect(library == reference, || {
+            format!("{call:?} of {listing:?}: library {library:#x}, reference {reference:#x}")
+        });
+    }
+
+    fn bytes(&mut self, call: Call, listing: &[u8], what: &str, library: &[u8], reference: &[u8]) {
+        self.expect(library == reference, || {
+            let at = library.iter().zip(reference).position(|(x, y)| x != y);
+            format!("{call:?} of {listing:?}: the bytes of the {what} differ, first at {at:?}")
+        });
+    }
+
+    /// Ask and intake.
+    pub fn read(&mut self, listing: &[u8], table: &[u8]) {
+        self.answers(Call::Ask, listing, library::ask(listing, table), reference::ask(listing, table).packed());
+        self.intake(table);
+    }
+
+    pub fn intake(&mut self, table: &[u8]) {
+        self.answers(Call::Intake, &[], library::intake(table), reference::take_in(table).packed());
+    }
+
+    /// Add or remove; the table is left as the reference leaves it.
+    pub fn change(&mut self, call: Call, listing: &[u8], table: &mut Vec<u8>, scratch: &[u8]) {
+        let (mut own_table, mut own_scratch) = (table.clone(), scratch.to_vec());
+        let mut scratch = scratch.to_vec();
+        let (library, reference) = if call == Call::Add {
+            let answer = library::add(listing, &mut own_table, &mut own_scratch);
+            (answer, reference::add(listing, table, &mut scratch))
+        } else {
+            let answer = library::remove(listing, &mut own_table, &mut own_scratch);
+            (answer, reference::remove(listing, table, &mut scratch))
+        };
+        self.answers(call, listing, library, reference.packed());
+        self.bytes(call, listing, "table", &own_table, table);
+        self.bytes(call, listing, "scratch", &own_scratch, &scratch);
+    }
+
+    /// All four calls; the table is left as it is.
+    pub fn all(&mut self, listing: &[u8], table: &[u8], scratch: &[u8]) {
+        self.read(listing, table);
+        self.change(Call::Add, listing, &mut table.to_vec(), scratch);
+        self.change(Call::Remove, listing, &mut table.to_vec(), scratch);
+    }
+
+    /// Read, with a listing of this length lent; only the right one is written to.
+    pub fn line(&mut self, line: &[u8], listing: &[u8]) {
+        let mut own = listing.to_vec();
+        let answer = library::read(line, &mut own);
+        let (number, bytes) = if listing.len() == READ_BYTES {
+            let read = text::read(line);
+            (read.packed(), read.padded())
+        } else {
+            (0, listing.to_vec())
+        };
+        self.answers(Call::Read, line, answer, number);
+        self.bytes(Call::Read, line, "listing", &own, &bytes);
+    }
+
+    pub fn calls(&self) -> usize {
+        self.met.values().sum()
+    }
+
+    /// No refusal of a call, and no answer of it, was left untried.
+    pub fn all_met(&mut self) {
+        for call in [Call::Ask, Call::Intake, Call::Add, Call::Remove, Call::Read] {
+            let answers: Vec<u64> = match call {
+                Call::Ask => (0..=5).chain(7..=13).chain([256]).collect(),
+                Call::Intake => [0, 5].into_iter().chain(7..=13).collect(),
+                Call::Add => (0..=14).chain([16, 17]).collect(),
+                Call::Remove => (0..=13).chain(15..=17).collect(),
+                Call::Read => (0..=5).map(|kind| 256 * kind).collect(),
+            };
+            for answer in answers {
+                let met = self.met.contains_key(&(call, answer));
+                self.expect(met, || format!("{call:?}: answer {answer} was never met"));
+            }
+            let met: Vec<String> =
+                self.met.range((call, 0)..=(call, u64::MAX)).map(|((_, a), n)| format!("{a}: {n}")).collect();
+            println!("{call:?}: {}", met.join(", "));
+        }
+    }
+}

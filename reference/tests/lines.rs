@@ -1,0 +1,43 @@
+//! Lines of the bench program: forms, columns, and trees beyond the limits of the calls.
+
+use reference::text::{read, Line};
+
+#[test]
+fn commands() {
+    assert_eq!(read(b"(add (1 (1) (2)))"), Line::Command(0, vec![1, 2, 1, 0, 2, 0]));
+    assert_eq!(read(b"(drop (255))"), Line::Command(1, vec![255, 0]));
+    assert_eq!(read(b"(ask (0 (10 (3)) (4)))"), Line::Command(2, vec![0, 2, 10, 1, 3, 0, 4, 0]));
+    let nine = format!("(ask (1{}))", " (1)".repeat(9));
+    assert_eq!(read(nine.as_bytes()), Line::Command(2, [vec![1, 9], [1, 0].repeat(9)].concat()));
+}
+
+#[test]
+fn columns() {
+    for (line, column) in [
+        ("", 1),
+        ("x", 1),
+        ("(add", 5),
+        ("(asd (1))", 4),
+        ("(ask  (1))", 6),
+        ("(ask (256))", 9),
+        ("(ask (01))", 8),
+        ("(ask ())", 7),
+        ("(ask (1)", 9),
+        ("(ask (1)))", 10),
+        ("(ask (1(2)))", 8),
+        ("(ask (1 (2) ))", 13),
+        ("(ask (1 2))", 9),
+        ("(ask (1))\r", 10),
+    ] {
+        assert_eq!(read(line.as_bytes()), Line::Form(column), "{line}");
+    }
+}
+
+#[test]
+fn lengths() {
+    assert_eq!(read(&[b'('; 512]), Line::Form(2));
+    assert_eq!(read(&[b'('; 513]), Line::Long);
+    let deep = format!("(ask {}{})", "(1 ".repeat(125) + "(1", ")".repeat(126));
+    assert_eq!(deep.len(), 509);
+    assert!(matches!(read(deep.as_bytes()), Line::Command(2, listing) if listing.len() == 252));
+}
