@@ -2,6 +2,7 @@
 // `&table[203..]` of a table, or a scratch. Layout and order are conditions 7 and 8.
 ghost use mathlib.Core.Path.{_≡_};
 ghost use Prim.Native.Nat.{_*_, _+_, _-_, _<_, _≤_};
+ghost use lib.Dec.{eqb};
 ghost use lib.ListN.{length, take};
 ghost use Rattle.automata.specs.Automaton.{lookup, matches};
 ghost use Rattle.automata.specs.Order.{lex, precedes, rising};
@@ -143,18 +144,24 @@ fn transitions_fit(run: &[u8], states: usize, count: usize) -> bool
     true
 }
 
-// Whether the bytes of a run from one on are all 0.
+fn is_zero(byte: u8) -> bool
+    ensures { λ r. ⌜ r ≡ eqb byte 0 ⌝ }
+{
+    byte == 0
+}
+
+// Whether the bytes of a run from one on are all 0. No byte ends the loop, so that a machine may look at many at once.
 fn zeros_from(run: &[u8], start: usize) -> bool
     ensures { λ r. ⌜ r ≡ every (zeroAt (now (run .entry))) (upFrom start (length (now (run .entry)) - start)) ⌝ }
 {
+    let mut clean = true;
     let mut j = start;
     while j < run.len() {
-        if run[j] != 0 {
-            return false;
-        }
+        let zero = is_zero(run[j]);
+        clean = clean & zero;
         j += 1;
     }
-    true
+    clean
 }
 
 // Condition 7: every field of a table is in its range, and every byte that must be 0 is.

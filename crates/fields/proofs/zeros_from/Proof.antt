@@ -1,47 +1,43 @@
--- `fields::zeros_from` meets its contract: the answer is that of the bytes left.
+use native.Mathlib.Omega.{arith}
 use mathlib.Core.Path.{refl}
 use Prim.Native.Nat.{_+_, _-_, _≤_}
-use native.Mathlib.Omega.{arith}
 use lib.ListN.{length}
-use borrow.Author.Needs.{needs}
-use borrow.Author.Tests.{eq-eqb, ne-eqb}
 use Rattle.lists.specs.Positions.{upFrom}
 use Rattle.lists.specs.Tests.{every}
 use Rattle.table.specs.Layout.{zeroAt}
-use Rattle.lists.proofs.Loops.{EveryFrom, every-broken, every-end, every-next, every-start}
+use Rattle.fields.proofs.Laws.{CleanFrom, clean-end, clean-next, clean-start}
+use borrow.Author.Needs.{needs}
 use Rattle.fields.proofs.zeros_from.Statement.{statement}
 use Rattle.fields.proofs.zeros_from.Tie as tie
 
 abbrev Inv-loop : tie.InvT-loop
-Inv-loop run start j₀ j =
-    (start ≤ j) × EveryFrom (every (zeroAt run) (upFrom start (length run - start))) (zeroAt run)
-    (start + (length run - start)) j
+Inv-loop run start clean₀ j₀ clean j =
+    (start ≤ j) × CleanFrom (every (zeroAt run) (upFrom start (length run - start))) clean (zeroAt run) (start + (length run - start)) j
 
 abbrev μ-loop : tie.MeasureT-loop
-μ-loop run start j₀ j = length run - j
+μ-loop run start clean₀ j₀ clean j = length run - j
 
 loop-holds : tie.Need-loop-holds Inv-loop μ-loop
-loop-holds c = (omega arith, every-start (length (c .args .run .now) - c .args .start) refl)
+loop-holds c = (omega arith, clean-start (length (c .before .args .run .now) - (c .before .args) .start) refl)
 
-shared-slice-read-if1 : tie.Need-shared-slice-read-if1 Inv-loop μ-loop
-shared-slice-read-if1 c = search needs
+shared-slice-read-is-zero : tie.Need-shared-slice-read-is-zero Inv-loop μ-loop
+shared-slice-read-is-zero c = search needs
 
-returns : tie.Need-returns Inv-loop μ-loop
-returns c =
-    every-broken (c .before .before .before .loop .inv .1) (omega arith) (ne-eqb _ _ (c .if1 .taken))
+is-zero-requires : tie.Need-is-zero-requires Inv-loop μ-loop
+is-zero-requires c κs = search needs
 
 add-j : tie.Need-add-j Inv-loop μ-loop
 add-j c = search needs
 
 loop-less : tie.Need-loop-less Inv-loop μ-loop
-loop-less c = search needs
+loop-less c = omega arith
 
 loop-again : tie.Need-loop-again Inv-loop μ-loop
 loop-again c =
-    (omega arith, every-next (c .before .before .before .loop .inv .1) (omega arith) (eq-eqb _ _ (c .if1 .left)))
+    (omega arith, clean-next (c .before .before .before .loop .inv .1) (omega arith) (c .is-zero .ensures))
 
-returns-2 : tie.Need-returns-2 Inv-loop μ-loop
-returns-2 c = every-end (c .before .loop .inv .1) (omega arith)
+returns : tie.Need-returns Inv-loop μ-loop
+returns c = clean-end (c .before .loop .inv .1) (omega arith)
 
 pub zeros-from-spec : {M : Type 1} → statement M
 zeros-from-spec =
@@ -50,9 +46,9 @@ zeros-from-spec =
     Inv-loop
     μ-loop
     loop-holds
-    shared-slice-read-if1
-    returns
+    shared-slice-read-is-zero
+    is-zero-requires
     add-j
     loop-less
     loop-again
-    returns-2)
+    returns)
