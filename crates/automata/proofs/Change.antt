@@ -58,7 +58,8 @@ module _ (t : Tree) where
         (minimal (productWith (λ k. new (accepting A (k .0)) (eqb (k .1) (subtreeNumber (subtrees t) t))) A t))
     unfolding productWith
     changed new z =
-        subst (λ (S : Tree → Bool). Canonical S (minimal (product cls A (subtreeAutomaton (subtrees t))))) (fun-ext same)
+        subst (λ (S : Tree → Bool). Canonical S (minimal (product cls A (subtreeAutomaton (subtrees t))))) (fun-ext
+        same)
         (minimal-canonical (product cls A (subtreeAutomaton (subtrees t)))
         (product-fits A (subtreeAutomaton (subtrees t)) fit subtrees-fit cls)
         (product-accessible A (subtreeAutomaton (subtrees t)) fit subtrees-fit cls))

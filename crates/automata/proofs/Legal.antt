@@ -63,4 +63,5 @@ canonical-legal S A X legal τ i = go (X .only τ i)
     go : Occurs S (X .group) τ → LegalNode (τ .label) (length (τ .args))
     go (a, f, (c, h), e) =
         subst (λ (υ : Transition). LegalNode (υ .label) (length (υ .args))) (sym e)
-        (subst (LegalNode a) (sym (each-count (X .group) f)) (subtree-legal c (node a f) (legal (plug c (node a f)) h) .0))
+        (subst (LegalNode a) (sym (each-count (X .group) f)) (subtree-legal c (node a f) (legal (plug c (node a f))
+        h) .0))

@@ -39,7 +39,8 @@ range-in n q h l = and-both (le-leb 1 q h) (le-leb q n l)
 
 pub ranged-transition : (A : Automaton) → statesInRange A ≡ true → (τ : Transition) → τ ∈ A .transitions → InRange A τ
 ranged-transition A e τ i =
-    let r = every-in (λ τ. every (inRange (states A)) (τ .args) && inRange (states A) (τ .out)) (A .transitions) e τ i in
+    let r = every-in (λ τ. every (inRange (states A)) (τ .args) && inRange (states A) (τ .out)) (A .transitions) e τ
+    i in
     record {
       args = λ q j. in-range (states A) q (every-in (inRange (states A)) (τ .args) (and-left _ _ r) q j);
       out = in-range (states A) (τ .out) (and-right (every (inRange (states A)) (τ .args)) _ r);

@@ -112,7 +112,8 @@ module _ (b : List ℕ) (m : Model) (X : InStep b m) where
     limits = record {
       states = leb-true (states (changed c A)) maxStates (and-left _ _ f);
       transitions =
-          leb-true (length (changed c A .transitions)) maxTransitions (and-right (leb (states (changed c A)) maxStates) _ f);
+          leb-true (length (changed c A .transitions)) maxTransitions (and-right (leb (states (changed c A))
+          maxStates) _ f);
       legal = canonical-legal (changedSet c (member m)) (changed c A) Y (changed-legal c (member m) l members-legal);
     };
   }
@@ -135,10 +136,13 @@ module _ (b : List ℕ) (m : Model) (X : InStep b m) where
     fresh : modelRefusal m c s w ≡ 0 → InStep (encode (changed c (decode b))) (withChange c m)
     unfolding modelRefusal changeConditions
     fresh e =
-        let all = unbroken-hold (listingConditions s ++ (scratchCondition w ∷ changeConditions c (member m (changedTree c)) (canonicalOf m)))
-        (from-one-append (listingConditions s) (scratchCondition w ∷ changeConditions c (member m (changedTree c)) (canonicalOf m))
+        let all = unbroken-hold (listingConditions s ++ (scratchCondition w ∷ changeConditions c (member m
+        (changedTree c)) (canonicalOf m)))
+        (from-one-append (listingConditions s) (scratchCondition w ∷ changeConditions c (member m (changedTree c))
+        (canonicalOf m))
         (listing-from-one s) (change-from-one c (member m (changedTree c)) (canonicalOf m) w)) e in
-        let (p, q) = hold-append (listingConditions s) (scratchCondition w ∷ changeConditions c (member m (changedTree c)) (canonicalOf m)) all in
+        let (p, q) = hold-append (listingConditions s) (scratchCondition w ∷ changeConditions c (member m
+        (changedTree c)) (canonicalOf m)) all in
         changed-in-step c (subst Legal (sym tree) (passed-legal s bytes p)) (q .1 .1 .1 .0)
 
     change-answer : changeResult c s b w .answer ≡ settled (modelRefusal m c s w) c m .answer
@@ -160,7 +164,11 @@ module _ (b : List ℕ) (m : Model) (X : InStep b m) where
   unfolding perform respond addResult removeResult
   one-call (ask s) h = (ask-same s, X)
   one-call intake h = (intake-same, X)
-  one-call (add s w) h = (change-answer (insert (readTree s)) s w h refl, change-in-step (insert (readTree s)) s w h refl)
+  one-call (add s w) h = (
+    change-answer (insert (readTree s)) s w h refl,
+    change-in-step (insert (readTree s)) s w h
+        refl,
+  )
   one-call (remove s w) h =
       (change-answer (delete (readTree s)) s w h refl, change-in-step (delete (readTree s)) s w h refl)
 

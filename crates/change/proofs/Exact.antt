@@ -96,7 +96,8 @@ module _ (b : List ℕ) (fit : Fits (decode b)) (t : Tree) {s : Subtrees} {n : �
   -- ---- the automaton in the scratch
 
   module _ {scratch : List ℕ} {count : ℕ} (holding : Holding (decode b) t n s scratch count)
-      (inserting : Bool) {cl : List ℕ} (classed : Classed (pairClass b n (s .states) (n + s .root) inserting) (n + s .count) cl) where
+      (inserting : Bool) {cl : List ℕ} (classed : Classed (pairClass b n (s .states) (n + s .root) inserting) (n + s
+      .count) cl) where
     abbrev P : Automaton
     P = viewed cl scratch (n + s .count) count
 

@@ -95,7 +95,8 @@ pub fn change(tree: &[u8], table: &mut [u8], scratch: &mut [u8], inserting: bool
     requires { ⌜ tableRefusal (now table) ≡ 0 ⌝ }
     requires { ⌜ length (now scratch) ≡ scratchBytes ⌝ }
     ensures { λ r. ⌜ resultOf r (now (table .exit)) (now (scratch .exit)) ≡
-        changedOutcome (changeOf inserting (readTree (now (tree .entry)))) (now (table .entry)) (now (scratch .entry)) ⌝ }
+        changedOutcome (changeOf inserting (readTree (now (tree .entry)))) (now (table .entry)) (now (scratch
+        .entry)) ⌝ }
 {
     let answer = work(tree, table, scratch, inserting);
     clear(scratch);

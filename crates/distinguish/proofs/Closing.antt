@@ -113,7 +113,10 @@ module _ (cl s : List ℕ) (n c : ℕ) (view : Viewed cl s n c) (rises : rising 
 
   pub told-at : (p q : ℕ) → q < 256 → told (pairAt p q) ≡ distinguishable A p q
   unfolding told
-  told-at p q h = let r : (pairAt p q / 256 ≡ p) × (pairAt p q % 256 ≡ q) = (omega arith, omega arith) in rw (r .0, r .1)
+  told-at p q h = let r : (pairAt p q / 256 ≡ p) × (pairAt p q % 256 ≡ q) = (omega arith, omega arith) in rw (
+    r .0,
+    r .1,
+  )
 
   in-pairs : (p q : ℕ) → p ≤ n → q ≤ n → _∈_ {A = Pair} (p, q) (pairs A)
   in-pairs p q h l =
@@ -121,9 +124,11 @@ module _ (cl s : List ℕ) (n c : ℕ) (view : Viewed cl s n c) (rises : rising 
       (in-upFrom 0 (suc (states A)) p (omega arith) (omega (arith, many)))
       (in-upFrom 0 (suc (states A)) q (omega arith) (omega (arith, many)))
 
-  by-rule : (p q : ℕ) → p ≤ n → q ≤ n → distinguishableRule A (λ j. elem eqPair j (distinguishablePairs A)) (p, q) ≡ true →
+  by-rule : (p q : ℕ) → p ≤ n → q ≤ n → distinguishableRule A (λ j. elem eqPair j (distinguishablePairs A)) (p, q) ≡
+      true →
       distinguishable A p q ≡ true
-  by-rule p q h l e = closed eqPair eqPair-true eqPair-same (distinguishableRule A) (pairs A) (p, q) (in-pairs p q h l) e
+  by-rule p q h l e = closed eqPair eqPair-true eqPair-same (distinguishableRule A) (pairs A) (p, q) (in-pairs p q h
+      l) e
 
   -- the step at a transition's place is the automaton's
   step-slot : (at k q : ℕ) → stepAt s c at k q ≡ stepSlot A (slotAt s at k) q
@@ -142,7 +147,8 @@ module _ (cl s : List ℕ) (n c : ℕ) (view : Viewed cl s n c) (rises : rising 
       ∙ rw z (lookup-transition (transitionsIn s c) rises (nthTransition s i) (transitionsIn-nth s c i h))
 
   -- a rule's step, one way or the other
-  told-tell : (i k q : ℕ) → i < c → k < arityOf s (transitionBytes * i) → q < n + 1 → Tell s c (transitionBytes * i) k q told
+  told-tell : (i k q : ℕ) → i < c → k < arityOf s (transitionBytes * i) → q < n + 1 → Tell s c (transitionBytes * i)
+      k q told
   told-tell i k q h l b e = record {
     there = told-at a q (omega (arith, view .states)) ∙ there;
     back = told-at q a (omega (arith, view .states, arg-small)) ∙ told-sym A a q there;
@@ -180,7 +186,8 @@ module _ (cl s : List ℕ) (n c : ℕ) (view : Viewed cl s n c) (rises : rising 
           (in-any (λ z. distinguishable A (stepSlot A z a) (stepSlot A z q)) (slots (transitionsIn s c))
           (slotAt s (transitionBytes * i) k)
           (in-slots (transitionsIn s c) (nthTransition s i) (slotAt s (transitionBytes * i) k .before) a
-          (slotAt s (transitionBytes * i) k .after) (transitionsIn-nth s c i h) (args-around s (transitionBytes * i) k l))
+          (slotAt s (transitionBytes * i) k .after) (transitionsIn-nth s c i h) (args-around s (transitionBytes * i)
+          k l))
           (subst (λ (z : ℕ). distinguishable A z y ≡ true) (sym (own-step i k h l)) apart)))
 
   pub told-closed : UpTo (nthTell s c n) c told
@@ -236,7 +243,10 @@ module _ (cl s : List ℕ) (n c : ℕ) (view : Viewed cl s n c) (rises : rising 
         go (inl x) (inl y) = absurd (none (subst₂ (λ (a b : ℕ). m (pairAt a b) ≡ true) x y d))
 
     pub told-marked : (p q : ℕ) → distinguishable A p q ≡ true → m (pairAt p q) ≡ true
-    told-marked p q e = closure-all eqPair eqPair-true eqPair-same (distinguishableRule A) (pairs A) Marked made (p, q) e
+    told-marked p q e = closure-all eqPair eqPair-true eqPair-same (distinguishableRule A) (pairs A) Marked made (
+      p,
+      q,
+    ) e
       where
         Marked : Pair → Type 0
         Marked k = m (pairAt (k .0) (k .1)) ≡ true
@@ -256,7 +266,8 @@ module _ (cl s : List ℕ) (n c : ℕ) (view : Viewed cl s n c) (rises : rising 
                 (any (λ z. r (stepSlot A z (k .0), stepSlot A z (k .1))) (slots (transitionsIn s c)) ≡ true) → Marked k
             go (inl d) = seeds (k .0) (k .1) (small .0) (small .1) d
             go (inr d) =
-                let (z, j, f) = any-in (λ z. r (stepSlot A z (k .0), stepSlot A z (k .1))) (slots (transitionsIn s c)) d in
+                let (z, j, f) = any-in (λ z. r (stepSlot A z (k .0), stepSlot A z (k .1))) (slots (transitionsIn s
+                c)) d in
                 slot-marked z (k .0) (k .1) (small .0) (small .1) (ih (stepSlot A z (k .0), stepSlot A z (k .1)) f)
 
 -- ---- the two loops of marks
@@ -280,15 +291,21 @@ module _ (cl s : List ℕ) (n c : ℕ) (view : Viewed cl s n c) (rises : rising 
   pub seeded : (m : List ℕ) → UpTo (SeedRow (viewed cl [] n 0) n) (n + 1) (marked m) → Seeded cl n m
   seeded m u p q h l e = u p (omega arith) q (omega arith) e
 
-  pub marks-of : {m : List ℕ} → Covers (told cl s n c view rises) m → Seeded cl n m → UpTo (nthTell s c n) c (marked m) →
+  pub marks-of : {m : List ℕ} → Covers (told cl s n c view rises) m → Seeded cl n m → UpTo (nthTell s c n) c (marked
+      m) →
       MarksOf m (viewed cl s n c)
-  marks-of {m} within seeds tell = record { marks = λ p q h l. exact p q (omega (arith, viewed-states cl s n c)) (omega (arith, viewed-states cl s n c)) }
+  marks-of {m} within seeds tell = record {
+    marks = λ p q h l. exact p q (omega (arith, viewed-states cl s n c))
+        (omega (arith, viewed-states cl s n c));
+  }
     where
       none : marked m (pairAt 0 0) ≡ true → ⊥
-      none e = zero-not-told (viewed cl s n c) (sym (told-at cl s n c view rises 0 0 (omega arith)) ∙ within (pairAt 0 0) e)
+      none e = zero-not-told (viewed cl s n c) (sym (told-at cl s n c view rises 0 0 (omega arith)) ∙ within (pairAt
+          0 0) e)
 
       own : (p q : ℕ) → p ≤ n → q ≤ n → Seed (viewed cl s n c) p q (marked m)
-      own p q h l e = seeds p q h l (subst₂ (λ (a b : Bool). not (Bool·beq a b) ≡ true) (sym (class-any p)) (sym (class-any q)) e)
+      own p q h l e = seeds p q h l (subst₂ (λ (a b : Bool). not (Bool·beq a b) ≡ true) (sym (class-any p)) (sym
+          (class-any q)) e)
 
       exact : (p q : ℕ) → p ≤ n → q ≤ n → marked m (pairAt p q) ≡ distinguishable (viewed cl s n c) p q
       exact p q h l =

@@ -77,11 +77,13 @@ seed-some A p q e f g t = spread-if (λ r w s. s (ap not (sym (ap₂ Bool·beq e
 -- ---- telling
 
 pub tell-old : (s : List ℕ) (c at k q : ℕ) (m : List ℕ) →
-    (marked m (pairAt (argOf s at k) q) && marked m (pairAt q (argOf s at k))) ≡ true → Spread (Tell s c at k q) m m false
+    (marked m (pairAt (argOf s at k) q) && marked m (pairAt q (argOf s at k))) ≡ true → Spread (Tell s c at k q) m m
+    false
 tell-old s c at k q m e =
     spread-none (λ d. record { there = and-left _ _ e; back = and-right (marked m (pairAt (argOf s at k) q)) _ e })
 
-pub tell-not : (s : List ℕ) (c at k q : ℕ) (m : List ℕ) → eitherWay (marked m) (outOf s at) (stepAt s c at k q) ≡ false →
+pub tell-not : (s : List ℕ) (c at k q : ℕ) (m : List ℕ) → eitherWay (marked m) (outOf s at) (stepAt s c at k q) ≡
+    false →
     Spread (Tell s c at k q) m m false
 tell-not s c at k q m e = spread-none (λ d. absurd (true≢false (sym d ∙ e)))
 
@@ -113,7 +115,8 @@ pub grown-none : {p : ℕ → Bool} (m : List ℕ) → m ≡ unmarked → Grown 
 unfolding unmarked
 grown-none m e = record {
   size = ap length e ∙ length-replicate {A = ℕ} pairCount 0;
-  within = λ i d. absurd (false≢true (sym (replicate-unmarked pairCount i) ∙ sym (ap (λ (k : List ℕ). marked k i) e) ∙ d));
+  within = λ i d. absurd (false≢true (sym (replicate-unmarked pairCount i) ∙ sym (ap (λ (k : List ℕ). marked k i) e)
+      ∙ d));
 }
   where
     replicate-unmarked : (k i : ℕ) → marked (replicate k 0) i ≡ false
@@ -140,53 +143,61 @@ copied-next s at r k h e j l = go (eqb j k) refl
         getD-set-other r k j (getD s (at + k) 0) 0 ne ∙ e j (omega arith)
 
 -- an entry with the bytes of a transition and another argument k is that transition with the argument replaced
-module _ (s : List ℕ) (at k q : ℕ) (r : List ℕ) (c : Copied s at r) (h : k < arityOf s at) (small : arityOf s at ≤ maxArity)
-  where
-    abbrev e : List ℕ
-    e = set r (argsAt + k) q
+module _ (s : List ℕ) (at k q : ℕ) (r : List ℕ) (c : Copied s at r) (h : k < arityOf s at)
+    (small : arityOf s at ≤ maxArity) where
+  abbrev e : List ℕ
+  e = set r (argsAt + k) q
 
-    field : (j : ℕ) → j < transitionBytes → j ≢ argsAt + k → getD (set r (argsAt + k) q) j 0 ≡ getD s (at + j) 0
-    field j l n = getD-set-other r (argsAt + k) j q 0 n ∙ c .bytes j l
+  field : (j : ℕ) → j < transitionBytes → j ≢ argsAt + k → getD (set r (argsAt + k) q) j 0 ≡ getD s (at + j) 0
+  field j l n = getD-set-other r (argsAt + k) j q 0 n ∙ c .bytes j l
 
-    pub replaced-label : transitionAt (set r (argsAt + k) q) 0 .label ≡ labelOf s at
-    replaced-label = let a : at + 0 ≡ at = omega arith in field 0 (omega arith) (λ z. omega arith) ∙ ap (λ (i : ℕ). getD s i 0) a
+  pub replaced-label : transitionAt (set r (argsAt + k) q) 0 .label ≡ labelOf s at
+  replaced-label = let a : at + 0 ≡ at = omega arith in field 0 (omega arith) (λ z. omega arith) ∙ ap (λ (i : ℕ).
+      getD s i 0) a
 
-    replaced-arity : arityOf (set r (argsAt + k) q) 0 ≡ arityOf s at
-    replaced-arity = field 1 (omega arith) (λ z. omega arith)
+  replaced-arity : arityOf (set r (argsAt + k) q) 0 ≡ arityOf s at
+  replaced-arity = field 1 (omega arith) (λ z. omega arith)
 
-    replaced-arg : (j : ℕ) → j < maxArity → j ≢ k → argOf (set r (argsAt + k) q) 0 j ≡ argOf s at j
-    replaced-arg j l n =
-        let a : 0 + argsAt + j ≡ argsAt + j = omega arith in
-        let b : at + (argsAt + j) ≡ at + argsAt + j = omega arith in
-        ap (λ (i : ℕ). getD (set r (argsAt + k) q) i 0) a
-        ∙ field (argsAt + j) (omega arith) (λ z. n (omega arith)) ∙ ap (λ (i : ℕ). getD s i 0) b
+  replaced-arg : (j : ℕ) → j < maxArity → j ≢ k → argOf (set r (argsAt + k) q) 0 j ≡ argOf s at j
+  replaced-arg j l n =
+      let a : 0 + argsAt + j ≡ argsAt + j = omega arith in
+      let b : at + (argsAt + j) ≡ at + argsAt + j = omega arith in
+      ap (λ (i : ℕ). getD (set r (argsAt + k) q) i 0) a
+      ∙ field (argsAt + j) (omega arith) (λ z. n (omega arith)) ∙ ap (λ (i : ℕ). getD s i 0) b
 
-    replaced-here : argOf (set r (argsAt + k) q) 0 k ≡ q
-    replaced-here =
-        let a : 0 + argsAt + k ≡ argsAt + k = omega arith in
-        ap (λ (i : ℕ). getD (set r (argsAt + k) q) i 0) a ∙ getD-set-same r (argsAt + k) q 0 (omega (arith, c .size))
+  replaced-here : argOf (set r (argsAt + k) q) 0 k ≡ q
+  replaced-here =
+      let a : 0 + argsAt + k ≡ argsAt + k = omega arith in
+      ap (λ (i : ℕ). getD (set r (argsAt + k) q) i 0) a ∙ getD-set-same r (argsAt + k) q 0 (omega (arith, c .size))
 
-    map-same : (j n : ℕ) → ((i : ℕ) → j ≤ i → i < j + n → argOf (set r (argsAt + k) q) 0 i ≡ argOf s at i) →
-        map (argOf (set r (argsAt + k) q) 0) (upFrom j n) ≡ map (argOf s at) (upFrom j n)
-    map-same j zero f = refl
-    map-same j (suc n) f = cc (f j (omega arith) (omega arith), map-same (suc j) n (λ i a b. f i (omega arith) (omega arith)))
+  map-same : (j n : ℕ) → ((i : ℕ) → j ≤ i → i < j + n → argOf (set r (argsAt + k) q) 0 i ≡ argOf s at i) →
+      map (argOf (set r (argsAt + k) q) 0) (upFrom j n) ≡ map (argOf s at) (upFrom j n)
+  map-same j zero f = refl
+  map-same j (suc n) f = cc (
+    f j (omega arith) (omega arith),
+    map-same (suc j) n (λ i a b. f i (omega arith)
+        (omega arith)),
+  )
 
-    pub replaced-args : transitionAt (set r (argsAt + k) q) 0 .args ≡ slotAt s at k .before ++ (q ∷ slotAt s at k .after)
-    replaced-args =
-        args-around (set r (argsAt + k) q) 0 k (omega (arith, replaced-arity))
-        ∙ (λ i. before i ++ (replaced-here i ∷ after i))
-      where
-        before : map (argOf (set r (argsAt + k) q) 0) (upFrom 0 k) ≡ map (argOf s at) (upFrom 0 k)
-        before = map-same 0 k (λ i a b. replaced-arg i (omega arith) (λ z. omega arith))
+  pub replaced-args : transitionAt (set r (argsAt + k) q) 0 .args ≡ slotAt s at k .before ++ (q ∷ slotAt s at k
+      .after)
+  replaced-args =
+      args-around (set r (argsAt + k) q) 0 k (omega (arith, replaced-arity))
+      ∙ (λ i. before i ++ (replaced-here i ∷ after i))
+    where
+      before : map (argOf (set r (argsAt + k) q) 0) (upFrom 0 k) ≡ map (argOf s at) (upFrom 0 k)
+      before = map-same 0 k (λ i a b. replaced-arg i (omega arith) (λ z. omega arith))
 
-        after : map (argOf (set r (argsAt + k) q) 0) (upFrom (k + 1) (arityOf (set r (argsAt + k) q) 0 - (k + 1))) ≡
-            map (argOf s at) (upFrom (k + 1) (arityOf s at - (k + 1)))
-        after =
-            ap (λ (a : ℕ). map (argOf (set r (argsAt + k) q) 0) (upFrom (k + 1) (a - (k + 1)))) replaced-arity
-            ∙ map-same (k + 1) (arityOf s at - (k + 1)) (λ i a b. replaced-arg i (omega arith) (λ z. omega arith))
+      after : map (argOf (set r (argsAt + k) q) 0) (upFrom (k + 1) (arityOf (set r (argsAt + k) q) 0 - (k + 1))) ≡
+          map (argOf s at) (upFrom (k + 1) (arityOf s at - (k + 1)))
+      after =
+          ap (λ (a : ℕ). map (argOf (set r (argsAt + k) q) 0) (upFrom (k + 1) (a - (k + 1)))) replaced-arity
+          ∙ map-same (k + 1) (arityOf s at - (k + 1)) (λ i a b. replaced-arg i (omega arith) (λ z. omega arith))
 
-pub replaced-output : (s : List ℕ) (c at k q : ℕ) (r : List ℕ) → Copied s at r → k < arityOf s at → arityOf s at ≤ maxArity →
-    {x : ℕ} → x ≡ lookup (transitionAt (set r (argsAt + k) q) 0 .label) (transitionAt (set r (argsAt + k) q) 0 .args) (transitionsIn s c) →
+pub replaced-output : (s : List ℕ) (c at k q : ℕ) (r : List ℕ) → Copied s at r → k < arityOf s at → arityOf s at ≤
+    maxArity →
+    {x : ℕ} → x ≡ lookup (transitionAt (set r (argsAt + k) q) 0 .label) (transitionAt (set r (argsAt + k) q) 0
+    .args) (transitionsIn s c) →
     x ≡ lookup (labelOf s at) (slotAt s at k .before ++ (q ∷ slotAt s at k .after)) (transitionsIn s c)
 replaced-output s c at k q r copied h small x =
     x ∙ ap₂ (λ (a : ℕ) (qs : List ℕ). lookup a qs (transitionsIn s c)) (replaced-label s at k q r copied h small)
@@ -206,16 +217,21 @@ step-some s c n i k q over h l ne e = rw z e
     at : ℕ
     at = transitionBytes * i
 
-    all : (p : ℕ) → p ∈ slotAt s (transitionBytes * i) k .before ++ (argOf s (transitionBytes * i) k ∷ slotAt s (transitionBytes * i) k .after) → 1 ≤ p
-    all p j = viewed-arg [] s n c over i h p (subst (λ (qs : List ℕ). p ∈ qs) (sym (args-around s (transitionBytes * i) k l)) j) .0
+    all : (p : ℕ) → p ∈ slotAt s (transitionBytes * i) k .before ++ (argOf s (transitionBytes * i) k ∷ slotAt s
+        (transitionBytes * i) k .after) → 1 ≤ p
+    all p j = viewed-arg [] s n c over i h p (subst (λ (qs : List ℕ). p ∈ qs) (sym (args-around s (transitionBytes *
+        i) k l)) j) .0
 
     z : any (eqb 0) (slotAt s (transitionBytes * i) k .before ++ (q ∷ slotAt s (transitionBytes * i) k .after)) ≡ false
     z = none-zero (slotAt s (transitionBytes * i) k .before ++ (q ∷ slotAt s (transitionBytes * i) k .after)) some
       where
-        some : (p : ℕ) → p ∈ slotAt s (transitionBytes * i) k .before ++ (q ∷ slotAt s (transitionBytes * i) k .after) → 1 ≤ p
-        some p j = go (append-in (slotAt s (transitionBytes * i) k .before) (q ∷ slotAt s (transitionBytes * i) k .after) p j)
+        some : (p : ℕ) → p ∈ slotAt s (transitionBytes * i) k .before ++ (q ∷ slotAt s (transitionBytes * i) k
+            .after) → 1 ≤ p
+        some p j = go (append-in (slotAt s (transitionBytes * i) k .before) (q ∷ slotAt s (transitionBytes * i) k
+            .after) p j)
           where
-            go : (p ∈ slotAt s (transitionBytes * i) k .before) ⊎ (p ∈ (q ∷ slotAt s (transitionBytes * i) k .after)) → 1 ≤ p
+            go : (p ∈ slotAt s (transitionBytes * i) k .before) ⊎ (p ∈ (q ∷ slotAt s (transitionBytes * i) k
+                .after)) → 1 ≤ p
             go (inl y) = all p (in-append-left (slotAt s (transitionBytes * i) k .before) _ p y)
             go (inr (inl y)) = omega arith
             go (inr (inr y)) = all p (in-append-right (slotAt s (transitionBytes * i) k .before) _ p (inr y))

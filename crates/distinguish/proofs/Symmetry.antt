@@ -44,7 +44,8 @@ module _ (A : Automaton) where
 
       made : (m : Pair → Bool) → ((j : Pair) → m j ≡ true → Turned j) → (k : Pair) → k ∈ pairs A →
           distinguishableRule A m k ≡ true → Turned k
-      made m ih k i e = closed eqPair eqPair-true eqPair-same (distinguishableRule A) (pairs A) (k .1, k .0) (turned-in k i)
+      made m ih k i e = closed eqPair eqPair-true eqPair-same (distinguishableRule A) (pairs A) (k .1, k .0)
+          (turned-in k i)
           (go (or-cases (not (Bool·beq (accepting A (k .0)) (accepting A (k .1)))) _ e))
         where
           go : (not (Bool·beq (accepting A (k .0)) (accepting A (k .1))) ≡ true) ⊎
@@ -71,7 +72,8 @@ module _ (A : Automaton) where
         where
           go : (not (Bool·beq (accepting A (k .0)) (accepting A (k .1))) ≡ true) ⊎
               (any (λ s. m (stepSlot A s (k .0), stepSlot A s (k .1))) (slots (A .transitions)) ≡ true) → ⊥
-          go (inl d) = differ-same (accepting A 0) (subst (λ (j : Pair). not (Bool·beq (accepting A (j .0)) (accepting A (j .1))) ≡ true) z d)
+          go (inl d) = differ-same (accepting A 0) (subst (λ (j : Pair). not (Bool·beq (accepting A (j .0))
+              (accepting A (j .1))) ≡ true) z d)
           go (inr d) =
               let (s, j, f) = any-in (λ s. m (stepSlot A s (k .0), stepSlot A s (k .1))) (slots (A .transitions)) d in
               let u : stepSlot A s 0 ≡ 0 = step-zero A (s .label) (s .before) (s .after) in

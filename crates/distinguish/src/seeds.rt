@@ -28,7 +28,8 @@ fn seed(classes: &[u8], n: usize, p: usize, q: usize, marks: &mut [u8; PAIRS]) -
     requires { ⌜ p ≤ n ⌝ }
     requires { ⌜ q ≤ n ⌝ }
     requires { ⌜ length (now marks) ≡ pairCount ⌝ }
-    ensures { λ r. ⌜ Spread (Seed (viewed (now (classes .entry)) [] n 0) p q) (now (marks .entry)) (now (marks .exit)) r ⌝ }
+    ensures { λ r. ⌜ Spread (Seed (viewed (now (classes .entry)) [] n 0) p q) (now (marks .entry)) (now (marks
+        .exit)) r ⌝ }
 {
     let a = class_of(classes, n, p);
     let b = class_of(classes, n, q);
@@ -43,7 +44,8 @@ fn seed_row(classes: &[u8], n: usize, p: usize, marks: &mut [u8; PAIRS]) -> bool
     requires { ⌜ n ≤ 255 ⌝ }
     requires { ⌜ p ≤ n ⌝ }
     requires { ⌜ length (now marks) ≡ pairCount ⌝ }
-    ensures { λ r. ⌜ Spread (SeedRow (viewed (now (classes .entry)) [] n 0) n p) (now (marks .entry)) (now (marks .exit)) r ⌝ }
+    ensures { λ r. ⌜ Spread (SeedRow (viewed (now (classes .entry)) [] n 0) n p) (now (marks .entry)) (now (marks
+        .exit)) r ⌝ }
 {
     let mut changed = false;
     let mut q = 0;
@@ -60,7 +62,8 @@ pub fn seed_all(classes: &[u8], n: usize, marks: &mut [u8; PAIRS]) -> bool
     requires { ⌜ n < length (now classes) ⌝ }
     requires { ⌜ n ≤ 255 ⌝ }
     requires { ⌜ length (now marks) ≡ pairCount ⌝ }
-    ensures { λ r. ⌜ Spread (UpTo (SeedRow (viewed (now (classes .entry)) [] n 0) n) (n + 1)) (now (marks .entry)) (now (marks .exit)) r ⌝ }
+    ensures { λ r. ⌜ Spread (UpTo (SeedRow (viewed (now (classes .entry)) [] n 0) n) (n + 1)) (now (marks .entry))
+        (now (marks .exit)) r ⌝ }
 {
     let mut changed = false;
     let mut p = 0;

@@ -31,7 +31,8 @@ fn replaced(run: &[u8], count: usize, at: usize, k: usize, q: u8) -> u8
     requires { ⌜ Sorted (now run) count ⌝ }
     requires { ⌜ Readable (now run) at ⌝ }
     requires { ⌜ k < arityOf (now run) at ⌝ }
-    ensures { λ r. ⌜ r ≡ lookup (labelOf (now (run .entry)) at) (slotAt (now (run .entry)) at k .before ++ (q ∷ slotAt (now (run .entry)) at k .after)) (transitionsIn (now (run .entry)) count) ⌝ }
+    ensures { λ r. ⌜ r ≡ lookup (labelOf (now (run .entry)) at) (slotAt (now (run .entry)) at k .before ++ (q ∷
+        slotAt (now (run .entry)) at k .after)) (transitionsIn (now (run .entry)) count) ⌝ }
 {
     let mut entry = copied(run, at);
     entry[ARGS_AT + k] = q;

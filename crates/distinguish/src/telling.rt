@@ -34,7 +34,8 @@ fn tell(
     requires { ⌜ i < count ⌝ }
     requires { ⌜ k < arityOf (now run) (transitionBytes * i) ⌝ }
     requires { ⌜ length (now marks) ≡ pairCount ⌝ }
-    ensures { λ r. ⌜ Spread (Tell (now (run .entry)) count (transitionBytes * i) k q) (now (marks .entry)) (now (marks .exit)) r ⌝ }
+    ensures { λ r. ⌜ Spread (Tell (now (run .entry)) count (transitionBytes * i) k q) (now (marks .entry)) (now
+        (marks .exit)) r ⌝ }
 {
     let a = wide(run[TRANSITION_BYTES * i + ARGS_AT + k]);
     let b = wide(q);
@@ -58,7 +59,8 @@ fn tell_arg(run: &[u8], count: usize, n: usize, i: usize, k: usize, marks: &mut 
     requires { ⌜ i < count ⌝ }
     requires { ⌜ k < arityOf (now run) (transitionBytes * i) ⌝ }
     requires { ⌜ length (now marks) ≡ pairCount ⌝ }
-    ensures { λ r. ⌜ Spread (TellArg (now (run .entry)) count n (transitionBytes * i) k) (now (marks .entry)) (now (marks .exit)) r ⌝ }
+    ensures { λ r. ⌜ Spread (TellArg (now (run .entry)) count n (transitionBytes * i) k) (now (marks .entry)) (now
+        (marks .exit)) r ⌝ }
 {
     let mut changed = false;
     let mut q = 0;
@@ -95,7 +97,8 @@ pub fn sweep(run: &[u8], count: usize, n: usize, marks: &mut [u8; PAIRS]) -> boo
     requires { ⌜ RunsOver (now run) count n ⌝ }
     requires { ⌜ n ≤ 255 ⌝ }
     requires { ⌜ length (now marks) ≡ pairCount ⌝ }
-    ensures { λ r. ⌜ Spread (UpTo (nthTell (now (run .entry)) count n) count) (now (marks .entry)) (now (marks .exit)) r ⌝ }
+    ensures { λ r. ⌜ Spread (UpTo (nthTell (now (run .entry)) count n) count) (now (marks .entry)) (now (marks
+        .exit)) r ⌝ }
 {
     let mut changed = false;
     let mut j = 0;

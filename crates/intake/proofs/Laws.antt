@@ -99,12 +99,14 @@ module _ (A : Automaton) where
   not-refused p x q y e z g w h v = rw (kept p x, kept q y, kept e z, kept g w, kept h v)
 
 -- refusals 5, 7 and 8
-pub refused-7 : (b : List ℕ) {r : Bool} → r ≡ layoutFits b → not r ≡ true → _≡_ {A = ℕ} 7 (firstBroken (contentConditions b))
+pub refused-7 : (b : List ℕ) {r : Bool} → r ≡ layoutFits b → not r ≡ true → _≡_ {A = ℕ} 7 (firstBroken
+    (contentConditions b))
 unfolding contentConditions
 refused-7 b p x = rw (broken p x)
 
 pub refused-8 : (b : List ℕ) {r o : Bool} → r ≡ layoutFits b → not r ≡ false →
-    o ≡ rising (transitionsIn (body b) (transitionCount b)) → not o ≡ true → _≡_ {A = ℕ} 8 (firstBroken (contentConditions b))
+    o ≡ rising (transitionsIn (body b) (transitionCount b)) → not o ≡ true → _≡_ {A = ℕ} 8 (firstBroken
+    (contentConditions b))
 unfolding contentConditions decode
 refused-8 b p x q y = rw (kept p x, broken q y)
 
@@ -112,7 +114,8 @@ pub refused-5 : (b : List ℕ) → length b ≢ tableBytes → _≡_ {A = ℕ} 5
 unfolding tableRefusal
 refused-5 b h = rw (ne-eqb (length b) tableBytes h)
 
-pub right-length : (b : List ℕ) {r : ℕ} → length b ≡ tableBytes → r ≡ firstBroken (contentConditions b) → r ≡ tableRefusal b
+pub right-length : (b : List ℕ) {r : ℕ} → length b ≡ tableBytes → r ≡ firstBroken (contentConditions b) → r ≡
+    tableRefusal b
 unfolding tableRefusal
 right-length b h e = rw (eq-eqb (length b) tableBytes h) e
 

@@ -43,7 +43,8 @@ fn reached(run: &[u8], count: usize, n: usize, in_order: bool) -> bool
 fn automaton_refusal(classes: &[u8], run: &[u8], count: usize, n: usize) -> u8
     requires { ⌜ Viewed (now classes) (now run) n count ⌝ }
     requires { ⌜ rising (transitionsIn (now run) count) ≡ true ⌝ }
-    ensures { λ r. ⌜ r ≡ firstBroken (automatonConditions (viewed (now (classes .entry)) (now (run .entry)) n count)) ⌝ }
+    ensures { λ r. ⌜ r ≡ firstBroken (automatonConditions (viewed (now (classes .entry)) (now (run .entry)) n
+        count)) ⌝ }
 {
     let in_order = numbered(run, count, n);
     if !reached(run, count, n, in_order) {

@@ -164,6 +164,7 @@ in-split (y ∷ xs) x (inl e) = ([], xs, rw e)
 in-split (y ∷ xs) x (inr i) = let (l, r, e) = in-split xs x i in (y ∷ l, r, ap (λ z. y ∷ z) e)
 
 -- tests that agree on a list pass it alike
-pub every-same-in : {A : Type 0} (p q : A → Bool) (xs : List A) → ((x : A) → x ∈ xs → p x ≡ q x) → every p xs ≡ every q xs
+pub every-same-in : {A : Type 0} (p q : A → Bool) (xs : List A) → ((x : A) → x ∈ xs → p x ≡ q x) → every p xs ≡
+    every q xs
 every-same-in p q [] h = refl
 every-same-in p q (x ∷ xs) h = cc (h x (inl refl), every-same-in p q xs (λ y i. h y (inr i)))

@@ -41,7 +41,8 @@ unfolding askRefusal listingRefusal tableRefusal
 ask-passed s b e =
     let h = hold-append (listingConditions s) (lengthCondition b ∷ contentConditions b)
     (unbroken-hold (listingConditions s ++ (lengthCondition b ∷ contentConditions b))
-    (from-one-append (listingConditions s) (lengthCondition b ∷ contentConditions b) (listing-from-one s) (table-from-one b)) e) in
+    (from-one-append (listingConditions s) (lengthCondition b ∷ contentConditions b) (listing-from-one s)
+    (table-from-one b)) e) in
     (hold-unbroken (listingConditions s) (h .0), hold-unbroken (lengthCondition b ∷ contentConditions b) (h .1))
 
 pub passed-table : (b : List ℕ) → tableRefusal b ≡ 0 → InTable b
@@ -122,6 +123,11 @@ done-few r B n m e fits = go (eqb r 0) refl e
         let k : m ≡ length (B .transitions) = ap second d in
         let f = fits (eqb-true r 0 h) in (
           omega (arith, j, leb-true (states B) maxStates (and-left _ _ f)),
-          omega (arith, k, leb-true (length (B .transitions)) maxTransitions (and-right (leb (states B) maxStates) _ f)),
+          omega (
+            arith,
+            k,
+            leb-true (length (B .transitions)) maxTransitions (and-right (leb (states B) maxStates) _
+                f),
+          ),
         )
     go false h d = absurd (false≢true (ap isRefused d))

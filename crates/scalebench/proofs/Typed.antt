@@ -121,7 +121,8 @@ module _ (s l : List ℕ) where
       (l ≡ cond (eqb (length l) listingBytes) (listed (readLine s)) l)
   read-other n = rw (ne-eqb (length l) listingBytes n) (refl, refl)
 
-  pub read-listed : length l ≡ listingBytes → {k : ℕ} {t : List ℕ} → k ≡ packedLine (readLine s) → t ≡ listed (readLine s) →
+  pub read-listed : length l ≡ listingBytes → {k : ℕ} {t : List ℕ} → k ≡ packedLine (readLine s) → t ≡ listed
+      (readLine s) →
       (k ≡ cond (eqb (length l) listingBytes) (packedLine (readLine s)) 0) ×
       (t ≡ cond (eqb (length l) listingBytes) (listed (readLine s)) l)
   read-listed h d e = rw (eq-eqb (length l) listingBytes h) (d, e)

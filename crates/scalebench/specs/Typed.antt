@@ -1,5 +1,5 @@
--- The numbers that the C interface returns for a line of text: 256 kind + 65,536 number. Kind 1 adds, 2 drops and 3 asks,
--- with the length of the listing; 4 is malformed, with the column; 5 is too long.
+-- The numbers that the C interface returns for a line of text: 256 kind + 65,536 number. Kind 1 adds, 2 drops and 3
+-- asks, with the length of the listing; 4 is malformed, with the column; 5 is too long.
 use mathlib.Core.List.{List}
 use Prim.Native.Nat.{_*_, _+_, _≤_, ℕ}
 use lib.ListN.{length}

@@ -26,7 +26,8 @@ mutual
   read-tree (node a f) s = go (read-trees f s)
     where
       go : readTrees (listings f ++ s) ≡ f ⧺ readTrees s →
-          cons (node a (firstTrees (count f) (readTrees (listings f ++ s)))) (laterTrees (count f) (readTrees (listings f ++ s))) ≡
+          cons (node a (firstTrees (count f) (readTrees (listings f ++ s)))) (laterTrees (count f) (readTrees
+          (listings f ++ s))) ≡
           cons (node a f) (readTrees s)
       go e = rw (e, first-append f (readTrees s), later-append f (readTrees s))
 
@@ -55,7 +56,8 @@ mutual
   trees-list nil s k = rw (zero-add k)
   trees-list (cons t f) s k = go (tree-lists t (listings f ++ s) (count f + k)) (trees-list f s k)
     where
-      go : listsTrees (listing t ++ (listings f ++ s)) (suc (count f + k)) ≡ listsTrees (listings f ++ s) (count f + k) →
+      go : listsTrees (listing t ++ (listings f ++ s)) (suc (count f + k)) ≡ listsTrees (listings f ++ s) (count f +
+          k) →
           listsTrees (listings f ++ s) (count f + k) ≡ listsTrees s k →
           listsTrees ((listing t ++ listings f) ++ s) (suc (count f) + k) ≡ listsTrees s k
       go d e = rw (append-assoc (listing t) (listings f) s, suc-add (count f) k) (d ∙ e)
@@ -81,10 +83,12 @@ first-later : (c : ℕ) (f : Forest) → listings (firstTrees c f) ++ listings (
 first-later zero f = refl
 first-later (suc c) nil = refl
 first-later (suc c) (cons t f) =
-    append-assoc (listing t) (listings (firstTrees c f)) (listings (laterTrees c f)) ∙ ap (λ s. listing t ++ s) (first-later c f)
+    append-assoc (listing t) (listings (firstTrees c f)) (listings (laterTrees c f)) ∙ ap (λ s. listing t ++ s)
+    (first-later c f)
 
 -- bytes that list k trees are their listing
-pub listings-read : (s : List ℕ) (k : ℕ) → listsTrees s k ≡ true → (listings (readTrees s) ≡ s) × (count (readTrees s) ≡ k)
+pub listings-read : (s : List ℕ) (k : ℕ) → listsTrees s k ≡ true → (listings (readTrees s) ≡ s) × (count (readTrees
+    s) ≡ k)
 listings-read [] zero e = (refl, refl)
 listings-read [] (suc k) e = absurd (false≢true e)
 listings-read (a ∷ []) zero e = absurd (false≢true e)

@@ -39,11 +39,13 @@ first-legal-tree : (f : Forest) → count f ≡ 1 → AllLegal f → Legal (firs
 first-legal-tree nil e h = absurd (omega arith)
 first-legal-tree (cons t f) e h = h .0
 
-node-legal : (s : List ℕ) → AllBytes s → allLabelled s ≡ true → allNarrow s ≡ true → (i : ℕ) → i < nodesIn s → LegalAt s i
+node-legal : (s : List ℕ) → AllBytes s → allLabelled s ≡ true → allNarrow s ≡ true → (i : ℕ) → i < nodesIn s →
+    LegalAt s i
 unfolding allLabelled allNarrow
 node-legal s b l n i h =
     let there = in-upFrom 0 (nodesIn s) i (omega arith) (omega arith) in
-    let p = eqb-false (labelAt s i) 0 (not-true (eqb (labelAt s i) 0) (every-in (labelled s) (upFrom 0 (nodesIn s)) l i there)) in
+    let p = eqb-false (labelAt s i) 0 (not-true (eqb (labelAt s i) 0) (every-in (labelled s) (upFrom 0 (nodesIn s))
+    l i there)) in
     let q = leb-true (childrenAt s i) maxArity (every-in (narrow s) (upFrom 0 (nodesIn s)) n i there) in
     let small = b (nodeBytes * i) in
     record { label = (omega arith, omega arith); arity = q }
@@ -101,11 +103,13 @@ listing-iff s b = (to, from)
             record {
               tree = readTree s;
               legal = passed-legal s b h;
-              short = rw l (leb-true (length s) maxListing (and-right (leb nodeBytes (length s)) _ (and-left _ _ (h .0))));
+              short = rw l (leb-true (length s) maxListing (and-right (leb nodeBytes (length s)) _ (and-left _ _ (h
+                  .0))));
               lists = sym l;
             }
 
     from : ListsLegal s → firstBroken (listingConditions s) ≡ 0
     from t =
         hold-unbroken (listingConditions s)
-        (subst (λ (r : List ℕ). AllHold (listingConditions r)) (sym (t .lists)) (legal-passed (t .tree) (t .legal) (t .short)))
+        (subst (λ (r : List ℕ). AllHold (listingConditions r)) (sym (t .lists)) (legal-passed (t .tree) (t .legal)
+        (t .short)))

@@ -103,7 +103,8 @@ fn mark_accepting(classes: &[u8], n: usize, marks: &mut [u8; MARK_COUNT])
 pub fn useful(classes: &[u8], run: &[u8], count: usize, n: usize, marks: &mut [u8; MARK_COUNT])
     requires { ⌜ Viewed (now classes) (now run) n count ⌝ }
     requires { ⌜ length (now marks) ≡ markCount ⌝ }
-    ensures { λ _. ⌜ Exactly (coaccessible (viewed (now (classes .entry)) (now (run .entry)) n count)) (now (marks .exit)) ⌝ }
+    ensures { λ _. ⌜ Exactly (coaccessible (viewed (now (classes .entry)) (now (run .entry)) n count)) (now (marks
+        .exit)) ⌝ }
 {
     mark_accepting(classes, n, marks);
     while use_all(run, count, marks) {}

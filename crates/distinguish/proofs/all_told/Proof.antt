@@ -1,5 +1,5 @@
 use native.Mathlib.Omega.{arith}
-use mathlib.Core.Path.{_≡_, _∙_, sym}
+use mathlib.Core.Path.{_∙_, sym}
 use Prim.Native.Nat.{_+_, _-_}
 use borrow.Author.Tests.{not-false, not-true}
 use Rattle.distinguish.specs.Telling.{allToldApart, toldApart}
@@ -9,49 +9,43 @@ use Rattle.lists.specs.Tests.{every}
 use borrow.Author.Needs.{needs}
 use Rattle.distinguish.proofs.all_told.Statement.{statement}
 use Rattle.distinguish.proofs.all_told.Tie as tie
-use Rattle.distinguish.proofs.all_told.Reads as reads
-use Rattle.distinguish.proofs.all_told.Lts as lts
-use Rattle.distinguish.proofs.told_from.Reads as told-from-reads
 
 abbrev Inv-loop : tie.InvT-loop
 Inv-loop marks n p₀ p =
-    EveryFrom (every (λ x. every (toldApart marks x) (upFrom 1 n)) (upFrom 1 n)) (λ x. every (toldApart marks x) (upFrom 1 n)) (n + 1) p
+    EveryFrom (every (λ x. every (toldApart marks x) (upFrom 1 n)) (upFrom 1 n)) (λ x. every (toldApart marks x)
+    (upFrom 1 n)) (n + 1) p
 
 abbrev μ-loop : tie.MeasureT-loop
 μ-loop marks n p₀ p = n + 1 - p
 
--- src/lib.rt:70:5
 loop-holds : tie.Need-loop-holds Inv-loop μ-loop
 loop-holds c = every-start (c .args .n) (omega arith)
 
--- src/lib.rt:70:15
 add-loop : tie.Need-add-loop Inv-loop μ-loop
 add-loop c = search needs
 
--- src/lib.rt:71:13
 told-from-requires : tie.Need-told-from-requires Inv-loop μ-loop
 told-from-requires c κs = search needs
 
--- src/lib.rt:72:13
 returns : tie.Need-returns Inv-loop μ-loop
 unfolding allToldApart
 returns c =
-    every-broken (c .before .before .before .loop .inv) (omega arith) (sym (c .before .told-from .ensures) ∙ not-true _ (c .if1 .taken))
+    let at-loop = c .before .before .before in
+    every-broken (at-loop .loop .inv) (omega arith) (sym (c .before .told-from .ensures) ∙ not-true _ (c .if1
+    .taken))
 
--- src/lib.rt:74:9
 add-p : tie.Need-add-p Inv-loop μ-loop
 add-p c = search needs
 
--- src/lib.rt:70:5
 loop-less : tie.Need-loop-less Inv-loop μ-loop
 loop-less c = omega arith
 
--- src/lib.rt:70:5
 loop-again : tie.Need-loop-again Inv-loop μ-loop
 loop-again c =
-    every-next (c .before .before .before .loop .inv) (omega arith) (sym (c .before .told-from .ensures) ∙ not-false _ (c .if1 .left))
+    let at-loop = c .before .before .before in
+    every-next (at-loop .loop .inv) (omega arith) (sym (c .before .told-from .ensures) ∙ not-false _ (c .if1
+    .left))
 
--- src/lib.rt:65:1
 returns-2 : tie.Need-returns-2 Inv-loop μ-loop
 unfolding allToldApart
 returns-2 c = every-end (c .before .loop .inv) (omega arith)

@@ -1,7 +1,7 @@
 use borrow.Author.Tests.{not-false, not-true}
 use native.Mathlib.Omega.{arith}
-use mathlib.Core.Path.{_≡_, _∙_, sym}
-use Prim.Native.Nat.{_+_, _-_, _≤_}
+use mathlib.Core.Path.{_∙_, sym}
+use Prim.Native.Nat.{_+_, _-_}
 use Rattle.distinguish.specs.Telling.{toldApart}
 use Rattle.lists.proofs.Loops.{EveryFrom, every-broken, every-end, every-next, every-start}
 use Rattle.lists.specs.Positions.{upFrom}
@@ -9,9 +9,6 @@ use Rattle.lists.specs.Tests.{every}
 use borrow.Author.Needs.{needs}
 use Rattle.distinguish.proofs.told_from.Statement.{statement}
 use Rattle.distinguish.proofs.told_from.Tie as tie
-use Rattle.distinguish.proofs.told_from.Reads as reads
-use Rattle.distinguish.proofs.told_from.Lts as lts
-use Rattle.distinguish.proofs.told.Reads as told-reads
 
 abbrev Inv-loop : tie.InvT-loop
 Inv-loop marks n p q₀ q = EveryFrom (every (toldApart marks p) (upFrom 1 n)) (toldApart marks p) (n + 1) q
@@ -19,37 +16,32 @@ Inv-loop marks n p q₀ q = EveryFrom (every (toldApart marks p) (upFrom 1 n)) (
 abbrev μ-loop : tie.MeasureT-loop
 μ-loop marks n p q₀ q = n + 1 - q
 
--- src/lib.rt:43:5
 loop-holds : tie.Need-loop-holds Inv-loop μ-loop
 loop-holds c = every-start (c .args .n) (omega arith)
 
--- src/lib.rt:43:15
 add-loop : tie.Need-add-loop Inv-loop μ-loop
 add-loop c = search needs
 
--- src/lib.rt:44:13
 told-requires : tie.Need-told-requires Inv-loop μ-loop
 told-requires c κs = search needs
 
--- src/lib.rt:45:13
 returns : tie.Need-returns Inv-loop μ-loop
 returns c =
-    every-broken (c .before .before .before .loop .inv) (omega arith) (sym (c .before .told .ensures) ∙ not-true _ (c .if1 .taken))
+    let at-loop = c .before .before .before in
+    every-broken (at-loop .loop .inv) (omega arith) (sym (c .before .told .ensures) ∙ not-true _ (c .if1
+    .taken))
 
--- src/lib.rt:47:9
 add-q : tie.Need-add-q Inv-loop μ-loop
 add-q c = search needs
 
--- src/lib.rt:43:5
 loop-less : tie.Need-loop-less Inv-loop μ-loop
 loop-less c = search needs
 
--- src/lib.rt:43:5
 loop-again : tie.Need-loop-again Inv-loop μ-loop
 loop-again c =
-    every-next (c .before .before .before .loop .inv) (omega arith) (sym (c .before .told .ensures) ∙ not-false _ (c .if1 .left))
+    let at-loop = c .before .before .before in
+    every-next (at-loop .loop .inv) (omega arith) (sym (c .before .told .ensures) ∙ not-false _ (c .if1 .left))
 
--- src/lib.rt:37:1
 returns-2 : tie.Need-returns-2 Inv-loop μ-loop
 returns-2 c = every-end (c .before .loop .inv) (omega arith)
 

@@ -12,7 +12,8 @@ use Rattle.fields.proofs.zeros_from.Tie as tie
 
 abbrev Inv-loop : tie.InvT-loop
 Inv-loop run start clean₀ j₀ clean j =
-    (start ≤ j) × CleanFrom (every (zeroAt run) (upFrom start (length run - start))) clean (zeroAt run) (start + (length run - start)) j
+    (start ≤ j) × CleanFrom (every (zeroAt run) (upFrom start (length run - start))) clean (zeroAt run) (start +
+    (length run - start)) j
 
 abbrev μ-loop : tie.MeasureT-loop
 μ-loop run start clean₀ j₀ clean j = length run - j

@@ -41,12 +41,17 @@ part-rises-end c = search needs
 -- src/lib.rt:88:9
 rises-requires : tie.Need-rises-requires
 rises-requires c κs =
-    table-runs ((c .before .before .before .before .before .args .table .now)) (c .before .before .before .before .before .pre) (kept (c .before .before .before .layout-fits .ensures) (c .before .before .if1 .left)) (c .before .transition-count .ensures .0)
+    table-runs ((c .before .before .before .before .before .args .table .now)) (c .before .before .before .before
+    .before .pre) (kept (c .before .before .before .layout-fits .ensures) (c .before .before .if1 .left)) (c
+    .before .transition-count .ensures .0)
 
 -- src/lib.rt:89:9
 returns-2 : tie.Need-returns-2
 returns-2 c =
-    refused-8 ((c .before .before .before .before .before .before .before .args .table .now)) (c .before .before .before .before .before .layout-fits .ensures) (c .before .before .before .before .if1 .left) (table-rises ((c .before .before .before .before .before .before .before .args .table .now)) (c .before .before .before .transition-count .ensures .0) (c .before .rises .ensures)) (c .if2 .taken)
+    refused-8 ((c .before .before .before .before .before .before .before .args .table .now)) (c .before .before
+    .before .before .before .layout-fits .ensures) (c .before .before .before .before .if1 .left) (table-rises
+    ((c .before .before .before .before .before .before .before .args .table .now)) (c .before .before .before
+    .transition-count .ensures .0) (c .before .rises .ensures)) (c .if2 .taken)
 
 -- src/lib.rt:91:18
 shared-slice-read-wide : tie.Need-shared-slice-read-wide
@@ -71,12 +76,26 @@ part-automaton-refusal-end c = search needs
 -- src/lib.rt:92:5
 automaton-refusal-requires : tie.Need-automaton-refusal-requires
 automaton-refusal-requires c κs =
-    table-seen ((c .before .before .before .before .before .before .before .before .before .before .args .table .now)) (c .before .before .before .before .before .before .before .before .before .before .pre) (kept (c .before .before .before .before .before .before .before .before .layout-fits .ensures) (c .before .before .before .before .before .before .before .if1 .left)) (c .before .before .before .before .before .before .transition-count .ensures .0) (c .before .wide .ensures) (kept (table-rises ((c .before .before .before .before .before .before .before .before .before .before .args .table .now)) (c .before .before .before .before .before .before .transition-count .ensures .0) (c .before .before .before .before .rises .ensures)) (c .before .before .before .if2 .left))
+    table-seen ((c .before .before .before .before .before .before .before .before .before .before .args .table
+    .now)) (c .before .before .before .before .before .before .before .before .before .before .pre) (kept (c
+    .before .before .before .before .before .before .before .before .layout-fits .ensures) (c .before .before
+    .before .before .before .before .before .if1 .left)) (c .before .before .before .before .before .before
+    .transition-count .ensures .0) (c .before .wide .ensures) (kept (table-rises ((c .before .before .before
+    .before .before .before .before .before .before .before .args .table .now)) (c .before .before .before
+    .before .before .before .transition-count .ensures .0) (c .before .before .before .before .rises .ensures))
+    (c .before .before .before .if2 .left))
 
 -- src/lib.rt:80:1
 returns-3 : tie.Need-returns-3
 returns-3 c =
-    table-answer ((c .before .before .before .before .before .before .before .before .before .before .before .args .table .now)) (kept (c .before .before .before .before .before .before .before .before .before .layout-fits .ensures) (c .before .before .before .before .before .before .before .before .if1 .left)) (kept (table-rises ((c .before .before .before .before .before .before .before .before .before .before .before .args .table .now)) (c .before .before .before .before .before .before .before .transition-count .ensures .0) (c .before .before .before .before .before .rises .ensures)) (c .before .before .before .before .if2 .left)) (c .before .before .before .before .before .before .before .transition-count .ensures .0) (c .before .before .wide .ensures) (c .automaton-refusal .ensures)
+    table-answer ((c .before .before .before .before .before .before .before .before .before .before .before .args
+    .table .now)) (kept (c .before .before .before .before .before .before .before .before .before .layout-fits
+    .ensures) (c .before .before .before .before .before .before .before .before .if1 .left)) (kept (table-rises
+    ((c .before .before .before .before .before .before .before .before .before .before .before .args .table
+    .now)) (c .before .before .before .before .before .before .before .transition-count .ensures .0) (c .before
+    .before .before .before .before .rises .ensures)) (c .before .before .before .before .if2 .left)) (c .before
+    .before .before .before .before .before .before .transition-count .ensures .0) (c .before .before .wide
+    .ensures) (c .automaton-refusal .ensures)
 
 pub content-refusal-spec : {M : Type 1} → statement M
 content-refusal-spec =

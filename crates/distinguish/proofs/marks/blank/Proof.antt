@@ -2,10 +2,7 @@ use mathlib.Core.Path.{refl}
 use Rattle.distinguish.specs.Telling.{unmarked}
 use Rattle.distinguish.proofs.marks.blank.Statement.{statement}
 use Rattle.distinguish.proofs.marks.blank.Tie as tie
-use Rattle.distinguish.proofs.marks.blank.Reads as reads
-use Rattle.distinguish.proofs.marks.blank.Lts as lts
 
--- src/marks.rt:14:1
 returns : tie.Need-returns
 unfolding unmarked
 returns c = refl

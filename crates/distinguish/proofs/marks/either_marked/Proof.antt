@@ -2,42 +2,34 @@ use Rattle.distinguish.proofs.Marking.{either-first, either-rest}
 use borrow.Author.Needs.{needs}
 use Rattle.distinguish.proofs.marks.either_marked.Statement.{statement}
 use Rattle.distinguish.proofs.marks.either_marked.Tie as tie
-use Rattle.distinguish.proofs.marks.either_marked.Reads as reads
-use Rattle.distinguish.proofs.marks.either_marked.Lts as lts
 
--- src/marks.rt:51:14
 mul-if1 : tie.Need-mul-if1
 mul-if1 c = search needs
 
--- src/marks.rt:51:14
 add-if1 : tie.Need-add-if1
 add-if1 c = search needs
 
--- src/marks.rt:51:8
 element-copy-out-if1 : tie.Need-element-copy-out-if1
 element-copy-out-if1 c = search needs
 
--- src/marks.rt:52:9
 returns : tie.Need-returns
 returns c =
-    either-first (c .before .before .args .marks .now) (c .before .before .args .x) (c .before .before .args .y) (c .if1 .taken)
+    let start = c .before .before in
+    either-first (start .args .marks .now) (start .args .x) (start .args .y) (c .if1 .taken)
 
--- src/marks.rt:54:11
 mul-result : tie.Need-mul-result
 mul-result c = search needs
 
--- src/marks.rt:54:11
 add-result : tie.Need-add-result
 add-result c = search needs
 
--- src/marks.rt:54:5
 element-copy-out-result : tie.Need-element-copy-out-result
 element-copy-out-result c = search needs
 
--- src/marks.rt:46:1
 returns-2 : tie.Need-returns-2
 returns-2 c =
-    either-rest (c .before .before .before .args .marks .now) (c .before .before .before .args .x) (c .before .before .before .args .y) (c .before .if1 .left)
+    let start = c .before .before .before in
+    either-rest (start .args .marks .now) (start .args .x) (start .args .y) (c .before .if1 .left)
 
 pub either-marked-spec : {M : Type 1} → statement M
 either-marked-spec =

@@ -1,13 +1,9 @@
-use native.Mathlib.Omega.{arith}
 use lib.ListN.{length}
 use mathlib.Core.Path.{_≡_}
 use Prim.Native.Nat.{_-_, _≤_}
 use borrow.Author.Needs.{needs}
 use Rattle.distinguish.proofs.ordering.deepen_all.Statement.{statement}
 use Rattle.distinguish.proofs.ordering.deepen_all.Tie as tie
-use Rattle.distinguish.proofs.ordering.deepen_all.Reads as reads
-use Rattle.distinguish.proofs.ordering.deepen_all.Lts as lts
-use Rattle.distinguish.proofs.ordering.deepen.Reads as deepen-reads
 
 abbrev Inv-loop : tie.InvT-loop
 Inv-loop run count n depths₀ changed₀ i₀ depths changed i = (i ≤ count) × (length depths ≡ 256)
@@ -15,27 +11,21 @@ Inv-loop run count n depths₀ changed₀ i₀ depths changed i = (i ≤ count) 
 abbrev μ-loop : tie.MeasureT-loop
 μ-loop run count n depths₀ changed₀ i₀ depths changed i = count - i
 
--- src/ordering.rt:65:5
 loop-holds : tie.Need-loop-holds Inv-loop μ-loop
 loop-holds c = search needs
 
--- src/ordering.rt:66:13
 deepen-requires : tie.Need-deepen-requires Inv-loop μ-loop
 deepen-requires c κs = search needs
 
--- src/ordering.rt:68:9
 add-i : tie.Need-add-i Inv-loop μ-loop
 add-i c = search needs
 
--- src/ordering.rt:65:5
 loop-less : tie.Need-loop-less Inv-loop μ-loop
 loop-less c = search needs
 
--- src/ordering.rt:65:5
 loop-again : tie.Need-loop-again Inv-loop μ-loop
 loop-again c = search needs
 
--- src/ordering.rt:57:1
 returns : tie.Need-returns Inv-loop μ-loop
 returns c = search needs
 

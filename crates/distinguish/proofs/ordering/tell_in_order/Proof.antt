@@ -6,10 +6,6 @@ use Rattle.distinguish.proofs.Marking.{led-then}
 use borrow.Author.Needs.{needs}
 use Rattle.distinguish.proofs.ordering.tell_in_order.Statement.{statement}
 use Rattle.distinguish.proofs.ordering.tell_in_order.Tie as tie
-use Rattle.distinguish.proofs.ordering.tell_in_order.Reads as reads
-use Rattle.distinguish.proofs.ordering.tell_in_order.Lts as lts
-use Rattle.distinguish.proofs.ordering.deepen_all.Reads as deepen-all-reads
-use Rattle.distinguish.proofs.ordering.tell_levels.Reads as tell-levels-reads
 
 abbrev Inv-loop : tie.InvT-loop
 Inv-loop run count n marks depths₀ turn₀ depths turn = (turn ≤ n) × (length depths ≡ 256)
@@ -17,36 +13,39 @@ Inv-loop run count n marks depths₀ turn₀ depths turn = (turn ≤ n) × (leng
 abbrev μ-loop : tie.MeasureT-loop
 μ-loop run count n marks depths₀ turn₀ depths turn = n - turn
 
--- src/ordering.rt:144:5
 loop-holds : tie.Need-loop-holds Inv-loop μ-loop
 loop-holds c = (omega arith, refl)
 
--- src/ordering.rt:145:13
 deepen-all-requires : tie.Need-deepen-all-requires Inv-loop μ-loop
 deepen-all-requires c κs = search needs
 
--- src/ordering.rt:148:9
 add-turn : tie.Need-add-turn Inv-loop μ-loop
 add-turn c = search needs
 
--- src/ordering.rt:144:5
 loop-less : tie.Need-loop-less Inv-loop μ-loop
 loop-less c = search needs
 
--- src/ordering.rt:144:5
 loop-again : tie.Need-loop-again Inv-loop μ-loop
 loop-again c = search needs
 
--- src/ordering.rt:150:5
 tell-levels-requires : tie.Need-tell-levels-requires Inv-loop μ-loop
 tell-levels-requires c κs = search needs
 
--- src/ordering.rt:151:5
 tell-levels-requires-2 : tie.Need-tell-levels-requires-2 Inv-loop μ-loop
 tell-levels-requires-2 c κs =
-    (c .before .before .before .before .before .before .before .before .pre .0, (c .before .before .before .before .before .before .before .before .pre .1 .0, (c .before .before .before .before .before .before .before .before .pre .1 .1 .0, c .before .before .tell-levels .ensures .size ∙ c .before .before .before .before .before .before .before .before .pre .1 .1 .1)))
+    let at-tell-levels = c .before .before in
+    let start = at-tell-levels .before .before .before .before .before .before in (
+      start .pre .0,
+      (
+        start .pre .1 .0,
+        (
+          start .pre .1 .1 .0,
+          at-tell-levels .tell-levels .ensures .size ∙ start
+              .pre .1 .1 .1,
+        ),
+      ),
+    )
 
--- src/ordering.rt:135:1
 returns : tie.Need-returns Inv-loop μ-loop
 returns c = led-then (c .before .before .before .tell-levels .ensures) (c .tell-levels2 .ensures)
 

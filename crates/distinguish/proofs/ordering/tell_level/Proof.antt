@@ -1,15 +1,12 @@
 use native.Mathlib.Omega.{arith}
-use mathlib.Core.Path.{_≡_, _∙_}
-use Prim.Native.Nat.{_+_, _-_, _≤_}
+use mathlib.Core.Path.{_∙_}
+use Prim.Native.Nat.{_-_, _≤_}
 use Rattle.distinguish.specs.Telling.{Led, nthTell}
 use Rattle.distinguish.proofs.Marking.{led-none, led-part, led-then}
 use Rattle.validity.specs.Spread.{UpTo}
 use borrow.Author.Needs.{needs}
 use Rattle.distinguish.proofs.ordering.tell_level.Statement.{statement}
 use Rattle.distinguish.proofs.ordering.tell_level.Tie as tie
-use Rattle.distinguish.proofs.ordering.tell_level.Reads as reads
-use Rattle.distinguish.proofs.ordering.tell_level.Lts as lts
-use Rattle.distinguish.proofs.ordering.tell_there.Reads as tell-there-reads
 
 abbrev Inv-loop : tie.InvT-loop
 Inv-loop run count n depths depth marks₀ i₀ marks i =
@@ -18,29 +15,41 @@ Inv-loop run count n depths depth marks₀ i₀ marks i =
 abbrev μ-loop : tie.MeasureT-loop
 μ-loop run count n depths depth marks₀ i₀ marks i = count - i
 
--- src/ordering.rt:113:5
 loop-holds : tie.Need-loop-holds Inv-loop μ-loop
 loop-holds c = (omega arith, led-none _ _)
 
--- src/ordering.rt:114:9
 tell-there-requires : tie.Need-tell-there-requires Inv-loop μ-loop
 tell-there-requires c κs =
-    (c .before .before .before .before .pre .0, (c .before .before .before .before .pre .1 .0, (c .before .before .before .before .pre .1 .1 .0, (omega arith, c .before .before .loop .inv .1 .size ∙ c .before .before .before .before .pre .1 .1 .1))))
+    let at-loop = c .before .before in
+    let start = at-loop .before .before in (
+      start .pre .0,
+      (
+        start .pre .1 .0,
+        (
+          start .pre .1 .1 .0,
+          (
+            omega arith,
+            at-loop .loop .inv .1 .size ∙ start
+                .pre .1 .1 .1,
+          ),
+        ),
+      ),
+    )
 
--- src/ordering.rt:115:9
 add-i : tie.Need-add-i Inv-loop μ-loop
 add-i c = search needs
 
--- src/ordering.rt:113:5
 loop-less : tie.Need-loop-less Inv-loop μ-loop
 loop-less c = search needs
 
--- src/ordering.rt:113:5
 loop-again : tie.Need-loop-again Inv-loop μ-loop
 loop-again c =
-    (omega arith, led-then (c .before .before .before .loop .inv .1) (led-part (λ p d. d (c .before .before .before .loop .i) (omega arith)) (c .tell-there .ensures)))
+    let at-loop = c .before .before .before in (
+      omega arith,
+      led-then (at-loop .loop .inv .1) (led-part (λ p d. d (at-loop .loop .i) (omega arith)) (c
+          .tell-there .ensures)),
+    )
 
--- src/ordering.rt:98:1
 returns : tie.Need-returns Inv-loop μ-loop
 returns c = c .before .loop .inv .1
 

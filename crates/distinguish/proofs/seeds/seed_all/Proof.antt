@@ -9,9 +9,6 @@ use Rattle.validity.proofs.Spreading.{spread-begin, spread-next}
 use borrow.Author.Needs.{needs}
 use Rattle.distinguish.proofs.seeds.seed_all.Statement.{statement}
 use Rattle.distinguish.proofs.seeds.seed_all.Tie as tie
-use Rattle.distinguish.proofs.seeds.seed_all.Reads as reads
-use Rattle.distinguish.proofs.seeds.seed_all.Lts as lts
-use Rattle.distinguish.proofs.seeds.seed_row.Reads as seed-row-reads
 
 abbrev Inv-loop : tie.InvT-loop
 Inv-loop classes n marks₀ changed₀ p₀ marks changed p =
@@ -20,37 +17,42 @@ Inv-loop classes n marks₀ changed₀ p₀ marks changed p =
 abbrev μ-loop : tie.MeasureT-loop
 μ-loop classes n marks₀ changed₀ p₀ marks changed p = n + 1 - p
 
--- src/seeds.rt:67:5
 loop-holds : tie.Need-loop-holds Inv-loop μ-loop
-loop-holds c =
-    (omega arith, spread-begin (SeedRow (viewed (c .before .args .classes .now) [] (c .before .args .n) 0) (c .before .args .n)))
+loop-holds c = (
+  omega arith,
+  spread-begin (SeedRow (viewed (c .before .args .classes .now) [] (c .before .args .n) 0) (c
+      .before .args .n)),
+)
 
--- src/seeds.rt:67:15
 add-loop : tie.Need-add-loop Inv-loop μ-loop
 add-loop c = search needs
 
--- src/seeds.rt:68:13
 seed-row-requires : tie.Need-seed-row-requires Inv-loop μ-loop
 seed-row-requires c κs =
-    (c .before .before .before .before .pre .0, (c .before .before .before .before .pre .1 .0, (omega arith, c .before .before .loop .inv .1 .swept .size ∙ c .before .before .before .before .pre .1 .1)))
+    let at-loop = c .before .before in
+    let start = at-loop .before .before in
+    (start .pre .0, (start .pre .1 .0, (omega arith, at-loop .loop .inv .1 .swept .size ∙ start .pre .1 .1)))
 
--- src/seeds.rt:70:9
 add-p : tie.Need-add-p Inv-loop μ-loop
 add-p c = search needs
 
--- src/seeds.rt:67:5
 loop-less : tie.Need-loop-less Inv-loop μ-loop
 loop-less c = omega arith
 
--- src/seeds.rt:67:5
 loop-again : tie.Need-loop-again Inv-loop μ-loop
 loop-again c =
-    (omega arith, spread-next (SeedRow (viewed (c .before .before .before .before .before .args .classes .now) [] (c .before .before .before .before .before .args .n) 0) (c .before .before .before .before .before .args .n)) (c .before .before .before .loop .p) (c .before .before .before .loop .inv .1) (c .seed-row .ensures))
+    let at-loop = c .before .before .before in
+    let start = at-loop .before .before in (
+      omega arith,
+      spread-next (SeedRow (viewed (start .args .classes .now) [] (start .args .n) 0) (start .args
+          .n)) (at-loop .loop .p) (at-loop .loop .inv .1) (c .seed-row .ensures),
+    )
 
--- src/seeds.rt:59:1
 returns : tie.Need-returns Inv-loop μ-loop
 returns c =
-    let e : c .before .loop .p ≡ c .before .before .before .args .n + 1 = omega (arith, c .before .loop .inv .0) in rw e at (c .before .loop .inv .1)
+    let start = c .before .before .before in
+    let e : c .before .loop .p ≡ start .args .n + 1 = omega (arith, c .before .loop .inv .0) in
+    rw e at (c .before .loop .inv .1)
 
 pub seed-all-spec : {M : Type 1} → statement M
 seed-all-spec =

@@ -262,7 +262,8 @@ expand-loop-again t c =
     let T = transitionsIn (start .args .nodes .now) (start .args .found) in
     let cand = candidate (marked (start .args .marks .now)) (start .args .states .now) (start .args .n) in (
       added-next (λ y. Over (ChosenWith cand (start .args .m) (start .args .t7) (start .args .k) y) T (start .args
-          .t7)) (loop .x) (loop .inv .0) (expand-with-call .ensures .done (c .before .more .given .0 .0) (c .before .more
+          .t7)) (loop .x) (loop .inv .0) (expand-with-call .ensures .done (c .before .more .given .0 .0) (c .before
+          .more
           .given .1)),
       omega arith,
     )

@@ -52,7 +52,8 @@ expand-requires c κs =
           start .pre .1 .1 .1 .0,
           (
             copied-entry (start .args .run .now) (11 *
-                loop .i) (c .before .transition .result) (c .before .transition .ensures) (start .pre .0 .runs .narrow (loop .i)
+                loop .i) (c .before .transition .result) (c .before .transition .ensures) (start .pre .0 .runs
+                .narrow (loop .i)
                 (loop-test .taken)) (start .pre .0 .out-some (loop .i) (loop-test .taken)),
             (
               omega arith,

@@ -77,7 +77,8 @@ loop-again c =
     let loop = c .before .before .before .before .before .before .before .before .loop in
     let expand-node-call = c .before .before .before .before .before .expand-node in (
       added-next (LostAt (start .args .n) (start .args .labels .now) (start .args .arities .now) (start .args
-          .children .now) (start .args .states .now)) (loop .j) (loop .inv .0) (expand-node-call .ensures .done (c .before
+          .children .now) (start .args .states .now)) (loop .j) (loop .inv .0) (expand-node-call .ensures .done (c
+          .before
           .more .given .0 .0) (c .before .more .given .1)),
       omega arith,
     )

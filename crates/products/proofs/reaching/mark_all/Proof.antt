@@ -62,7 +62,8 @@ loop-again c =
       (
         omega arith,
         c .mark .ensures .swept (λ j. true) (all-reach (start
-            .args .states .now) (start .args .n) (start .args .m) T (nthTransition (start .args .run .now) (loop .i))) .size
+            .args .states .now) (start .args .n) (start .args .m) T (nthTransition (start .args .run .now) (loop
+            .i))) .size
             ∙ loop .inv .1 .1,
       ),
     )
