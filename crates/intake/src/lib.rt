@@ -14,11 +14,11 @@ ghost use Rattle.lists.specs.Conditions.{firstBroken};
 ghost use Rattle.table.specs.Intake.{contentConditions, tableRefusal};
 ghost use Rattle.table.specs.Layout.{transitionsIn};
 ghost use Rattle.intake.specs.Automata.{automatonConditions};
-use distinguish::all_distinguishable;
 use fields::layout_fits;
 use fields::rises;
 use fields::transition_count;
 use fields::wide;
+use fingerprints::all_distinguishable_useful;
 use format::HEAD_BYTES;
 use format::TABLE_BYTES;
 use validity::acyclic;
@@ -56,7 +56,7 @@ fn automaton_refusal(classes: &[u8], run: &[u8], count: usize, n: usize) -> u8
     if !acyclic(run, count, n) {
         return 11;
     }
-    if !all_distinguishable(classes, run, count, n) {
+    if !all_distinguishable_useful(classes, run, count, n) {
         return 12;
     }
     if !in_order {

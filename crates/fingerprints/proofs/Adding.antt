@@ -1,0 +1,250 @@
+-- What the loops that fill a table of fingerprints know: what is there and what is to come make the whole.
+use mathlib.Core.Bool.{Bool, cond, false, true}
+use mathlib.Core.List.{List, [], _++_, _∷_, map}
+use mathlib.Core.Path.{_∙_, _≡_, ap, ap₂, refl, subst, sym}
+use Prim.Native.Nat.{_%_, _*_, _+_, _-_, _/_, _<_, _^_, _≤_, suc, zero, ℕ}
+use native.Mathlib.Omega.{arith}
+use lib.Dec.{eqb}
+use lib.ListN.{getD, length, length-replicate, length-set, replicate, set}
+use lib.Seq.{getD-set-other, getD-set-same}
+use borrow.Author.Tests.{eqb-false, eqb-true}
+use Rattle.automata.specs.Automaton.{Transition}
+use Rattle.automata.specs.Distinguishable.{Slot}
+use Rattle.fields.specs.View.{viewed}
+use Rattle.fingerprints.specs.Fingerprints.{ClassPrints, Gained, Prints, Round, cubed, fingerprint, folded, gain}
+use Rattle.fingerprints.specs.Fingerprints.{gains, mixed, only, packed, places, prime, printCount, printOf}
+use Rattle.fingerprints.specs.Fingerprints.{salted, slotValue, total, valueAt}
+use Rattle.format.specs.Format.{transitionBytes}
+use Rattle.lists.specs.Positions.{upFrom}
+use Rattle.marking.specs.Marks.{bit}
+use Rattle.table.specs.Layout.{argOf, arityOf, classAt, labelOf, nthTransition, outOf, transitionAt, transitionsIn}
+use Rattle.lists.proofs.Loops.{tabulated-suc, upFrom-next, upFrom-none}
+use Rattle.validity.proofs.Views.{viewed-class, viewed-states}
+
+-- ---- one table of fingerprints from another
+
+set-small : (m : List ℕ) (q r : ℕ) → Prints m → q ≤ 255 → r < 2 ^ 64 → Prints (set m q r)
+set-small m q r p h l = record { size = length-set m q r ∙ p .size; small = λ j. go j (eqb j q) refl }
+  where
+    go : (j : ℕ) (b : Bool) → eqb j q ≡ b → getD (set m q r) j 0 < 2 ^ 64
+    go j true e = rw (eqb-true j q e, getD-set-same m q r 0 (omega (arith, p .size))) l
+    go j false e = rw (getD-set-other m q j r 0 (eqb-false j q e)) (p .small j)
+
+pub gained-only : (m : List ℕ) (q v : ℕ) → Prints m → q ≤ 255 → {r : ℕ} → r ≡ (printOf m q + v) % 2 ^ 64 →
+    Gained (only q v) m (set m q r)
+gained-only m q v p h {r} e = record { prints = set-small m q r p h (omega arith); each = λ j. go j (eqb q j) refl }
+  where
+    go : (j : ℕ) (b : Bool) → eqb q j ≡ b → getD (set m q r) j 0 ≡ (getD m j 0 + cond b v 0) % 2 ^ 64
+    go j true d =
+        let qj = eqb-true q j d in
+        subst (λ (i : ℕ). getD (set m q r) i 0 ≡ (getD m i 0 + v) % 2 ^ 64) qj
+        (getD-set-same m q r 0 (omega (arith, p .size)) ∙ e)
+    go j false d =
+        let ne = eqb-false q j d in
+        getD-set-other m q j r 0 (λ x. ne (sym x)) ∙ (let s = p .small j in omega arith)
+
+-- m₀ with f is m with g, which is still to come
+pub record Filling (f g : ℕ → ℕ) (m₀ m : List ℕ) : Type 0 where
+  pub prints : Prints m
+  pub left : (q : ℕ) → (printOf m q + g q) % 2 ^ 64 ≡ (printOf m₀ q + f q) % 2 ^ 64
+
+wraps : (a u g : ℕ) → ((a + u) % 2 ^ 64 + g) % 2 ^ 64 ≡ (a + (u + g)) % 2 ^ 64
+wraps a u g = omega arith
+
+pub filling-start : {f g : ℕ → ℕ} {m : List ℕ} → Prints m → ((q : ℕ) → g q ≡ f q) → Filling f g m m
+filling-start {m = m} p e = record { prints = p; left = λ q. ap (λ (x : ℕ). (printOf m q + x) % 2 ^ 64) (e q) }
+
+pub filling-next : {f g u g' : ℕ → ℕ} {m₀ m m' : List ℕ} → Filling f g m₀ m → Gained u m m' →
+    ((q : ℕ) → g q ≡ u q + g' q) → Filling f g' m₀ m'
+filling-next {u = u} {g' = g'} {m = m} h t e = record {
+  prints = t .prints;
+  left = λ q.
+      ap (λ (x : ℕ). (x + g' q) % 2 ^ 64) (t .each q) ∙ wraps (printOf m q) (u q) (g' q)
+      ∙ ap (λ (x : ℕ). (printOf m q + x) % 2 ^ 64) (sym (e q)) ∙ h .left q;
+}
+
+pub filling-end : {f g : ℕ → ℕ} {m₀ m : List ℕ} → Filling f g m₀ m → ((q : ℕ) → g q ≡ 0) → Gained f m₀ m
+filling-end {g = g} {m = m} h e = record { prints = h .prints; each = λ q. kept q ∙ h .left q }
+  where
+    kept : (q : ℕ) → printOf m q ≡ (printOf m q + g q) % 2 ^ 64
+    kept q = let s = h .prints .small q in let z = e q in omega arith
+
+-- ---- arguments as numbers
+
+pub folded-last : (l : List ℕ) (p b : ℕ) → folded (l ++ (p ∷ [])) b ≡ (folded l b * 1566083941 + p) % prime
+folded-last [] p b = refl
+folded-last (q ∷ l) p b = folded-last l p ((b * 1566083941 + q) % prime)
+
+abbrev pub radix : ℕ → ℕ
+radix zero = 1
+radix (suc m) = 256 * radix m
+
+radix-rises : (m j : ℕ) → m ≤ j → radix m ≤ radix j
+radix-rises zero zero h = omega arith
+radix-rises zero (suc j) h = omega (arith, radix-rises zero j (omega arith))
+radix-rises (suc m) zero h = absurd (omega arith)
+radix-rises (suc m) (suc j) h = omega (arith, radix-rises m j (omega arith))
+
+pub radix-small : (m : ℕ) → m ≤ 7 → radix m ≤ 72057594037927936
+radix-small m h = radix-rises m 7 h
+
+-- ---- the uses in one transition
+
+module _ (s : List ℕ) (at : ℕ) where
+  -- the arguments from place k on, and those before it
+  abbrev pub argsFrom : ℕ → List ℕ
+  argsFrom k = map (argOf s at) (upFrom k (arityOf s at - k))
+
+  abbrev pub argsTo : ℕ → List ℕ
+  argsTo k = map (argOf s at) (upFrom 0 k)
+
+  pub argsFrom-next : (k : ℕ) → k < arityOf s at → argsFrom k ≡ argOf s at k ∷ argsFrom (k + 1)
+  argsFrom-next k h = ap (map (argOf s at)) (upFrom-next k (arityOf s at) h)
+
+  pub argsFrom-none : (k : ℕ) → arityOf s at ≤ k → argsFrom k ≡ []
+  argsFrom-none k h = ap (map (argOf s at)) (upFrom-none k (arityOf s at) h)
+
+  pub argsTo-next : (k : ℕ) → argsTo (k + 1) ≡ argsTo k ++ (argOf s at k ∷ [])
+  argsTo-next k =
+      let e : k + 1 ≡ suc k = omega arith in
+      let z : 0 + k ≡ k = omega arith in
+      ap argsTo e ∙ tabulated-suc (argOf s at) 0 k ∙ ap (λ (j : ℕ). argsTo k ++ (argOf s at j ∷ [])) z
+
+  -- what q gains from place k on
+  abbrev pub gainFrom : ℕ → ℕ → ℕ → ℕ
+  gainFrom x k q = total (places (argsFrom k) (argsTo k) (labelOf s at) q) (valueAt x)
+
+  pub gain-start : (x q : ℕ) → gainFrom x 0 q ≡ gain (transitionAt s at) x q
+  gain-start x q =
+      let e : arityOf s at - 0 ≡ arityOf s at = omega arith in
+      ap (λ (n : ℕ). total (places (map (argOf s at) (upFrom 0 n)) [] (labelOf s at) q) (valueAt x)) e
+
+  pub gain-end : (x k q : ℕ) → arityOf s at ≤ k → gainFrom x k q ≡ 0
+  gain-end x k q h =
+      ap (λ (r : List ℕ). total (places r (argsTo k) (labelOf s at) q) (valueAt x)) (argsFrom-none k h)
+
+  -- the slot of place k
+  abbrev slotOf : ℕ → Slot
+  slotOf k = record { label = labelOf s at; before = argsTo k; after = argsFrom (k + 1) }
+
+  gain-next : (x k q : ℕ) → k < arityOf s at →
+      gainFrom x k q ≡ only (argOf s at k) (valueAt x (slotOf k)) q + gainFrom x (k + 1) q
+  gain-next x k q h =
+      ap (λ (r : List ℕ). total (places r (argsTo k) (labelOf s at) q) (valueAt x)) (argsFrom-next k h)
+      ∙ go (eqb (argOf s at k) q)
+      ∙ ap (λ (l : List ℕ). only (argOf s at k) (valueAt x (slotOf k)) q +
+      total (places (argsFrom (k + 1)) l (labelOf s at) q) (valueAt x)) (sym (argsTo-next k))
+    where
+      rest : List Slot
+      rest = places (argsFrom (k + 1)) (argsTo k ++ (argOf s at k ∷ [])) (labelOf s at) q
+
+      go : (b : Bool) → total (cond b (slotOf k ∷ rest) rest) (valueAt x) ≡
+          cond b (valueAt x (slotOf k)) 0 + total rest (valueAt x)
+      go true = refl
+      go false = omega arith
+
+  value-is : (x k : ℕ) {b c t v : ℕ} → b ≡ folded (argsTo k) 1 → c ≡ packed (argsFrom (k + 1)) →
+      t ≡ salted (labelOf s at) x → v ≡ cubed (mixed b c t) → v ≡ valueAt x (slotOf k)
+  unfolding slotValue
+  value-is x k e f g h = h ∙ rw (e, f, g)
+
+  -- a is argument k, and b, c and t are what its slot's value v is made of
+  pub gain-step : (x k : ℕ) {a b c t v : ℕ} → k < arityOf s at → a ≡ argOf s at k → b ≡ folded (argsTo k) 1 →
+      c ≡ packed (argsFrom (k + 1)) → t ≡ salted (labelOf s at) x → v ≡ cubed (mixed b c t) → (q : ℕ) →
+      gainFrom x k q ≡ only a v q + gainFrom x (k + 1) q
+  gain-step x k h d e f g w q =
+      gain-next x k q h
+      ∙ ap₂ (λ (a v : ℕ). only a v q + gainFrom x (k + 1) q) (sym d) (sym (value-is x k e f g w))
+
+  pub folded-next : (k : ℕ) {b q : ℕ} → b ≡ folded (argsTo k) 1 → q ≡ argOf s at k →
+      (b * 1566083941 + q) % prime ≡ folded (argsTo (k + 1)) 1
+  folded-next k e f =
+      ap₂ (λ (b q : ℕ). (b * 1566083941 + q) % prime) e f ∙ sym (folded-last (argsTo k) (argOf s at k) 1)
+      ∙ ap (λ (l : List ℕ). folded l 1) (sym (argsTo-next k))
+
+  pub packed-whole : (k : ℕ) → k ≡ 0 → packed (argsFrom k) ≡ packed (transitionAt s at .args)
+  packed-whole k e =
+      let z : arityOf s at - 0 ≡ arityOf s at = omega arith in
+      ap (λ (j : ℕ). packed (argsFrom j)) e ∙ ap (λ (n : ℕ). packed (map (argOf s at) (upFrom 0 n))) z
+
+  pub packed-before : (k : ℕ) → 1 ≤ k → k ≤ arityOf s at → {a b : ℕ} → a ≡ argOf s at (k - 1) →
+      b ≡ packed (argsFrom k) → a + 256 * b ≡ packed (argsFrom (k - 1))
+  packed-before k h l e f =
+      let z : k - 1 + 1 ≡ k = omega arith in
+      ap₂ (λ (x y : ℕ). x + 256 * y) e (f ∙ ap (λ (j : ℕ). packed (argsFrom j)) (sym z))
+      ∙ ap packed (sym (argsFrom-next (k - 1) (omega arith)))
+
+  pub packed-next : (k : ℕ) → k < arityOf s at → argOf s at k ≤ 255 → packed (argsFrom k) / 256 ≡ packed (argsFrom
+      (k + 1))
+  packed-next k h l = ap (λ (r : List ℕ). packed r / 256) (argsFrom-next k h) ∙ omega arith
+
+-- ---- the transitions of a run
+
+-- what q gains from transition i on
+abbrev pub gainsFrom : List ℕ → ℕ → (ℕ → ℕ) → ℕ → ℕ → ℕ
+gainsFrom s c h i q = gains (map (nthTransition s) (upFrom i (c - i))) h q
+
+pub gains-start : (s : List ℕ) (c : ℕ) (h : ℕ → ℕ) (q : ℕ) → gainsFrom s c h 0 q ≡ gains (transitionsIn s c) h q
+unfolding transitionsIn
+gains-start s c h q =
+    let e : c - 0 ≡ c = omega arith in ap (λ (n : ℕ). gains (map (nthTransition s) (upFrom 0 n)) h q) e
+
+pub gains-next : (s : List ℕ) (c : ℕ) (h : ℕ → ℕ) (i q : ℕ) → i < c → {x : ℕ} →
+    x ≡ h (outOf s (transitionBytes * i)) → gainsFrom s c h i q ≡ gain (nthTransition s i) x q + gainsFrom s c h (i
+    + 1) q
+gains-next s c h i q l e =
+    ap (λ (js : List ℕ). gains (map (nthTransition s) js) h q) (upFrom-next i c l)
+    ∙ ap (λ (x : ℕ). gain (nthTransition s i) x q + gainsFrom s c h (i + 1) q) (sym e)
+
+pub gains-end : (s : List ℕ) (c : ℕ) (h : ℕ → ℕ) (i q : ℕ) → c ≤ i → gainsFrom s c h i q ≡ 0
+gains-end s c h i q l = ap (λ (js : List ℕ). gains (map (nthTransition s) js) h q) (upFrom-none i c l)
+
+-- ---- classes
+
+pub record ClassBelow (cl : List ℕ) (q : ℕ) (m : List ℕ) : Type 0 where
+  pub prints : Prints m
+  pub each : (p : ℕ) → p < q → printOf m p ≡ bit (classAt cl p)
+
+pub class-start : (cl : List ℕ) → ClassBelow cl 0 (replicate printCount 0)
+class-start cl = record {
+  prints = record { size = length-replicate {A = ℕ} printCount 0; small = λ q. none printCount q };
+  each = λ p h. absurd (omega arith);
+}
+  where
+    none : (k q : ℕ) → getD (replicate k 0) q 0 < 2 ^ 64
+    none zero q = omega arith
+    none (suc k) zero = omega arith
+    none (suc k) (suc q) = none k q
+
+class-small : (b : Bool) → bit b < 2 ^ 64
+class-small true = omega arith
+class-small false = omega arith
+
+pub class-next : {cl : List ℕ} {q : ℕ} {m : List ℕ} {r : ℕ} → ClassBelow cl q m → q ≤ 255 → r ≡ bit (classAt cl q) →
+    ClassBelow cl (q + 1) (set m q r)
+class-next {cl} {q} {m} {r} c h e = record {
+  prints = set-small m q r (c .prints) h (subst (λ (x : ℕ). x < 2 ^ 64) (sym e) (class-small (classAt cl q)));
+  each = λ p l. go p l (eqb p q) refl;
+}
+  where
+    go : (p : ℕ) → p < q + 1 → (b : Bool) → eqb p q ≡ b → getD (set m q r) p 0 ≡ bit (classAt cl p)
+    go p l true d =
+        rw (eqb-true p q d) (getD-set-same m q r 0 (omega (arith, c .prints .size)) ∙ e)
+    go p l false d = let ne = eqb-false p q d in
+        getD-set-other m q p r 0 ne ∙ c .each p (omega arith)
+
+pub class-end : {cl : List ℕ} {q n : ℕ} {m : List ℕ} → ClassBelow cl q m → n < q → ClassPrints cl n m
+class-end c h = record { prints = c .prints; each = λ p a b. c .each p (omega arith) }
+
+-- ---- a round
+
+pub round-is : (cl s : List ℕ) (n c : ℕ) (h : ℕ → ℕ) {m m' : List ℕ} → ClassPrints cl n m →
+    Gained (gains (transitionsIn s c) h) m m' → Round (viewed cl s n c) h m'
+unfolding fingerprint
+round-is cl s n c h {m} k g = record {
+  each = λ q a b.
+      let l : q ≤ n = omega (arith, viewed-states cl s n c) in
+      g .each q
+      ∙ ap (λ (x : ℕ). (x + gains (transitionsIn s c) h q) % 2 ^ 64)
+      (k .each q a l ∙ ap bit (sym (viewed-class cl s n c q a l)));
+}

@@ -1,0 +1,35 @@
+use Rattle.fingerprints.proofs.Adding.{gained-only}
+use borrow.Author.Needs.{needs}
+use Rattle.fingerprints.proofs.rounds.add.Statement.{statement}
+use Rattle.fingerprints.proofs.rounds.add.Tie as tie
+
+mul-wrapping-add-usize : tie.Need-mul-wrapping-add-usize
+mul-wrapping-add-usize c = search needs
+
+element-copy-out-wrapping-add-usize : tie.Need-element-copy-out-wrapping-add-usize
+element-copy-out-wrapping-add-usize c = search needs
+
+wrapping-add-usize-requires : tie.Need-wrapping-add-usize-requires
+wrapping-add-usize-requires c κs = search needs
+
+mul-prints : tie.Need-mul-prints
+mul-prints c = search needs
+
+element-write-prints : tie.Need-element-write-prints
+element-write-prints c = search needs
+
+returns : tie.Need-returns
+returns c =
+    gained-only (c .before .before .args .prints .now) (c .before .before .args .q) (c .before .before .args .v) (c
+    .before .before .pre .0) (c .before .before .pre .1) (c .wrapping-add-usize .ensures)
+
+pub add-spec : {M : Type 1} → statement M
+add-spec =
+    tie.close
+    (tie.spec
+    mul-wrapping-add-usize
+    element-copy-out-wrapping-add-usize
+    wrapping-add-usize-requires
+    mul-prints
+    element-write-prints
+    returns)

@@ -1,0 +1,232 @@
+use lib.ListN.{getD}
+use Rattle.fields.proofs.Transitions.{readable}
+use Rattle.fingerprints.proofs.Adding.{Filling, argsFrom, argsTo, filling-end, filling-next, filling-start, gainFrom, gain-end, gain-start, gain-step, folded-next, packed-next, packed-whole}
+use native.Mathlib.Omega.{arith}
+use mathlib.Core.Path.{_≡_, _∙_, ap, refl, sym}
+use Prim.Native.Nat.{_*_, _+_, _-_, _/_, _<_, _≤_, ℕ}
+use Rattle.table.specs.Layout.{arityOf, labelOf, nthTransition}
+use Rattle.fingerprints.specs.Fingerprints.{folded, gain, packed, prime, salted}
+use borrow.Author.Needs.{needs}
+use Rattle.fingerprints.proofs.rounds.add_uses.Statement.{statement}
+use Rattle.fingerprints.proofs.rounds.add_uses.Tie as tie
+
+abbrev Inv-loop : tie.InvT-loop
+Inv-loop run count n i x prints₀ arity s before₀ after₀ k₀ prints before after k =
+    (k ≤ arity) × (arity ≡ arityOf run (11 * i)) × (s ≡ salted (labelOf run (11 * i)) x) × (before < prime) ×
+    (before ≡ folded (argsTo run (11 * i) k) 1) × (after ≡ packed (argsFrom run (11 * i) k)) × Filling (gain
+    (nthTransition run i) x) (gainFrom run (11 * i) x k) prints₀ prints
+
+abbrev μ-loop : tie.MeasureT-loop
+μ-loop run count n i x prints₀ arity s before₀ after₀ k₀ prints before after k = arity - k
+
+mul-wide : tie.Need-mul-wide Inv-loop μ-loop
+mul-wide c = search needs
+
+add-wide : tie.Need-add-wide Inv-loop μ-loop
+add-wide c = search needs
+
+sub-wide : tie.Need-sub-wide Inv-loop μ-loop
+sub-wide c = search needs
+
+shared-slice-read-wide : tie.Need-shared-slice-read-wide Inv-loop μ-loop
+shared-slice-read-wide c = search needs
+
+wide-requires : tie.Need-wide-requires Inv-loop μ-loop
+wide-requires c κs = search needs
+
+mul-wide-2 : tie.Need-mul-wide-2 Inv-loop μ-loop
+mul-wide-2 c = search needs
+
+shared-slice-read-wide-2 : tie.Need-shared-slice-read-wide-2 Inv-loop μ-loop
+shared-slice-read-wide-2 c = search needs
+
+wide-requires-2 : tie.Need-wide-requires-2 Inv-loop μ-loop
+wide-requires-2 c κs = search needs
+
+salt-requires : tie.Need-salt-requires Inv-loop μ-loop
+salt-requires c κs =
+    omega (
+      arith,
+      c .wide2 .ensures,
+      c .before .shared-slice-known3 .given ((11 * (c .before .before .before .before
+          .before .args) .i)),
+    )
+
+mul-packed-args : tie.Need-mul-packed-args Inv-loop μ-loop
+mul-packed-args c = search needs
+
+packed-args-requires : tie.Need-packed-args-requires Inv-loop μ-loop
+packed-args-requires c κs =
+    ((readable (c .before .before .before .before .before .before .pre .0 .runs) (c .before .before .before .before
+    .before .before .args .i) (c .before .before .before .before .before .before .pre .1 .1 .0)))
+
+loop-holds : tie.Need-loop-holds Inv-loop μ-loop
+loop-holds c =
+    let e : ((11 * (c .before .before .before .before .before .before .before .args) .i)) + 2 - 1 ≡ ((11 * (c
+    .before .before .before .before .before .before .before .args) .i)) + 1 = omega arith in (
+      omega arith,
+      c .before .before .before .before .wide .ensures ∙ ap (λ (j : ℕ). getD (c .before .before .before
+          .before .before .before .before .args .run .now) j 0) e,
+      c .before .salt .ensures .0 ∙ ap (λ (l : ℕ). salted l
+          (c .before .before .before .before .before .before .before .args .x)) (c .before .before .wide2 .ensures),
+      omega
+          arith,
+      refl,
+      c .packed-args .ensures ∙ sym (packed-whole (c .before .before .before .before .before .before
+          .before .args .run .now) ((11 * (c .before .before .before .before .before .before .before .args) .i)) 0 refl),
+      filling-start (c .before .before .before .before .before .before .before .pre .1 .1 .1) (λ q. gain-start (c
+          .before .before .before .before .before .before .before .args .run .now) ((11 * (c .before .before .before
+          .before .before .before .before .args) .i)) (c .before .before .before .before .before .before .before .args .x)
+          q),
+    )
+
+mul-wide-3 : tie.Need-mul-wide-3 Inv-loop μ-loop
+mul-wide-3 c = search needs
+
+add-wide-2 : tie.Need-add-wide-2 Inv-loop μ-loop
+add-wide-2 c = search needs
+
+add-wide-3 : tie.Need-add-wide-3 Inv-loop μ-loop
+add-wide-3 c =
+    let r = ((readable (c .before .before .before .before .before .before .before .before .before .pre .0 .runs) (c
+    .before .before .before .before .before .before .before .before .before .args .i) (c .before .before .before
+    .before .before .before .before .before .before .pre .1 .1 .0))) in omega (
+      arith,
+      r .narrow,
+      c .before .loop
+          .inv .1,
+      c .before .before .before .before .before .before .before .before .before .pre .0 .runs .few,
+      c .before
+          .before .before .before .before .before .before .before .before .pre .1 .1 .0,
+    )
+
+shared-slice-read-wide-3 : tie.Need-shared-slice-read-wide-3 Inv-loop μ-loop
+shared-slice-read-wide-3 c =
+    let r = ((readable (c .before .before .before .before .before .before .before .before .before .before .pre .0
+    .runs) (c .before .before .before .before .before .before .before .before .before .before .args .i) (c .before
+    .before .before .before .before .before .before .before .before .before .pre .1 .1 .0))) in omega (
+      arith,
+      r
+          .narrow,
+      r .inside,
+      c .before .before .loop .inv .1,
+    )
+
+wide-requires-3 : tie.Need-wide-requires-3 Inv-loop μ-loop
+wide-requires-3 c κs = search needs
+
+value-requires : tie.Need-value-requires Inv-loop μ-loop
+value-requires c κs = search needs
+
+add-requires : tie.Need-add-requires Inv-loop μ-loop
+add-requires c κs = (
+  c .before .before .before .before .before .loop .inv .6 .prints,
+  omega (
+    arith,
+    c .before .before .wide3
+        .ensures,
+    c .before .before .before .shared-slice-known4 .given (((11 * (c .before .before .before .before
+        .before .before .before .before .before .before .before .before .before .args) .i)) + 2 + (c .before .before
+        .before .before .before .loop .k)),
+  ),
+)
+
+fold-requires : tie.Need-fold-requires Inv-loop μ-loop
+fold-requires c κs = (
+  c .before .before .before .before .before .before .loop .inv .3,
+  omega (
+    arith,
+    c .before .before .before .wide3
+        .ensures,
+    c .before .before .before .before .shared-slice-known4 .given (((11 * (c .before .before .before
+        .before .before .before .before .before .before .before .before .before .before .before .args) .i)) + 2 + (c
+        .before .before .before .before .before .before .loop .k)),
+  ),
+)
+
+add-k : tie.Need-add-k Inv-loop μ-loop
+add-k c = search needs
+
+loop-less : tie.Need-loop-less Inv-loop μ-loop
+loop-less c = search needs
+
+loop-again : tie.Need-loop-again Inv-loop μ-loop
+loop-again c =
+    let h : (c .before .before .before .before .before .before .before .loop .k) < arityOf (c .before .before
+    .before .before .before .before .before .before .before .before .before .before .before .before .before .args
+    .run .now) ((11 * (c .before .before .before .before .before .before .before .before .before .before .before
+    .before .before .before .before .args) .i)) = omega (
+      arith,
+      c .before .before .before .before .before .before
+          .before .loop .inv .1,
+    ) in
+    let f = ap (λ (y : ℕ). y / 256) (c .before .before .before .before .before .before .before .loop .inv .5) ∙
+    packed-next (c .before .before .before .before .before .before .before .before .before .before .before .before
+    .before .before .before .args .run .now) ((11 * (c .before .before .before .before .before .before .before
+    .before .before .before .before .before .before .before .before .args) .i)) (c .before .before .before .before
+    .before .before .before .loop .k) h (omega (
+      arith,
+      c .before .before .before .before .before
+          .shared-slice-known4 .given (((11 * (c .before .before .before .before .before .before .before .before .before
+          .before .before .before .before .before .before .args) .i)) + 2 + (c .before .before .before .before .before
+          .before .before .loop .k)),
+    )) in (
+      omega arith,
+      c .before .before .before .before .before .before .before .loop .inv .1,
+      c .before .before .before
+          .before .before .before .before .loop .inv .2,
+      c .fold .ensures .1,
+      c .fold .ensures .0 ∙ folded-next (c .before
+          .before .before .before .before .before .before .before .before .before .before .before .before .before .before
+          .args .run .now) ((11 * (c .before .before .before .before .before .before .before .before .before .before
+          .before .before .before .before .before .args) .i)) (c .before .before .before .before .before .before .before
+          .loop .k) (c .before .before .before .before .before .before .before .loop .inv .4) (c .before .before .before
+          .before .wide3 .ensures),
+      f,
+      filling-next (c .before .before .before .before .before .before .before .loop .inv
+          .6) (c .before .add .ensures) (gain-step (c .before .before .before .before .before .before .before .before
+          .before .before .before .before .before .before .before .args .run .now) ((11 * (c .before .before .before
+          .before .before .before .before .before .before .before .before .before .before .before .before .args) .i)) (c
+          .before .before .before .before .before .before .before .before .before .before .before .before .before .before
+          .before .args .x) (c .before .before .before .before .before .before .before .loop .k) h (c .before .before
+          .before .before .wide3 .ensures) (c .before .before .before .before .before .before .before .loop .inv .4) f (c
+          .before .before .before .before .before .before .before .loop .inv .2) (c .before .before .value .ensures)),
+    )
+
+returns : tie.Need-returns Inv-loop μ-loop
+returns c =
+    filling-end (c .before .loop .inv .6) (λ q. gain-end (c .before .before .before .before .before .before .before
+    .before .before .args .run .now) ((11 * (c .before .before .before .before .before .before .before .before
+    .before .args) .i)) (c .before .before .before .before .before .before .before .before .before .args .x) (c
+    .before .loop .k) q (omega (arith, c .before .loop .inv .1)))
+
+pub add-uses-spec : {M : Type 1} → statement M
+add-uses-spec =
+    tie.close
+    (tie.spec
+    Inv-loop
+    μ-loop
+    mul-wide
+    add-wide
+    sub-wide
+    shared-slice-read-wide
+    wide-requires
+    mul-wide-2
+    shared-slice-read-wide-2
+    wide-requires-2
+    salt-requires
+    mul-packed-args
+    packed-args-requires
+    loop-holds
+    mul-wide-3
+    add-wide-2
+    add-wide-3
+    shared-slice-read-wide-3
+    wide-requires-3
+    value-requires
+    add-requires
+    fold-requires
+    add-k
+    loop-less
+    loop-again
+    returns)

@@ -1,0 +1,62 @@
+use native.Mathlib.Omega.{arith}
+use Prim.Native.Nat.{_+_, _-_, _≤_}
+use Rattle.fingerprints.proofs.Adding.{ClassBelow, class-end, class-next, class-start}
+use borrow.Author.Needs.{needs}
+use Rattle.fingerprints.proofs.rounds.class_prints.Statement.{statement}
+use Rattle.fingerprints.proofs.rounds.class_prints.Tie as tie
+
+abbrev Inv-loop : tie.InvT-loop
+Inv-loop classes n prints₀ q₀ prints q = (q ≤ n + 1) × ClassBelow classes q prints
+
+abbrev μ-loop : tie.MeasureT-loop
+μ-loop classes n prints₀ q₀ prints q = n + 1 - q
+
+loop-holds : tie.Need-loop-holds Inv-loop μ-loop
+loop-holds c = (omega arith, class-start (c .before .args .classes .now))
+
+add-loop : tie.Need-add-loop Inv-loop μ-loop
+add-loop c = search needs
+
+class-print-requires : tie.Need-class-print-requires Inv-loop μ-loop
+class-print-requires c κs = search needs
+
+mul-prints : tie.Need-mul-prints Inv-loop μ-loop
+mul-prints c = search needs
+
+array-write-prints : tie.Need-array-write-prints Inv-loop μ-loop
+array-write-prints c = search needs
+
+add-q : tie.Need-add-q Inv-loop μ-loop
+add-q c = search needs
+
+loop-less : tie.Need-loop-less Inv-loop μ-loop
+loop-less c = search needs
+
+loop-again : tie.Need-loop-again Inv-loop μ-loop
+loop-again c = (
+  omega arith,
+  class-next (c .before .before .loop .inv .1) (omega (
+    arith,
+    c .before .before .before .before .pre
+        .1,
+  )) (c .class-print .ensures),
+)
+
+returns : tie.Need-returns Inv-loop μ-loop
+returns c = class-end (c .before .loop .inv .1) (omega arith)
+
+pub class-prints-spec : {M : Type 1} → statement M
+class-prints-spec =
+    tie.close
+    (tie.spec
+    Inv-loop
+    μ-loop
+    loop-holds
+    add-loop
+    class-print-requires
+    mul-prints
+    array-write-prints
+    add-q
+    loop-less
+    loop-again
+    returns)

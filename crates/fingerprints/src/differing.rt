@@ -1,0 +1,35 @@
+// Whether the fingerprints of the states 1 to n all differ.
+ghost use mathlib.Core.Path.{_≡_};
+ghost use Prim.Native.Nat.{_≤_};
+ghost use Rattle.fingerprints.specs.Fingerprints.{allDiffer, differsAbove};
+use crate::rounds::PRINT_COUNT;
+
+fn differs_above(prints: &[usize; PRINT_COUNT], n: usize, p: usize) -> bool
+    requires { ⌜ n ≤ 255 ⌝ }
+    requires { ⌜ p ≤ n ⌝ }
+    ensures { λ r. ⌜ r ≡ differsAbove (now (prints .entry)) n p ⌝ }
+{
+    let print = prints[p];
+    let mut q = p + 1;
+    while q < n + 1 {
+        if prints[q] == print {
+            return false;
+        }
+        q += 1;
+    }
+    true
+}
+
+pub fn all_differ(prints: &[usize; PRINT_COUNT], n: usize) -> bool
+    requires { ⌜ n ≤ 255 ⌝ }
+    ensures { λ r. ⌜ r ≡ allDiffer (now (prints .entry)) n ⌝ }
+{
+    let mut p = 1;
+    while p < n + 1 {
+        if !differs_above(prints, n, p) {
+            return false;
+        }
+        p += 1;
+    }
+    true
+}

@@ -1,0 +1,121 @@
+// A round: the fingerprint of each state, from its class, its uses and the fingerprints before.
+ghost use mathlib.Core.Bool.{true};
+ghost use mathlib.Core.Path.{_≡_};
+ghost use Prim.Native.Nat.{_*_, _<_, _≤_};
+ghost use lib.ListN.{length};
+ghost use Rattle.fields.specs.Fields.{RunsOver};
+ghost use Rattle.fields.specs.View.{Viewed, viewed};
+ghost use Rattle.marking.specs.Marks.{bit};
+ghost use Rattle.table.specs.Layout.{classAt, nthTransition, transitionsIn};
+ghost use Rattle.fingerprints.specs.Fingerprints.{ClassPrints, Gained, Prints, Round, gain, gains, only};
+ghost use Rattle.fingerprints.specs.Fingerprints.{printOf};
+use crate::values::fold;
+use crate::values::packed_args;
+use crate::values::salt;
+use crate::values::value;
+use fields::wide;
+use format::ARGS_AT;
+use format::OUT_AT;
+use format::TRANSITION_BYTES;
+
+pub const PRINT_COUNT: usize = 256;
+
+// State q gains v.
+fn add(prints: &mut [usize; PRINT_COUNT], q: usize, v: usize)
+    requires { ⌜ Prints (now prints) ⌝ }
+    requires { ⌜ q ≤ 255 ⌝ }
+    ensures { λ _. ⌜ Gained (only q v) (now (prints .entry)) (now (prints .exit)) ⌝ }
+{
+    let sum = std::num::wrapping_add_usize(prints[q], v);
+    prints[q] = sum;
+}
+
+// The uses in transition i, whose output's fingerprint is x.
+fn add_uses(
+    run: &[u8],
+    count: usize,
+    n: usize,
+    i: usize,
+    x: usize,
+    prints: &mut [usize; PRINT_COUNT],
+)
+    requires { ⌜ RunsOver (now run) count n ⌝ }
+    requires { ⌜ n ≤ 255 ⌝ }
+    requires { ⌜ i < count ⌝ }
+    requires { ⌜ Prints (now prints) ⌝ }
+    ensures { λ _. ⌜ Gained (gain (nthTransition (now (run .entry)) i) x) (now (prints .entry)) (now (prints .exit)) ⌝ }
+{
+    let arity = wide(run[TRANSITION_BYTES * i + ARGS_AT - 1]);
+    let s = salt(wide(run[TRANSITION_BYTES * i]), x);
+    let mut before = 1;
+    let mut after = packed_args(run, TRANSITION_BYTES * i);
+    let mut k = 0;
+    while k < arity {
+        let q = wide(run[TRANSITION_BYTES * i + ARGS_AT + k]);
+        after = after / 256;
+        add(prints, q, value(before, after, s));
+        before = fold(before, q);
+        k += 1;
+    }
+}
+
+fn add_all_uses(
+    run: &[u8],
+    count: usize,
+    n: usize,
+    seen: &[usize; PRINT_COUNT],
+    prints: &mut [usize; PRINT_COUNT],
+)
+    requires { ⌜ RunsOver (now run) count n ⌝ }
+    requires { ⌜ n ≤ 255 ⌝ }
+    requires { ⌜ Prints (now prints) ⌝ }
+    ensures { λ _. ⌜ Gained (gains (transitionsIn (now (run .entry)) count) (printOf (now (seen .entry)))) (now
+        (prints .entry)) (now (prints .exit)) ⌝ }
+{
+    let mut i = 0;
+    while i < count {
+        let out = wide(run[TRANSITION_BYTES * i + OUT_AT]);
+        add_uses(run, count, n, i, seen[out], prints);
+        i += 1;
+    }
+}
+
+fn class_print(classes: &[u8], q: usize) -> usize
+    requires { ⌜ q < length (now classes) ⌝ }
+    ensures { λ r. ⌜ r ≡ bit (classAt (now (classes .entry)) q) ⌝ }
+{
+    if classes[q] == 1 {
+        return 1;
+    }
+    0
+}
+
+fn class_prints(classes: &[u8], n: usize) -> [usize; PRINT_COUNT]
+    requires { ⌜ n < length (now classes) ⌝ }
+    requires { ⌜ n ≤ 255 ⌝ }
+    ensures { λ r. ⌜ ClassPrints (now (classes .entry)) n r ⌝ }
+{
+    let mut prints = [0usize; PRINT_COUNT];
+    let mut q = 0;
+    while q < n + 1 {
+        prints[q] = class_print(classes, q);
+        q += 1;
+    }
+    prints
+}
+
+pub fn round(
+    classes: &[u8],
+    run: &[u8],
+    count: usize,
+    n: usize,
+    seen: &[usize; PRINT_COUNT],
+) -> [usize; PRINT_COUNT]
+    requires { ⌜ Viewed (now classes) (now run) n count ⌝ }
+    ensures { λ r. ⌜ Round (viewed (now (classes .entry)) (now (run .entry)) n count) (printOf (now (seen .entry)))
+        r ⌝ }
+{
+    let mut prints = class_prints(classes, n);
+    add_all_uses(run, count, n, seen, &mut prints);
+    prints
+}

@@ -1,0 +1,62 @@
+// What a use adds to a fingerprint. The numbers are those of specs/Fingerprints.antt.
+ghost use mathlib.Core.List.{_∷_};
+ghost use mathlib.Core.Path.{_≡_};
+ghost use Prim.Native.Nat.{_%_, _*_, _+_, _<_, _≤_};
+ghost use Rattle.fields.specs.Fields.{Readable};
+ghost use Rattle.table.specs.Layout.{transitionAt};
+ghost use Rattle.fingerprints.specs.Fingerprints.{cubed, folded, mixed, packed, prime, salted};
+use fields::wide;
+use format::ARGS_AT;
+
+pub const PRIME: usize = 2147483629;
+
+// The arguments of the transition that starts at a byte, as one number.
+pub fn packed_args(run: &[u8], at: usize) -> usize
+    requires { ⌜ Readable (now run) at ⌝ }
+    ensures { λ r. ⌜ r ≡ packed (transitionAt (now (run .entry)) at .args) ⌝ }
+{
+    let mut k = wide(run[at + ARGS_AT - 1]);
+    let mut sum = 0;
+    while k > 0 {
+        k -= 1;
+        sum = wide(run[at + ARGS_AT + k]) + 256 * sum;
+    }
+    sum
+}
+
+// One more argument behind those that gave b.
+pub fn fold(b: usize, q: usize) -> usize
+    requires { ⌜ b < prime ⌝ }
+    requires { ⌜ q ≤ 255 ⌝ }
+    ensures { λ r. ⌜ r ≡ (b * 1566083941 + q) % prime ⌝ }
+    ensures { λ r. ⌜ r < prime ⌝ }
+{
+    (b * 1566083941 + q) % PRIME
+}
+
+pub fn salt(label: usize, x: usize) -> usize
+    requires { ⌜ label ≤ 255 ⌝ }
+    ensures { λ r. ⌜ r ≡ salted label x ⌝ }
+    ensures { λ r. ⌜ r < prime ⌝ }
+{
+    (label * 1812433253 + x % PRIME * 1664525989) % PRIME
+}
+
+fn mix(b: usize, c: usize, s: usize) -> usize
+    requires { ⌜ b < prime ⌝ }
+    requires { ⌜ s < prime ⌝ }
+    ensures { λ r. ⌜ r ≡ mixed b c s ⌝ }
+    ensures { λ r. ⌜ r < prime ⌝ }
+{
+    (b * 1103515245 + c % 4294967296 * 1013904223 + c / 4294967296 * 899809343 + s) % PRIME
+}
+
+// The value of a slot: b from the arguments before it, c from those after it, s from its label and its output.
+pub fn value(b: usize, c: usize, s: usize) -> usize
+    requires { ⌜ b < prime ⌝ }
+    requires { ⌜ s < prime ⌝ }
+    ensures { λ r. ⌜ r ≡ cubed (mixed b c s) ⌝ }
+{
+    let t = mix(b, c, s);
+    t * t % PRIME * t % PRIME
+}
