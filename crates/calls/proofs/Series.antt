@@ -186,7 +186,7 @@ from-step b m X (c ∷ cs) h =
     record { answers = λ i. a i ∷ R .answers i; table = R .table; canonical = R .canonical }
 
 -- a table that passed intake is in step with its model
-passed-in-step : (b : List ℕ) → AllBytes b → tableRefusal b ≡ 0 → InStep b (modelOf b)
+pub passed-in-step : (b : List ℕ) → AllBytes b → tableRefusal b ≡ 0 → InStep b (modelOf b)
 unfolding modelOf member canonicalOf
 passed-in-step b h e = let P = passes-canonical b h e in record {
   table = P .bytes;

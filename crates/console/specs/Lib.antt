@@ -1,0 +1,4 @@
+pub mod Input
+pub mod Console
+pub mod Buffers
+pub mod Machine

@@ -1,0 +1,40 @@
+-- What the bench program prints, told by the model that keeps a set (01: the plain machine): there is no table, and
+-- every answer is the model's.
+use mathlib.Core.List.{List, [], _++_, _∷_}
+use Prim.Native.Nat.{suc, ℕ}
+use lib.ListN.{length, replicate}
+use Rattle.automata.specs.Automaton.{states}
+use Rattle.calls.specs.Series.{Call, Model, add, ask, canonicalOf, modelOf, remove, respond}
+use Rattle.format.specs.Format.{scratchBytes, tableBytes}
+use Rattle.report.specs.Report.{Outcome, endText, lineText}
+use Rattle.serving.specs.Serving.{outcomeOf}
+use Rattle.text.specs.Grammar.{Command, toAdd, toAsk, toDrop}
+use Rattle.text.specs.Reader.{Line, form, formed, long, readLine}
+use Rattle.console.specs.Input.{linesOf}
+
+-- the call that a command makes, with a listing and a scratch of the right length
+unfoldable pub callOf : Command → List ℕ → Call
+callOf toAdd s = add s (replicate scratchBytes 0)
+callOf toDrop s = remove s (replicate scratchBytes 0)
+callOf toAsk s = ask s
+
+-- what comes of a line, and the model after it
+abbrev pub lineOutcome : Line → Model → Outcome
+lineOutcome (formed c s) m = outcomeOf (respond m (callOf c s) .answer)
+lineOutcome (form n) m = Outcome.form n
+lineOutcome long m = Outcome.long
+
+abbrev pub lineModel : Line → Model → Model
+lineModel (formed c s) m = respond m (callOf c s) .next
+lineModel (form n) m = m
+lineModel long m = m
+
+-- what is printed for lines behind n others: last, the numbers of the automaton of the model's set
+abbrev pub machineFrom : List (List ℕ) → ℕ → Model → List ℕ
+machineFrom [] n m = endText n (states (canonicalOf m)) (length (canonicalOf m .transitions))
+machineFrom (s ∷ ss) n m =
+    lineText (suc n) (lineOutcome (readLine s) m) ++ machineFrom ss (suc n) (lineModel (readLine s) m)
+
+-- what is printed for an input, starting from the empty set
+unfoldable pub machine : List ℕ → List ℕ
+machine input = machineFrom (linesOf input) 0 (modelOf (replicate tableBytes 0))
