@@ -5,11 +5,11 @@ use mathlib.Core.Path.{_∙_, _≡_, ap, subst, sym}
 use Prim.Native.Nat.{_<_, _≤_, suc, zero, ℕ}
 use native.Mathlib.Omega.{arith}
 use lib.ListN.{getD, length, length-append, replicate}
-use Rattle.format.specs.Format.{AllBytes}
+use Rattle.format.specs.Format.{AllBytes, maxLine}
 use Rattle.text.proofs.Laws.{line-formed}
 use Rattle.text.proofs.Sizes.{forest-size}
 use Rattle.text.specs.Grammar.{AllLabelled, Command, Labelled, childrenText, closeBracket, head, labelText, treeText}
-use Rattle.text.specs.Reader.{formed, maxLine, readLine}
+use Rattle.text.specs.Reader.{formed, readLine}
 use Rattle.trees.specs.Listing.{listing, listings}
 use Rattle.trees.specs.Tree.{Forest, Tree, cons, count, nil, node}
 

@@ -11,13 +11,13 @@ use Rattle.automata.specs.Automaton.{Automaton}
 use Rattle.calls.proofs.Series.{InStep, one-call, passed-in-step}
 use Rattle.calls.specs.Calls.{addResult, changeResult, outcome, removeResult}
 use Rattle.calls.specs.Series.{BringsBytes, Model, intake, modelOf, perform, respond}
-use Rattle.format.specs.Format.{AllBytes, scratchBytes, tableBytes}
+use Rattle.format.specs.Format.{AllBytes, maxLine, scratchBytes, tableBytes}
 use Rattle.report.specs.Report.{lineText}
 use Rattle.serving.specs.Serving.{called, closing, closingFor, handled, outcomeOf, served}
 use Rattle.table.proofs.Intake.{zero-table}
 use Rattle.text.proofs.Laws.{line-long}
 use Rattle.text.specs.Grammar.{Command, toAdd, toAsk, toDrop}
-use Rattle.text.specs.Reader.{Line, form, formed, long, maxLine, readLine}
+use Rattle.text.specs.Reader.{Line, form, formed, long, readLine}
 use Rattle.console.specs.Input.{linesOf}
 use Rattle.console.specs.Machine.{callOf, lineModel, lineOutcome, machine, machineFrom}
 use Rattle.console.specs.Console.{printed, printedFrom}

@@ -8,10 +8,10 @@ use lib.Dec.{eqb, leb, ltb}
 use lib.ListN.{length, length-append, length-take, replicate, take}
 use lib.Seq.{take-all, take-append-le}
 use borrow.Author.Tests.{le-ltb, leb-false, leb-true, ltb-false, ltb-true}
-use Rattle.format.specs.Format.{scratchBytes, tableBytes}
+use Rattle.format.specs.Format.{maxLine, scratchBytes, tableBytes}
 use Rattle.serving.specs.Serving.{closing, handled, reported, served}
 use Rattle.text.proofs.Laws.{line-long}
-use Rattle.text.specs.Reader.{Line, maxLine, readLine}
+use Rattle.text.specs.Reader.{Line, readLine}
 use Rattle.console.specs.Input.{isEmpty, linesFrom, linesOf, newline}
 use Rattle.console.specs.Console.{Console, after, closed, fed, heldBytes, holding, inputEnded, kept, lineEnded}
 use Rattle.console.specs.Console.{printed, printedFrom, start, stepped}

@@ -1,10 +1,10 @@
 -- The bench program as a console: what it prints for a whole input, and the same a byte at a time, as it meets its input.
 use mathlib.Core.Bool.{cond}
 use mathlib.Core.List.{List, [], _++_, _∷_}
-use Prim.Native.Nat.{suc, ℕ}
+use Prim.Native.Nat.{_+_, suc, ℕ}
 use lib.Dec.{eqb, ltb}
 use lib.ListN.{length, replicate}
-use Rattle.format.specs.Format.{scratchBytes, tableBytes}
+use Rattle.format.specs.Format.{maxLine, scratchBytes, tableBytes}
 use Rattle.serving.specs.Serving.{Served, closing, served}
 use Rattle.console.specs.Input.{isEmpty, linesOf, newline}
 
@@ -33,7 +33,7 @@ pub record Console : Type 0 where
 
 -- the most bytes that are held of a line: one more than a line may have
 abbrev pub heldBytes : ℕ
-heldBytes = 513
+heldBytes = maxLine + 1
 
 -- a line with one byte more: bytes beyond those that are held are dropped
 unfoldable pub holding : List ℕ → ℕ → List ℕ

@@ -7,12 +7,13 @@ ghost use Rattle.report.specs.Printing.{Put, lineBytes};
 ghost use Rattle.console.specs.Buffers.{ClosedTo, FedTo, Kept, Moved, Ready, Room, emptyScratch, emptyTable};
 ghost use Rattle.console.specs.Buffers.{outBytes, console};
 ghost use Rattle.console.specs.Console.{heldBytes, inputEnded, lineEnded, stepped};
+use format::MAX_LINE;
 use format::SCRATCH_BYTES;
 use format::TABLE_BYTES;
 use report::LINE_BYTES;
 
 // The bytes that are held of a line: one more than a line may have, so that a longer one is known by its length.
-pub const HELD_BYTES: usize = 513;
+pub const HELD_BYTES: usize = MAX_LINE + 1;
 
 // The bytes of the buffer for what is printed.
 pub const OUT_BYTES: usize = 65536;

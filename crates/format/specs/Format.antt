@@ -58,6 +58,17 @@ maxProduct = 3072
 abbrev pub scratchBytes : ℕ
 scratchBytes = transitionBytes * maxProduct
 
+-- a line of text that is read has at most so many bytes, and a tree of at most so many nodes (01: the bench program)
+abbrev pub maxLine : ℕ
+maxLine = 512
+
+abbrev pub maxLineNodes : ℕ
+maxLineNodes = 126
+
+-- the bytes lent for the listing of a line's tree
+abbrev pub listingBytes : ℕ
+listingBytes = nodeBytes * maxLineNodes
+
 -- what a slice of bytes holds
 abbrev pub AllBytes : List ℕ → Type 0
 AllBytes s = (i : ℕ) → getD s i 0 < 256

@@ -27,3 +27,7 @@ pub const TABLE_BYTES: usize = 11467;
 pub const MAX_PRODUCT: usize = 3072;
 
 pub const SCRATCH_BYTES: usize = 33792;
+
+pub const MAX_LINE: usize = 512;
+
+pub const LISTING_BYTES: usize = 252;

@@ -9,10 +9,11 @@ use lib.Dec.{eqb, leb}
 use lib.ListN.{getD, length, length-append, length-replicate, length-set, replicate, set}
 use lib.Seq.{ext-getD, getD-set-other, getD-set-same}
 use borrow.Author.Tests.{eq-eqb, eqb-false, eqb-true, leb-false, leb-true, ne-eqb}
+use Rattle.format.specs.Format.{listingBytes, maxLine}
 use Rattle.scalebench.specs.Typed.{Small, packedLine, packedParsed}
 use Rattle.text.specs.Grammar.{Command, toAdd, toAsk, toDrop}
-use Rattle.text.specs.Outcome.{listed, listingBytes, padded, parsed, parsedAs}
-use Rattle.text.specs.Reader.{Line, form, formed, long, maxLine, readLine}
+use Rattle.text.specs.Outcome.{listed, padded, parsed, parsedAs}
+use Rattle.text.specs.Reader.{Line, form, formed, long, readLine}
 use Rattle.text.specs.declared.Parsed.{Parsed}
 use Rattle.text.proofs.Heads.{length-blank}
 use Rattle.text.proofs.Laws.{line-form, line-long}

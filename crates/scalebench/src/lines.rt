@@ -4,10 +4,11 @@ ghost use mathlib.Core.Path.{_≡_};
 ghost use Prim.Native.Nat.{_*_, _+_, _≤_};
 ghost use lib.Dec.{eqb};
 ghost use lib.ListN.{length};
-ghost use Rattle.text.specs.Outcome.{blank, listed, listingBytes};
+ghost use Rattle.format.specs.Format.{listingBytes};
+ghost use Rattle.text.specs.Outcome.{blank, listed};
 ghost use Rattle.text.specs.Reader.{readLine};
 ghost use Rattle.scalebench.specs.Typed.{Small, packedLine, packedParsed};
-use text::LISTING_BYTES;
+use format::LISTING_BYTES;
 use text::Parsed;
 use text::read_line;
 

@@ -4,6 +4,7 @@ use mathlib.Core.Path.{_∙_, _≡_, ap, ap₂, refl, subst, sym}
 use Prim.Native.Nat.{_-_, _≤_, ℕ}
 use native.Mathlib.Omega.{arith}
 use lib.ListN.{drop, length, length-append, replicate, take}
+use Rattle.format.specs.Format.{listingBytes}
 use Rattle.calls.specs.Calls.{Answer, Result, intakeAnswer}
 use Rattle.report.specs.Printing.{Printed, meaning}
 use Rattle.report.specs.Report.{lineText}
@@ -11,7 +12,7 @@ use Rattle.report.specs.declared.Outcome.{Outcome}
 use Rattle.report.specs.declared.Outcome.the-variants.{Form as Malformed, Long as TooLong}
 use Rattle.text.proofs.Lines.{padded-listing}
 use Rattle.text.specs.Grammar.{Command, toAdd, toAsk, toDrop}
-use Rattle.text.specs.Outcome.{listed, listingBytes, padded, parsed, parsedAs}
+use Rattle.text.specs.Outcome.{listed, padded, parsed, parsedAs}
 use Rattle.text.specs.Reader.{Line, form, formed, long, readLine}
 use Rattle.text.specs.declared.Parsed.{Parsed}
 use Rattle.text.specs.declared.Parsed.the-variants.{Add, Ask, Drop, Form, Long}

@@ -9,11 +9,11 @@ ghost use Rattle.text.specs.Reader.{readLine};
 ghost use Rattle.serving.specs.Answering.{Serves, handling};
 ghost use Rattle.serving.specs.Serving.{closing, handled, outcomeOf};
 use change::Changed;
+use format::LISTING_BYTES;
 use report::LINE_BYTES;
 use report::Outcome;
 use scalebench::Asked;
 use scalebench::Taken;
-use text::LISTING_BYTES;
 use text::Parsed;
 use text::read_line;
 

@@ -10,9 +10,10 @@ use lib.ListN.{List·getD-eq-default, drop, drop-of-length-le, getD, length, len
 use lib.ListN.{length-set, replicate, replicate-append-replicate, set, take}
 use lib.Seq.{drop-cons, take-all, take-suc, take-suc-set}
 use borrow.Author.Tests.{eq-eqb, ne-eqb}
+use Rattle.format.specs.Format.{listingBytes}
 use Rattle.text.specs.Answers.{LabelRead, LabelTo, LineEnd, agreed}
 use Rattle.text.specs.Grammar.{closeBracket, digit}
-use Rattle.text.specs.Outcome.{blank, listingBytes}
+use Rattle.text.specs.Outcome.{blank}
 use Rattle.text.specs.Reader.{Reading, bad, ending, extended, extends, isDigit, lineRead, next, scan, stuck}
 use Rattle.text.specs.Reader.{treeRead, whole}
 use Rattle.text.specs.declared.Found.the-variants.{Broken, Whole}

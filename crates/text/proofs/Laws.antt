@@ -10,8 +10,9 @@ use lib.Dec.{eqb, leb}
 use lib.ListN.{drop, getD, length, take, take-append-drop}
 use lib.Seq.{take-take}
 use borrow.Author.Tests.{eqb-false, eqb-true, le-leb, leb-false, leb-true, lt-leb}
+use Rattle.format.specs.Format.{maxLine}
 use Rattle.text.specs.Grammar.{Command, FirstBad, Labelled, head, lineText, toAdd, toAsk, toDrop}
-use Rattle.text.specs.Reader.{Line, Reading, asLine, bad, form, formed, further, long, maxLine, readForm}
+use Rattle.text.specs.Reader.{Line, Reading, asLine, bad, form, formed, further, long, readForm}
 use Rattle.text.specs.Reader.{readLine, whole}
 use Rattle.trees.specs.Listing.{listing}
 use Rattle.trees.specs.Tree.{Tree}

@@ -12,10 +12,11 @@ use lib.Seq.{drop-drop, length-sets, sets, sets-eq, take-append-seam}
 use mir.Syntax.{w64}
 use mir.Val.{Fits}
 use borrow.Author.Tests.{eqb-true, le-leb}
+use Rattle.format.specs.Format.{listingBytes, maxLine}
 use Rattle.text.specs.Answers.{FormRead, LineEnd, TreeRead, TreeText, agreed, shortestHead}
 use Rattle.text.specs.Grammar.{Command, closeBracket, head, openBracket, toAdd, toAsk, toDrop, treeText}
-use Rattle.text.specs.Outcome.{blank, listed, listingBytes, padded, parsed, parsedAs}
-use Rattle.text.specs.Reader.{Open, bad, ending, expecting, formed, maxLine, next, readForm, readLine, scan}
+use Rattle.text.specs.Outcome.{blank, listed, padded, parsed, parsedAs}
+use Rattle.text.specs.Reader.{Open, bad, ending, expecting, formed, next, readForm, readLine, scan}
 use Rattle.text.specs.Reader.{stuck, treeRead, whole}
 use Rattle.text.specs.declared.Found.{Found}
 use Rattle.text.specs.declared.Found.the-variants.{Broken, Whole}

@@ -6,10 +6,9 @@ use native.Mathlib.Omega.{arith}
 use lib.ListN.{drop, getD, length, length-drop, length-set, set, take}
 use mir.Syntax.{w64, w8}
 use mir.Val.{Fits}
-use Rattle.format.specs.Format.{nodeBytes}
+use Rattle.format.specs.Format.{listingBytes, nodeBytes}
 use Rattle.text.specs.Answers.{ChildrenRead, ChildrenText, LabelRead, LabelTo, Room, TreeRead, TreeText}
 use Rattle.text.specs.Grammar.{closeBracket, openBracket, space}
-use Rattle.text.specs.Outcome.{listingBytes}
 use Rattle.text.specs.declared.Label.{Label}
 use Rattle.text.specs.declared.Label.the-variants.{Nothing, Number}
 use Rattle.text.specs.declared.Read.{Read}

@@ -6,11 +6,11 @@ use Prim.Native.Nat.{_+_, _≤_, suc, ℕ}
 use lib.Dec.{eqb}
 use lib.ListN.{drop, getD, length, take}
 use lib.Seq.{sets}
-use Rattle.format.specs.Format.{maxLabel}
+use Rattle.format.specs.Format.{listingBytes, maxLabel, maxLine}
 use Rattle.text.specs.Grammar.{AllLabelled, Labelled, childrenText, closeBracket, labelText, openBracket}
 use Rattle.text.specs.Grammar.{treeText}
-use Rattle.text.specs.Outcome.{listingBytes, padded}
-use Rattle.text.specs.Reader.{Open, Place, among, bad, ending, expecting, extends, isDigit, maxLine, readForm}
+use Rattle.text.specs.Outcome.{padded}
+use Rattle.text.specs.Reader.{Open, Place, among, bad, ending, expecting, extends, isDigit, readForm}
 use Rattle.text.specs.Reader.{scan, treeRead, whole}
 use Rattle.text.specs.declared.Found.{Found}
 use Rattle.text.specs.declared.Found.the-variants.{Broken, Whole}

@@ -2,14 +2,11 @@
 use mathlib.Core.List.{List, _++_}
 use Prim.Native.Nat.{_-_, ℕ}
 use lib.ListN.{length, replicate}
+use Rattle.format.specs.Format.{listingBytes}
 use Rattle.text.specs.Grammar.{Command, toAdd, toAsk, toDrop}
 use Rattle.text.specs.Reader.{Line, form, formed, long}
 use Rattle.text.specs.declared.Parsed.{Parsed}
 use Rattle.text.specs.declared.Parsed.the-variants.{Add, Ask, Drop, Form, Long}
-
--- the bytes that are lent for a listing: a line of 512 bytes has at most 126 nodes
-abbrev pub listingBytes : ℕ
-listingBytes = 252
 
 -- a table of zeros, and one that holds a listing and zeros behind it
 unfoldable pub blank : List ℕ

@@ -4,7 +4,7 @@ use mathlib.Core.List.{List, [], _++_, _∷_}
 use Prim.Native.Nat.{_*_, _+_, _-_, max, suc, ℕ}
 use lib.Dec.{eqb, leb, ltb}
 use lib.ListN.{length}
-use Rattle.format.specs.Format.{maxLabel}
+use Rattle.format.specs.Format.{maxLabel, maxLine}
 use Rattle.text.specs.Grammar.{Command, closeBracket, digit, head, openBracket, space, toAdd, toAsk, toDrop}
 use Rattle.trees.specs.Listing.{listing}
 use Rattle.trees.specs.Tree.{Forest, Tree, _⧺_, cons, nil, node}
@@ -102,10 +102,6 @@ further long r = long
 further (form m) (formed c l) = formed c l
 further (form m) (form n) = form (max m n)
 further (form m) long = long
-
--- the most bytes that a line has
-abbrev pub maxLine : ℕ
-maxLine = 512
 
 abbrev pub readAs : Command → List ℕ → Line
 readAs c s = asLine c (readForm (head c) s)

@@ -2,8 +2,8 @@
 // value; one thin step takes the cursor by `&mut`.
 ghost use mathlib.Core.Path.{_≡_};
 ghost use Prim.Native.Nat.{_≤_, suc};
+ghost use Rattle.format.specs.Format.{maxLine};
 ghost use Rattle.text.specs.Columns.{advanced};
-ghost use Rattle.text.specs.Reader.{maxLine};
 
 pub struct Cursor {
     pub place: usize,

@@ -2,19 +2,17 @@
 ghost use mathlib.Core.Path.{_≡_};
 ghost use Prim.Native.Nat.{_≤_, max, suc};
 ghost use lib.ListN.{length, set};
+ghost use Rattle.format.specs.Format.{listingBytes, maxLine};
 ghost use Rattle.text.specs.Answers.{ChildrenRead, FormRead, LabelRead, LineEnd, Room, TreeRead, agreed};
 ghost use Rattle.text.specs.Answers.{shortestHead};
-ghost use Rattle.text.specs.Outcome.{blank, listed, listingBytes, parsed};
-ghost use Rattle.text.specs.Reader.{extends, isDigit, maxLine, readLine};
+ghost use Rattle.text.specs.Outcome.{blank, listed, parsed};
+ghost use Rattle.text.specs.Reader.{extends, isDigit, readLine};
 use cursor::column_at;
+use format::LISTING_BYTES;
+use format::MAX_LINE;
 use format::NODE_BYTES;
 
 mod cursor; // cursor.rt: from the place of a byte to its column
-
-const MAX_LINE: usize = 512;
-
-// The bytes of a table for a listing: a line of 512 bytes has at most 126 nodes.
-pub const LISTING_BYTES: usize = 252;
 
 const OPEN: u8 = 40;
 

@@ -2,7 +2,7 @@
 use Prim.Native.Nat.{_-_}
 use native.Mathlib.Omega.{arith}
 use borrow.Author.Needs.{needs}
-use Rattle.text.specs.Outcome.{listingBytes}
+use Rattle.format.specs.Format.{listingBytes}
 use Rattle.text.proofs.Heads.{ClearedTo, cleared-end, cleared-next, cleared-start}
 use Rattle.text.proofs.clear.Statement.{statement}
 use Rattle.text.proofs.clear.Tie as tie
