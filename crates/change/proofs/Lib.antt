@@ -1,4 +1,3 @@
-pub mod Clearing
 pub mod Pairs
 pub mod Given
 pub mod Exact

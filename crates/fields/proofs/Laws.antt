@@ -1,6 +1,6 @@
 -- Loops over a run of transitions: two lists of arguments compared, neighbours compared, a transition
 -- searched. The answer of the whole is the answer of what is left.
-use mathlib.Core.Bool.{Bool, _&&_, _||_, and-assoc, and-false, and-true, cond, false, false≢true, or-false, true, true≢false}
+use mathlib.Core.Bool.{Bool, _&&_, _||_, and-false, cond, false, false≢true, or-false, true, true≢false}
 use mathlib.Core.List.{List, [], _∷_, map}
 use mathlib.Core.Logic.{_↔_, inl, inr}
 use mathlib.Core.Path.{_∙_, _≡_, ap, ap₂, refl, sym}
@@ -23,7 +23,7 @@ use Rattle.lists.specs.Positions.{upFrom}
 use Rattle.lists.specs.Tests.{_∈_, any, every, sameList}
 use Rattle.table.specs.Layout.{argOf, arityOf, labelOf, nthTransition, outOf, transitionAt, transitionsIn}
 use Rattle.fields.proofs.Transitions.{arg-at, args-length, in-transitionsIn, transitionsFrom}
-use Rattle.lists.proofs.Loops.{upFrom-next, upFrom-none, upFrom-whole}
+use Rattle.lists.proofs.Loops.{upFrom-next, upFrom-none}
 use Rattle.lists.proofs.Tests.{and-both, sameList-refl, sameList-true}
 
 -- ---- order
@@ -228,23 +228,3 @@ nothing-found s n m over a qs r e h = go (any (matches a qs) (transitionsIn s n)
     go : (b : Bool) → any (matches a qs) (transitionsIn s n) ≡ b → r ≡ Nothing
     go true d = absurd (omega (arith, lookup-some a qs (transitionsIn s n) (outs-some s n m over) d))
     go false d = isFound-false r (e ∙ d)
-
--- ---- a test that goes on where it fails
-
--- a loop at i, with n its end: s says whether the test passed so far, which b says, and passes for every number left
-pub record CleanFrom (s b : Bool) (p : ℕ → Bool) (n i : ℕ) : Type 0 where
-  pub within : i ≤ n
-  pub left : s ≡ (b && every p (upFrom i (n - i)))
-
-module _ {p : ℕ → Bool} {n : ℕ} where
-  pub clean-start : {k : ℕ} (m : ℕ) → k + m ≡ n → CleanFrom (every p (upFrom k m)) true p n k
-  clean-start {k} m e = record { within = omega arith; left = ap (every p) (upFrom-whole k m n e) }
-
-  pub clean-next : {s b r : Bool} {i : ℕ} → CleanFrom s b p n i → i < n → r ≡ p i → CleanFrom s (b && r) p n (i + 1)
-  clean-next {s} {b} {r} {i} inv h e = record {
-    within = omega arith;
-    left = inv .left ∙ rw (upFrom-next i n h, ← e) (sym (and-assoc b r (every p (upFrom (i + 1) (n - (i + 1))))));
-  }
-
-  pub clean-end : {s b : Bool} {i : ℕ} → CleanFrom s b p n i → n ≤ i → b ≡ s
-  clean-end {s} {b} {i} inv h = sym (inv .left ∙ rw (upFrom-none i n h) (and-true b))

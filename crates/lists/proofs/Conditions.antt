@@ -1,11 +1,12 @@
 -- No condition is broken exactly when all hold; of two lists, the first decides where it is broken.
 use mathlib.Core.Bool.{Bool, cond, false, true}
 use mathlib.Core.List.{List, [], _++_, _∷_}
-use mathlib.Core.Path.{_≡_, refl}
-use Prim.Native.Nat.{_≤_}
+use mathlib.Core.Logic.{_≢_}
+use mathlib.Core.Path.{_∙_, _≡_, refl, sym}
+use Prim.Native.Nat.{_≤_, ℕ}
 use native.Mathlib.Omega.{arith}
 use lib.Dec.{eqb}
-use borrow.Author.Tests.{ne-eqb}
+use borrow.Author.Tests.{eq-eqb, ne-eqb}
 use Rattle.lists.specs.Conditions.{Condition, firstBroken}
 
 -- every condition holds
@@ -67,3 +68,35 @@ hold-append (c ∷ cs) ds h = let r = hold-append cs ds (h .1) in ((h .0, r .0),
 pub from-one-append : (cs ds : List Condition) → FromOne cs → FromOne ds → FromOne (cs ++ ds)
 from-one-append [] ds m n = n
 from-one-append (c ∷ cs) ds m n = (m .0, from-one-append cs ds (m .1) n)
+
+-- ---- the number that two lists give
+
+module _ (cs ds : List Condition) (from : FromOne cs) {r : ℕ} (e : r ≡ firstBroken cs) where
+  pub append-broken : r ≢ 0 → r ≡ firstBroken (cs ++ ds)
+  append-broken n =
+      let z : eqb (firstBroken cs) 0 ≡ false = ne-eqb (firstBroken cs) 0 (λ d. n (e ∙ d)) in
+      rw (firstBroken-append cs ds from, z) e
+
+  pub append-unbroken : r ≡ 0 → {q : ℕ} → q ≡ firstBroken ds → q ≡ firstBroken (cs ++ ds)
+  append-unbroken z f =
+      let y : eqb (firstBroken cs) 0 ≡ true = eq-eqb (firstBroken cs) 0 (sym e ∙ z) in
+      rw (firstBroken-append cs ds from, y) f
+
+-- ---- numbers
+
+-- refusals are numbered up to k
+abbrev pub AtMost : ℕ → List Condition → Type 0
+AtMost k [] = Unit {0}
+AtMost k (c ∷ cs) = (c .refusal ≤ k) × AtMost k cs
+
+pub at-most-append : (k : ℕ) (cs ds : List Condition) → AtMost k cs → AtMost k ds → AtMost k (cs ++ ds)
+at-most-append k [] ds h l = l
+at-most-append k (c ∷ cs) ds h l = (h .0, at-most-append k cs ds (h .1) l)
+
+pub broken-at-most : (k : ℕ) (cs : List Condition) → AtMost k cs → firstBroken cs ≤ k
+broken-at-most k [] h = omega arith
+broken-at-most k (c ∷ cs) h = go (c .holds) (broken-at-most k cs (h .1))
+  where
+    go : (b : Bool) → firstBroken cs ≤ k → cond b (firstBroken cs) (c .refusal) ≤ k
+    go true l = l
+    go false l = h .0

@@ -5,3 +5,4 @@ pub mod Loops
 pub mod Closure
 pub mod Conditions
 pub mod Distinct
+pub mod Clearing

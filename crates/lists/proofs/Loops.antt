@@ -1,6 +1,6 @@
 -- Loops over the numbers of an interval: the answer of the whole is the answer of what is left. Each loop
 -- begins, goes on, stops early and ends by one law.
-use mathlib.Core.Bool.{Bool, false, true}
+use mathlib.Core.Bool.{Bool, _&&_, and-assoc, and-true, false, true}
 use mathlib.Core.List.{[], _++_, _∷_, map}
 use mathlib.Core.Path.{_∙_, _≡_, ap, sym}
 use Prim.Native.Nat.{_+_, _-_, _<_, _≤_, suc, zero, ℕ}
@@ -57,6 +57,24 @@ module _ {p : ℕ → Bool} {n : ℕ} where
 
   pub any-end : {s : Bool} {i : ℕ} → AnyFrom s p n i → n ≤ i → false ≡ s
   any-end {s} {i} inv h = sym (inv .left ∙ rw (upFrom-none i n h))
+
+-- a loop at i, with n its end: s says whether the test passed so far, which b says, and passes for every number left
+pub record CleanFrom (s b : Bool) (p : ℕ → Bool) (n i : ℕ) : Type 0 where
+  pub within : i ≤ n
+  pub left : s ≡ (b && every p (upFrom i (n - i)))
+
+module _ {p : ℕ → Bool} {n : ℕ} where
+  pub clean-start : {k : ℕ} (m : ℕ) → k + m ≡ n → CleanFrom (every p (upFrom k m)) true p n k
+  clean-start {k} m e = record { within = omega arith; left = ap (every p) (upFrom-whole k m n e) }
+
+  pub clean-next : {s b r : Bool} {i : ℕ} → CleanFrom s b p n i → i < n → r ≡ p i → CleanFrom s (b && r) p n (i + 1)
+  clean-next {s} {b} {r} {i} inv h e = record {
+    within = omega arith;
+    left = inv .left ∙ rw (upFrom-next i n h, ← e) (sym (and-assoc b r (every p (upFrom (i + 1) (n - (i + 1))))));
+  }
+
+  pub clean-end : {s b : Bool} {i : ℕ} → CleanFrom s b p n i → n ≤ i → b ≡ s
+  clean-end {s} {b} {i} inv h = sym (inv .left ∙ rw (upFrom-none i n h) (and-true b))
 
 -- a test of an interval, by index
 pub every-at : (p : ℕ → Bool) (k n : ℕ) → every p (upFrom k n) ≡ true → (i : ℕ) → k ≤ i → i < k + n → p i ≡ true

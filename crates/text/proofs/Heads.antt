@@ -7,8 +7,7 @@ use native.Mathlib.Numerals.{add-one}
 use native.Mathlib.Omega.{arith}
 use lib.Dec.{eqb}
 use lib.ListN.{List·getD-eq-default, drop, drop-of-length-le, getD, length, length-drop, length-replicate}
-use lib.ListN.{length-set, replicate, replicate-append-replicate, set, take}
-use lib.Seq.{drop-cons, take-all, take-suc, take-suc-set}
+use lib.Seq.{drop-cons, take-suc}
 use borrow.Author.Tests.{eq-eqb, ne-eqb}
 use Rattle.format.specs.Format.{listingBytes}
 use Rattle.text.specs.Answers.{LabelRead, LabelTo, LineEnd, agreed}
@@ -19,6 +18,7 @@ use Rattle.text.specs.Reader.{treeRead, whole}
 use Rattle.text.specs.declared.Found.the-variants.{Broken, Whole}
 use Rattle.text.specs.declared.Label.the-variants.{Nothing, Number}
 use Rattle.trees.specs.Tree.{Tree}
+use Rattle.lists.proofs.Clearing.{ClearedTo, cleared-end}
 use Rattle.text.proofs.Labels.{digit-bounds, extends-true, label-digit, label-extended}
 use Rattle.text.proofs.Scan.{ending-stuck, scan-from}
 
@@ -157,31 +157,9 @@ module _ (s : List ℕ) (e u : ℕ) where
 
 -- ---- a table of zeros
 
--- the first i bytes are 0
-pub record ClearedTo (l : List ℕ) (i : ℕ) : Type 0 where
-  pub size : length l ≡ listingBytes
-  pub within : i ≤ listingBytes
-  pub zeros : take i l ≡ replicate i 0
-
-pub cleared-start : (l : List ℕ) → length l ≡ listingBytes → ClearedTo l 0
-cleared-start l h = record { size = h; within = omega arith; zeros = refl }
-
-pub cleared-next : (l : List ℕ) (i : ℕ) → ClearedTo l i → i < listingBytes → ClearedTo (set l i 0) (i + 1)
-cleared-next l i x h =
-    record {
-      size = length-set l i 0 ∙ x .size;
-      within = omega arith;
-      zeros =
-          rw (add-one i, take-suc-set l i 0 (omega (arith, x .size)), x .zeros)
-          (replicate-append-replicate i 1 0 ∙ rw (add-one i));
-    }
-
-cleared-all : (l : List ℕ) (i n : ℕ) → length l ≡ n → n ≡ i → take i l ≡ replicate i 0 → l ≡ replicate n 0
-cleared-all l i n h e z = sym (take-all i l (omega arith)) ∙ z ∙ ap (λ k. replicate k 0) (sym e)
-
-pub cleared-end : (l : List ℕ) (i : ℕ) → ClearedTo l i → listingBytes ≤ i → l ≡ blank
+pub blank-cleared : {l : List ℕ} {i : ℕ} → ClearedTo listingBytes l i → listingBytes ≤ i → l ≡ blank
 unfolding blank
-cleared-end l i x h = cleared-all l i listingBytes (x .size) (omega (arith, x .within)) (x .zeros)
+blank-cleared x h = cleared-end x h
 
 pub length-blank : length blank ≡ listingBytes
 unfolding blank

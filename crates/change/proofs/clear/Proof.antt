@@ -1,7 +1,8 @@
+use mathlib.Core.Path.{refl}
 use native.Mathlib.Omega.{arith}
 use Prim.Native.Nat.{_-_}
 use lib.ListN.{length}
-use Rattle.change.proofs.Clearing.{ClearedTo, cleared-end, cleared-next, cleared-start}
+use Rattle.lists.proofs.Clearing.{ClearedTo, cleared-end, cleared-next, cleared-start}
 use borrow.Author.Needs.{needs}
 use Rattle.change.proofs.clear.Statement.{statement}
 use Rattle.change.proofs.clear.Tie as tie
@@ -13,7 +14,7 @@ abbrev μ-loop : tie.MeasureT-loop
 μ-loop scratch₀ i₀ scratch i = length scratch₀ - i
 
 loop-holds : tie.Need-loop-holds Inv-loop μ-loop
-loop-holds c = cleared-start _
+loop-holds c = cleared-start _ refl
 
 slice-write-scratch : tie.Need-slice-write-scratch Inv-loop μ-loop
 slice-write-scratch c = search needs

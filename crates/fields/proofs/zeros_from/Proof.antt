@@ -5,7 +5,7 @@ use lib.ListN.{length}
 use Rattle.lists.specs.Positions.{upFrom}
 use Rattle.lists.specs.Tests.{every}
 use Rattle.table.specs.Layout.{zeroAt}
-use Rattle.fields.proofs.Laws.{CleanFrom, clean-end, clean-next, clean-start}
+use Rattle.lists.proofs.Loops.{CleanFrom, clean-end, clean-next, clean-start}
 use borrow.Author.Needs.{needs}
 use Rattle.fields.proofs.zeros_from.Statement.{statement}
 use Rattle.fields.proofs.zeros_from.Tie as tie

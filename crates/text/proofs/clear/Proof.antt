@@ -3,12 +3,13 @@ use Prim.Native.Nat.{_-_}
 use native.Mathlib.Omega.{arith}
 use borrow.Author.Needs.{needs}
 use Rattle.format.specs.Format.{listingBytes}
-use Rattle.text.proofs.Heads.{ClearedTo, cleared-end, cleared-next, cleared-start}
+use Rattle.lists.proofs.Clearing.{ClearedTo, cleared-next, cleared-start}
+use Rattle.text.proofs.Heads.{blank-cleared}
 use Rattle.text.proofs.clear.Statement.{statement}
 use Rattle.text.proofs.clear.Tie as tie
 
 abbrev Inv-loop : tie.InvT-loop
-Inv-loop listing₀ i₀ listing i = ClearedTo listing i
+Inv-loop listing₀ i₀ listing i = ClearedTo listingBytes listing i
 
 abbrev μ-loop : tie.MeasureT-loop
 μ-loop listing₀ i₀ listing i = listingBytes - i
@@ -26,10 +27,10 @@ loop-less : tie.Need-loop-less Inv-loop μ-loop
 loop-less c = search needs
 
 loop-again : tie.Need-loop-again Inv-loop μ-loop
-loop-again c = cleared-next _ _ (c .before .loop .inv) (omega arith)
+loop-again c = cleared-next (c .before .loop .inv) (omega arith)
 
 returns : tie.Need-returns Inv-loop μ-loop
-returns c = cleared-end _ _ (c .before .loop .inv) (omega arith)
+returns c = blank-cleared (c .before .loop .inv) (omega arith)
 
 pub clear-spec : {M : Type 1} → statement M
 clear-spec =

@@ -13,8 +13,8 @@ pub record ClearedTo (n : ℕ) (l : List ℕ) (i : ℕ) : Type 0 where
   pub within : i ≤ n
   pub zeros : take i l ≡ replicate i 0
 
-pub cleared-start : (l : List ℕ) → ClearedTo (length l) l 0
-cleared-start l = record { size = refl; within = omega arith; zeros = refl }
+pub cleared-start : {n : ℕ} (l : List ℕ) → length l ≡ n → ClearedTo n l 0
+cleared-start l e = record { size = e; within = omega arith; zeros = refl }
 
 pub cleared-next : {n : ℕ} {l : List ℕ} {i : ℕ} → ClearedTo n l i → i < n → ClearedTo n (set l i 0) (i + 1)
 cleared-next {n} {l} {i} x h = record {
