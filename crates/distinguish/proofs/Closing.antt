@@ -138,7 +138,7 @@ module _ (cl s : List ℕ) (n c : ℕ) (view : Viewed cl s n c) (rises : rising 
   step-small at k q =
       omega (arith, many, step-fits A fit (labelOf s at) (slotAt s at k .before ++ (q ∷ slotAt s at k .after)))
 
-  own-step : (i k : ℕ) → i < c → k < arityOf s (transitionBytes * i) →
+  pub own-step : (i k : ℕ) → i < c → k < arityOf s (transitionBytes * i) →
       stepSlot A (slotAt s (transitionBytes * i) k) (argOf s (transitionBytes * i) k) ≡ outOf s (transitionBytes * i)
   own-step i k h l =
       let e = args-around s (transitionBytes * i) k l in
@@ -198,17 +198,23 @@ module _ (cl s : List ℕ) (n c : ℕ) (view : Viewed cl s n c) (rises : rising 
   told-seed p q h l e = told-at p q (omega (arith, view .states)) ∙ by-rule p q h l (or-left _ _ e)
 
   -- a step that is taken is a transition with this argument at this place
-  Through : Slot → ℕ → Type 0
+  abbrev pub Through : Slot → ℕ → Type 0
   Through z p = (i : ℕ) × (i < c) × (k : ℕ) × (k < arityOf s (transitionBytes * i)) ×
       (slotAt s (transitionBytes * i) k ≡ z) × (argOf s (transitionBytes * i) k ≡ p) ×
       (outOf s (transitionBytes * i) ≡ stepSlot A z p)
+
+  pub taken-through : (z : Slot) (p : ℕ) → Taken A (z .label) (z .before ++ (p ∷ z .after)) → Through z p
+  taken-through z p (y, (τ, j, l, a, o)) =
+      let (i, h, e) = in-transitionsIn s c τ j in
+      let x = slot-is s (transitionBytes * i) p z (ap (λ (υ : Transition). υ .label) (sym e) ∙ l)
+      (ap (λ (υ : Transition). υ .args) (sym e) ∙ a) in
+      (i, h, length (z .before), x .0, x .1, x .2, ap (λ (υ : Transition). υ .out) (sym e) ∙ o)
 
   -- marks that are closed under the rules, have the seeds, and do not have the pair of 0 with itself
   module _ (m : ℕ → Bool) (tell : UpTo (nthTell s c n) c m) (seeds : (p q : ℕ) → p ≤ n → q ≤ n → Seed A p q m)
       (none : m (pairAt 0 0) ≡ true → ⊥) where
     through-there : (z : Slot) (p q : ℕ) → q ≤ n → Through z p → m (pairAt (stepSlot A z p) (stepSlot A z q)) ≡ true →
         m (pairAt p q) ≡ true
-    unfolding Through
     through-there z p q l (i, h, k, b, e, a, o) d =
         subst (λ (x : ℕ). m (pairAt x q) ≡ true) a
         (tell i h k b q (omega arith)
@@ -216,20 +222,11 @@ module _ (cl s : List ℕ) (n c : ℕ) (view : Viewed cl s n c) (rises : rising 
 
     through-back : (z : Slot) (p q : ℕ) → p ≤ n → Through z q → m (pairAt (stepSlot A z p) (stepSlot A z q)) ≡ true →
         m (pairAt p q) ≡ true
-    unfolding Through
     through-back z p q l (i, h, k, b, e, a, o) d =
         subst (λ (x : ℕ). m (pairAt p x) ≡ true) a
         (tell i h k b p (omega arith)
         (or-right (m (pairAt (outOf s (transitionBytes * i)) (stepAt s c (transitionBytes * i) k p))) _
         (subst₂ (λ (x : ℕ) (y : Slot). m (pairAt (stepSlot A y p) x) ≡ true) (sym o) (sym e) d)) .back)
-
-    taken-through : (z : Slot) (p : ℕ) → Taken A (z .label) (z .before ++ (p ∷ z .after)) → Through z p
-    unfolding Through
-    taken-through z p (y, (τ, j, l, a, o)) =
-        let (i, h, e) = in-transitionsIn s c τ j in
-        let x = slot-is s (transitionBytes * i) p z (ap (λ (υ : Transition). υ .label) (sym e) ∙ l)
-        (ap (λ (υ : Transition). υ .args) (sym e) ∙ a) in
-        (i, h, length (z .before), x .0, x .1, x .2, ap (λ (υ : Transition). υ .out) (sym e) ∙ o)
 
     slot-marked : (z : Slot) (p q : ℕ) → p ≤ n → q ≤ n → m (pairAt (stepSlot A z p) (stepSlot A z q)) ≡ true →
         m (pairAt p q) ≡ true

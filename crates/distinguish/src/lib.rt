@@ -18,10 +18,11 @@ ghost use Rattle.lists.specs.Positions.{upFrom};
 ghost use Rattle.lists.specs.Tests.{every};
 ghost use Rattle.table.specs.Layout.{transitionsIn};
 ghost use Rattle.distinguish.specs.Telling.{MarksOf, allToldApart, toldApart, unmarked};
-use marks::PAIRS;
+pub use marks::PAIRS;
 pub use marks::blank;
 use ordering::tell_in_order;
 use seeds::seed_all;
+pub use steps::stepped;
 use telling::sweep;
 
 // Marks the pairs of states that are told apart.

@@ -1,6 +1,7 @@
 -- What the loops that fill a table of fingerprints know: what is there and what is to come make the whole.
 use mathlib.Core.Bool.{Bool, cond, false, true}
 use mathlib.Core.List.{List, [], _++_, _∷_, map}
+use mathlib.Core.Logic.{inl, inr}
 use mathlib.Core.Path.{_∙_, _≡_, ap, ap₂, refl, subst, sym}
 use Prim.Native.Nat.{_%_, _*_, _+_, _-_, _/_, _<_, _^_, _≤_, suc, zero, ℕ}
 use native.Mathlib.Omega.{arith}
@@ -8,16 +9,21 @@ use lib.Dec.{eqb}
 use lib.ListN.{getD, length, length-replicate, length-set, replicate, set}
 use lib.Seq.{getD-set-other, getD-set-same}
 use borrow.Author.Tests.{eqb-false, eqb-true}
-use Rattle.automata.specs.Automaton.{Transition}
+use Rattle.automata.specs.Automaton.{Transition, accepting}
+use Rattle.automata.specs.Coaccessible.{coaccessible}
 use Rattle.automata.specs.Distinguishable.{Slot}
+use Rattle.fields.specs.Fields.{RunsOver}
 use Rattle.fields.specs.View.{viewed}
-use Rattle.fingerprints.specs.Fingerprints.{ClassPrints, Gained, Prints, Round, cubed, fingerprint, folded, gain}
+use Rattle.fingerprints.specs.Fingerprints.{ClassPrints, Gained, Prints, Round, UsefulMarks, cubed, fingerprint}
+use Rattle.fingerprints.specs.Fingerprints.{folded, gain, usefulGain}
 use Rattle.fingerprints.specs.Fingerprints.{gains, mixed, only, packed, places, prime, printCount, printOf}
 use Rattle.fingerprints.specs.Fingerprints.{salted, slotValue, total, valueAt}
 use Rattle.format.specs.Format.{transitionBytes}
 use Rattle.lists.specs.Positions.{upFrom}
-use Rattle.marking.specs.Marks.{bit}
+use Rattle.lists.specs.Tests.{_∈_}
+use Rattle.marking.specs.Marks.{bit, marked}
 use Rattle.table.specs.Layout.{argOf, arityOf, classAt, labelOf, nthTransition, outOf, transitionAt, transitionsIn}
+use Rattle.fields.proofs.Transitions.{in-transitionsIn}
 use Rattle.lists.proofs.Loops.{tabulated-suc, upFrom-next, upFrom-none}
 use Rattle.validity.proofs.Views.{viewed-class, viewed-states}
 
@@ -144,13 +150,13 @@ module _ (s : List ℕ) (at : ℕ) where
       go false = omega arith
 
   value-is : (x k : ℕ) {b c t v : ℕ} → b ≡ folded (argsTo k) 1 → c ≡ packed (argsFrom (k + 1)) →
-      t ≡ salted (labelOf s at) x → v ≡ cubed (mixed b c t) → v ≡ valueAt x (slotOf k)
+      t ≡ salted (labelOf s at) x → v ≡ 2 * cubed (mixed b c t) → v ≡ valueAt x (slotOf k)
   unfolding slotValue
   value-is x k e f g h = h ∙ rw (e, f, g)
 
   -- a is argument k, and b, c and t are what its slot's value v is made of
   pub gain-step : (x k : ℕ) {a b c t v : ℕ} → k < arityOf s at → a ≡ argOf s at k → b ≡ folded (argsTo k) 1 →
-      c ≡ packed (argsFrom (k + 1)) → t ≡ salted (labelOf s at) x → v ≡ cubed (mixed b c t) → (q : ℕ) →
+      c ≡ packed (argsFrom (k + 1)) → t ≡ salted (labelOf s at) x → v ≡ 2 * cubed (mixed b c t) → (q : ℕ) →
       gainFrom x k q ≡ only a v q + gainFrom x (k + 1) q
   gain-step x k h d e f g w q =
       gain-next x k q h
@@ -180,71 +186,107 @@ module _ (s : List ℕ) (at : ℕ) where
 
 -- ---- the transitions of a run
 
+pub gained-none : {g : ℕ → ℕ} (m : List ℕ) → Prints m → ((q : ℕ) → g q ≡ 0) → Gained g m m
+gained-none m p e = record { prints = p; each = λ q. let s = p .small q in let z = e q in omega arith }
+
+module _ (s : List ℕ) (u : ℕ → Bool) (h : ℕ → ℕ) (i : ℕ) {o : ℕ} (out : o ≡ outOf s (transitionBytes * i)) where
+  pub useless-gain : u o ≡ false → (q : ℕ) → usefulGain (nthTransition s i) u h q ≡ 0
+  useless-gain e q = rw (ap u (sym out) ∙ e)
+
+  pub useful-gain : u o ≡ true → {m m' : List ℕ} → Gained (gain (nthTransition s i) (h o)) m m' →
+      Gained (usefulGain (nthTransition s i) u h) m m'
+  useful-gain e {m} g = record {
+    prints = g .prints;
+    each = λ q. g .each q ∙ ap (λ (x : ℕ). (printOf m q + x) % 2 ^
+        64) (same q);
+  }
+    where
+      same : (q : ℕ) → gain (nthTransition s i) (h o) q ≡ usefulGain (nthTransition s i) u h q
+      same q = rw (ap u (sym out) ∙ e) (ap (λ (x : ℕ). gain (nthTransition s i) (h x) q) out)
+
 -- what q gains from transition i on
-abbrev pub gainsFrom : List ℕ → ℕ → (ℕ → ℕ) → ℕ → ℕ → ℕ
-gainsFrom s c h i q = gains (map (nthTransition s) (upFrom i (c - i))) h q
+abbrev pub gainsFrom : List ℕ → ℕ → (ℕ → Bool) → (ℕ → ℕ) → ℕ → ℕ → ℕ
+gainsFrom s c u h i q = gains (map (nthTransition s) (upFrom i (c - i))) u h q
 
-pub gains-start : (s : List ℕ) (c : ℕ) (h : ℕ → ℕ) (q : ℕ) → gainsFrom s c h 0 q ≡ gains (transitionsIn s c) h q
-unfolding transitionsIn
-gains-start s c h q =
-    let e : c - 0 ≡ c = omega arith in ap (λ (n : ℕ). gains (map (nthTransition s) (upFrom 0 n)) h q) e
+module _ (s : List ℕ) (c : ℕ) (u : ℕ → Bool) (h : ℕ → ℕ) where
+  pub gains-start : (q : ℕ) → gainsFrom s c u h 0 q ≡ gains (transitionsIn s c) u h q
+  unfolding transitionsIn
+  gains-start q =
+      let e : c - 0 ≡ c = omega arith in ap (λ (n : ℕ). gains (map (nthTransition s) (upFrom 0 n)) u h q) e
 
-pub gains-next : (s : List ℕ) (c : ℕ) (h : ℕ → ℕ) (i q : ℕ) → i < c → {x : ℕ} →
-    x ≡ h (outOf s (transitionBytes * i)) → gainsFrom s c h i q ≡ gain (nthTransition s i) x q + gainsFrom s c h (i
-    + 1) q
-gains-next s c h i q l e =
-    ap (λ (js : List ℕ). gains (map (nthTransition s) js) h q) (upFrom-next i c l)
-    ∙ ap (λ (x : ℕ). gain (nthTransition s i) x q + gainsFrom s c h (i + 1) q) (sym e)
+  pub gains-next : (i : ℕ) → i < c → (q : ℕ) →
+      gainsFrom s c u h i q ≡ usefulGain (nthTransition s i) u h q + gainsFrom s c u h (i + 1) q
+  gains-next i l q = ap (λ (js : List ℕ). gains (map (nthTransition s) js) u h q) (upFrom-next i c l)
 
-pub gains-end : (s : List ℕ) (c : ℕ) (h : ℕ → ℕ) (i q : ℕ) → c ≤ i → gainsFrom s c h i q ≡ 0
-gains-end s c h i q l = ap (λ (js : List ℕ). gains (map (nthTransition s) js) h q) (upFrom-none i c l)
+  pub gains-end : (i : ℕ) → c ≤ i → (q : ℕ) → gainsFrom s c u h i q ≡ 0
+  gains-end i l q = ap (λ (js : List ℕ). gains (map (nthTransition s) js) u h q) (upFrom-none i c l)
+
+-- tests that agree on the outputs
+gains-same : (u v : ℕ → Bool) (h : ℕ → ℕ) (q : ℕ) (τs : List Transition) →
+    ((τ : Transition) → τ ∈ τs → u (τ .out) ≡ v (τ .out)) → gains τs u h q ≡ gains τs v h q
+gains-same u v h q [] e = refl
+gains-same u v h q (τ ∷ τs) e =
+    ap₂ (λ (b : Bool) (g : ℕ). cond b (gain τ (h (τ .out)) q) 0 + g) (e τ (inl refl))
+    (gains-same u v h q τs (λ υ i. e υ (inr i)))
 
 -- ---- classes
 
 pub record ClassBelow (cl : List ℕ) (q : ℕ) (m : List ℕ) : Type 0 where
   pub prints : Prints m
-  pub each : (p : ℕ) → p < q → printOf m p ≡ bit (classAt cl p)
+  pub none : printOf m 0 ≡ 0
+  pub each : (p : ℕ) → 1 ≤ p → p < q → printOf m p ≡ bit (classAt cl p)
 
-pub class-start : (cl : List ℕ) → ClassBelow cl 0 (replicate printCount 0)
+pub class-start : (cl : List ℕ) → ClassBelow cl 1 (replicate printCount 0)
 class-start cl = record {
-  prints = record { size = length-replicate {A = ℕ} printCount 0; small = λ q. none printCount q };
-  each = λ p h. absurd (omega arith);
+  prints = record { size = length-replicate {A = ℕ} printCount 0; small = λ q. zeros printCount q };
+  none = refl;
+  each = λ p h l. absurd (omega arith);
 }
   where
-    none : (k q : ℕ) → getD (replicate k 0) q 0 < 2 ^ 64
-    none zero q = omega arith
-    none (suc k) zero = omega arith
-    none (suc k) (suc q) = none k q
+    zeros : (k q : ℕ) → getD (replicate k 0) q 0 < 2 ^ 64
+    zeros zero q = omega arith
+    zeros (suc k) zero = omega arith
+    zeros (suc k) (suc q) = zeros k q
 
 class-small : (b : Bool) → bit b < 2 ^ 64
 class-small true = omega arith
 class-small false = omega arith
 
-pub class-next : {cl : List ℕ} {q : ℕ} {m : List ℕ} {r : ℕ} → ClassBelow cl q m → q ≤ 255 → r ≡ bit (classAt cl q) →
-    ClassBelow cl (q + 1) (set m q r)
-class-next {cl} {q} {m} {r} c h e = record {
+pub class-next : {cl : List ℕ} {q : ℕ} {m : List ℕ} {r : ℕ} → ClassBelow cl q m → 1 ≤ q → q ≤ 255 →
+    r ≡ bit (classAt cl q) → ClassBelow cl (q + 1) (set m q r)
+class-next {cl} {q} {m} {r} c a h e = record {
   prints = set-small m q r (c .prints) h (subst (λ (x : ℕ). x < 2 ^ 64) (sym e) (class-small (classAt cl q)));
-  each = λ p l. go p l (eqb p q) refl;
+  none = getD-set-other m q 0 r 0 (λ z. omega arith) ∙ c .none;
+  each = λ p b l. go p b l (eqb p q) refl;
 }
   where
-    go : (p : ℕ) → p < q + 1 → (b : Bool) → eqb p q ≡ b → getD (set m q r) p 0 ≡ bit (classAt cl p)
-    go p l true d =
-        rw (eqb-true p q d) (getD-set-same m q r 0 (omega (arith, c .prints .size)) ∙ e)
-    go p l false d = let ne = eqb-false p q d in
-        getD-set-other m q p r 0 ne ∙ c .each p (omega arith)
+    go : (p : ℕ) → 1 ≤ p → p < q + 1 → (b : Bool) → eqb p q ≡ b → getD (set m q r) p 0 ≡ bit (classAt cl p)
+    go p b l true d = rw (eqb-true p q d) (getD-set-same m q r 0 (omega (arith, c .prints .size)) ∙ e)
+    go p b l false d = let ne = eqb-false p q d in
+        getD-set-other m q p r 0 ne ∙ c .each p b (omega arith)
 
 pub class-end : {cl : List ℕ} {q n : ℕ} {m : List ℕ} → ClassBelow cl q m → n < q → ClassPrints cl n m
-class-end c h = record { prints = c .prints; each = λ p a b. c .each p (omega arith) }
+class-end c h = record { prints = c .prints; none = c .none; each = λ p a b. c .each p a (omega arith) }
 
 -- ---- a round
 
-pub round-is : (cl s : List ℕ) (n c : ℕ) (h : ℕ → ℕ) {m m' : List ℕ} → ClassPrints cl n m →
-    Gained (gains (transitionsIn s c) h) m m' → Round (viewed cl s n c) h m'
+pub round-is : (cl s : List ℕ) (n c : ℕ) (u : List ℕ) (h : ℕ → ℕ) {m m' : List ℕ} → RunsOver s c n →
+    UsefulMarks (viewed cl s n c) u → ClassPrints cl n m → Gained (gains (transitionsIn s c) (marked u) h) m m' →
+    Round (viewed cl s n c) h m'
 unfolding fingerprint
-round-is cl s n c h {m} k g = record {
-  each = λ q a b.
-      let l : q ≤ n = omega (arith, viewed-states cl s n c) in
-      g .each q
-      ∙ ap (λ (x : ℕ). (x + gains (transitionsIn s c) h q) % 2 ^ 64)
-      (k .each q a l ∙ ap bit (sym (viewed-class cl s n c q a l)));
+round-is cl s n c u h {m} over useful k g = record {
+  each = λ q b. g .each q ∙ ap₂ (λ (x y : ℕ). (x + y) % 2 ^ 64) (class q (omega (arith, viewed-states cl s n c)))
+      (gains-same (marked u) (coaccessible (viewed cl s n c)) h q (transitionsIn s c) (λ τ i. agree τ
+      (in-transitionsIn s c τ i)));
 }
+  where
+    class : (q : ℕ) → q ≤ n → printOf m q ≡ bit (accepting (viewed cl s n c) q)
+    class zero l = k .none
+    class (suc q) l = k .each (suc q) (omega arith) l ∙ ap bit (sym (viewed-class cl s n c (suc q) (omega arith) l))
+
+    agree : (τ : Transition) → (i : ℕ) × (i < c) × (τ ≡ nthTransition s i) →
+        marked u (τ .out) ≡ coaccessible (viewed cl s n c) (τ .out)
+    agree τ (i, l, e) =
+        let o : τ .out ≡ outOf s (transitionBytes * i) = ap (λ (υ : Transition). υ .out) e in
+        useful .each (τ .out) (omega (arith, o, over .out-some i l))
+        (omega (arith, o, over .out-state i l, viewed-states cl s n c))

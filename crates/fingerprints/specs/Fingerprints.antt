@@ -1,6 +1,6 @@
 -- Fingerprints of states: numbers that equivalent states have in common. A state's fingerprint is a sum over its uses,
--- the slots in which transitions have it, of a number that depends on the slot and on the fingerprint that the output
--- had a round before. Nothing is claimed of how well the numbers spread: where two states share a fingerprint,
+-- the slots in which transitions to coaccessible states have it, of a number that depends on the slot and on the
+-- fingerprint that the output had a round before. Nothing is claimed of how well the numbers spread: where two states share a fingerprint,
 -- nothing follows.
 use mathlib.Core.Bool.{Bool, cond, not, true}
 use mathlib.Core.List.{List, [], _++_, _∷_}
@@ -9,10 +9,11 @@ use Prim.Native.Nat.{_%_, _*_, _+_, _-_, _/_, _<_, _^_, _≤_, ℕ}
 use lib.Dec.{eqb}
 use lib.ListN.{getD, length}
 use Rattle.automata.specs.Automaton.{Automaton, Transition, accepting, states}
+use Rattle.automata.specs.Coaccessible.{coaccessible}
 use Rattle.automata.specs.Distinguishable.{Slot, distinguishable}
 use Rattle.lists.specs.Positions.{upFrom}
 use Rattle.lists.specs.Tests.{every}
-use Rattle.marking.specs.Marks.{bit}
+use Rattle.marking.specs.Marks.{bit, marked}
 use Rattle.table.specs.Layout.{classAt}
 
 -- ---- the numbers
@@ -43,9 +44,10 @@ mixed b c s = (b * 1103515245 + c % 4294967296 * 1013904223 + c / 4294967296 * 8
 unfoldable pub cubed : ℕ → ℕ
 cubed t = t * t % prime * t % prime
 
--- what a slot adds to the fingerprint of a state that stands in it, where its output's fingerprint is x
+-- what a slot adds to the fingerprint of a state that stands in it, where its output's fingerprint is x; even, so that
+-- the class is the fingerprint's last bit
 unfoldable pub slotValue : Slot → ℕ → ℕ
-slotValue z x = cubed (mixed (folded (z .before) 1) (packed (z .after)) (salted (z .label) x))
+slotValue z x = 2 * cubed (mixed (folded (z .before) 1) (packed (z .after)) (salted (z .label) x))
 
 abbrev pub valueAt : ℕ → Slot → ℕ
 valueAt x z = slotValue z x
@@ -67,14 +69,18 @@ total (z ∷ zs) f = f z + total zs f
 abbrev pub gain : Transition → ℕ → ℕ → ℕ
 gain τ x q = total (places (τ .args) [] (τ .label) q) (valueAt x)
 
--- and in all of a list, h the fingerprints a round before
-abbrev pub gains : List Transition → (ℕ → ℕ) → ℕ → ℕ
-gains [] h q = 0
-gains (τ ∷ τs) h q = gain τ (h (τ .out)) q + gains τs h q
+-- where the output is useful, h the fingerprints a round before
+abbrev pub usefulGain : Transition → (ℕ → Bool) → (ℕ → ℕ) → ℕ → ℕ
+usefulGain τ u h q = cond (u (τ .out)) (gain τ (h (τ .out)) q) 0
+
+-- and in all of a list
+abbrev pub gains : List Transition → (ℕ → Bool) → (ℕ → ℕ) → ℕ → ℕ
+gains [] u h q = 0
+gains (τ ∷ τs) u h q = usefulGain τ u h q + gains τs u h q
 
 -- the fingerprint of a state: its class and what it gains
 unfoldable pub fingerprint : Automaton → (ℕ → ℕ) → ℕ → ℕ
-fingerprint A h q = (bit (accepting A q) + gains (A .transitions) h q) % 2 ^ 64
+fingerprint A h q = (bit (accepting A q) + gains (A .transitions) (coaccessible A) h q) % 2 ^ 64
 
 -- ---- tables of fingerprints
 
@@ -98,19 +104,23 @@ pub record Gained (g : ℕ → ℕ) (m m' : List ℕ) : Type 0 where
 abbrev pub only : ℕ → ℕ → ℕ → ℕ
 only q v p = cond (eqb q p) v 0
 
--- the classes of the states 1 to n
+-- the classes of the states 1 to n; 0 is not accepting
 pub record ClassPrints (cl : List ℕ) (n : ℕ) (m : List ℕ) : Type 0 where
   pub prints : Prints m
+  pub none : printOf m 0 ≡ 0
   pub each : (q : ℕ) → 1 ≤ q → q ≤ n → printOf m q ≡ bit (classAt cl q)
 
--- m has the fingerprints of the states of A, h those a round before
-pub record Round (A : Automaton) (h : ℕ → ℕ) (m : List ℕ) : Type 0 where
-  pub each : (q : ℕ) → 1 ≤ q → q ≤ states A → printOf m q ≡ fingerprint A h q
+-- the marks of states are the coaccessible ones
+pub record UsefulMarks (A : Automaton) (u : List ℕ) : Type 0 where
+  pub each : (q : ℕ) → 1 ≤ q → q ≤ states A → marked u q ≡ coaccessible A q
 
--- states that nothing tells apart have one fingerprint
+-- m has the fingerprints of the states of A and of 0, h those a round before
+pub record Round (A : Automaton) (h : ℕ → ℕ) (m : List ℕ) : Type 0 where
+  pub each : (q : ℕ) → q ≤ states A → printOf m q ≡ fingerprint A h q
+
+-- states that nothing tells apart have one fingerprint, 0 among them
 pub record Sound (A : Automaton) (h : ℕ → ℕ) : Type 0 where
-  pub equal : (p q : ℕ) → 1 ≤ p → p ≤ states A → 1 ≤ q → q ≤ states A →
-      (distinguishable A p q ≡ true → ⊥) → h p ≡ h q
+  pub equal : (p q : ℕ) → p ≤ states A → q ≤ states A → (distinguishable A p q ≡ true → ⊥) → h p ≡ h q
 
 -- ---- different fingerprints
 

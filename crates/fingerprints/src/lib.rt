@@ -14,8 +14,8 @@ ghost use Rattle.fields.specs.View.{Viewed, viewed};
 ghost use Rattle.table.specs.Layout.{transitionsIn};
 use differing::all_differ;
 use distinguish::all_distinguishable;
-use rounds::PRINT_COUNT;
-use rounds::round;
+pub use rounds::PRINT_COUNT;
+pub use rounds::round;
 
 // Rounds times transitions, about: a table of 200 states in a chain needs 200 rounds.
 const WORK: usize = 65536;
@@ -28,11 +28,12 @@ fn differ_in_time(classes: &[u8], run: &[u8], count: usize, n: usize) -> bool
     ensures { λ r. ⌜ (r ≡ true → allDistinguishable (viewed (now (classes .entry)) (now (run .entry)) n count) ≡
         true) ⌝ }
 {
+    let useful = [1u8; PRINT_COUNT];
     let mut prints = [0usize; PRINT_COUNT];
     let mut turns = WORK / (count + 1);
     while turns > 0 {
         turns -= 1;
-        prints = round(classes, run, count, n, &prints);
+        prints = round(classes, run, count, n, &useful, &prints);
         if all_differ(&prints, n) {
             return true;
         }
@@ -40,7 +41,7 @@ fn differ_in_time(classes: &[u8], run: &[u8], count: usize, n: usize) -> bool
     false
 }
 
-// Condition 12, where condition 10 holds: no two different states are equivalent.
+// Condition 12, where condition 10 holds, so that every state is useful: no two different states are equivalent.
 pub fn all_distinguishable_useful(classes: &[u8], run: &[u8], count: usize, n: usize) -> bool
     requires { ⌜ Viewed (now classes) (now run) n count ⌝ }
     requires { ⌜ rising (transitionsIn (now run) count) ≡ true ⌝ }

@@ -5,10 +5,10 @@ ghost use Prim.Native.Nat.{_*_, _<_, _≤_};
 ghost use lib.ListN.{length};
 ghost use Rattle.fields.specs.Fields.{RunsOver};
 ghost use Rattle.fields.specs.View.{Viewed, viewed};
-ghost use Rattle.marking.specs.Marks.{bit};
+ghost use Rattle.marking.specs.Marks.{bit, marked};
 ghost use Rattle.table.specs.Layout.{classAt, nthTransition, transitionsIn};
-ghost use Rattle.fingerprints.specs.Fingerprints.{ClassPrints, Gained, Prints, Round, gain, gains, only};
-ghost use Rattle.fingerprints.specs.Fingerprints.{printOf};
+ghost use Rattle.fingerprints.specs.Fingerprints.{ClassPrints, Gained, Prints, Round, UsefulMarks, gain};
+ghost use Rattle.fingerprints.specs.Fingerprints.{gains, only, printOf, usefulGain};
 use crate::values::fold;
 use crate::values::packed_args;
 use crate::values::salt;
@@ -59,23 +59,47 @@ fn add_uses(
     }
 }
 
+// The uses in transition i, where its output is useful.
+fn add_useful(
+    run: &[u8],
+    count: usize,
+    n: usize,
+    i: usize,
+    useful: &[u8; PRINT_COUNT],
+    seen: &[usize; PRINT_COUNT],
+    prints: &mut [usize; PRINT_COUNT],
+)
+    requires { ⌜ RunsOver (now run) count n ⌝ }
+    requires { ⌜ n ≤ 255 ⌝ }
+    requires { ⌜ i < count ⌝ }
+    requires { ⌜ Prints (now prints) ⌝ }
+    ensures { λ _. ⌜ Gained (usefulGain (nthTransition (now (run .entry)) i) (marked (now (useful .entry)))
+        (printOf (now (seen .entry)))) (now (prints .entry)) (now (prints .exit)) ⌝ }
+{
+    let out = wide(run[TRANSITION_BYTES * i + OUT_AT]);
+    if useful[out] == 0 {
+        return;
+    }
+    add_uses(run, count, n, i, seen[out], prints);
+}
+
 fn add_all_uses(
     run: &[u8],
     count: usize,
     n: usize,
+    useful: &[u8; PRINT_COUNT],
     seen: &[usize; PRINT_COUNT],
     prints: &mut [usize; PRINT_COUNT],
 )
     requires { ⌜ RunsOver (now run) count n ⌝ }
     requires { ⌜ n ≤ 255 ⌝ }
     requires { ⌜ Prints (now prints) ⌝ }
-    ensures { λ _. ⌜ Gained (gains (transitionsIn (now (run .entry)) count) (printOf (now (seen .entry)))) (now
-        (prints .entry)) (now (prints .exit)) ⌝ }
+    ensures { λ _. ⌜ Gained (gains (transitionsIn (now (run .entry)) count) (marked (now (useful .entry)))
+        (printOf (now (seen .entry)))) (now (prints .entry)) (now (prints .exit)) ⌝ }
 {
     let mut i = 0;
     while i < count {
-        let out = wide(run[TRANSITION_BYTES * i + OUT_AT]);
-        add_uses(run, count, n, i, seen[out], prints);
+        add_useful(run, count, n, i, useful, seen, prints);
         i += 1;
     }
 }
@@ -96,7 +120,7 @@ fn class_prints(classes: &[u8], n: usize) -> [usize; PRINT_COUNT]
     ensures { λ r. ⌜ ClassPrints (now (classes .entry)) n r ⌝ }
 {
     let mut prints = [0usize; PRINT_COUNT];
-    let mut q = 0;
+    let mut q = 1;
     while q < n + 1 {
         prints[q] = class_print(classes, q);
         q += 1;
@@ -104,18 +128,21 @@ fn class_prints(classes: &[u8], n: usize) -> [usize; PRINT_COUNT]
     prints
 }
 
+// `useful` has a mark for each coaccessible state.
 pub fn round(
     classes: &[u8],
     run: &[u8],
     count: usize,
     n: usize,
+    useful: &[u8; PRINT_COUNT],
     seen: &[usize; PRINT_COUNT],
 ) -> [usize; PRINT_COUNT]
     requires { ⌜ Viewed (now classes) (now run) n count ⌝ }
+    requires { ⌜ UsefulMarks (viewed (now classes) (now run) n count) (now useful) ⌝ }
     ensures { λ r. ⌜ Round (viewed (now (classes .entry)) (now (run .entry)) n count) (printOf (now (seen .entry)))
         r ⌝ }
 {
     let mut prints = class_prints(classes, n);
-    add_all_uses(run, count, n, seen, &mut prints);
+    add_all_uses(run, count, n, useful, seen, &mut prints);
     prints
 }

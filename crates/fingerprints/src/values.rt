@@ -55,8 +55,8 @@ fn mix(b: usize, c: usize, s: usize) -> usize
 pub fn value(b: usize, c: usize, s: usize) -> usize
     requires { ⌜ b < prime ⌝ }
     requires { ⌜ s < prime ⌝ }
-    ensures { λ r. ⌜ r ≡ cubed (mixed b c s) ⌝ }
+    ensures { λ r. ⌜ r ≡ 2 * cubed (mixed b c s) ⌝ }
 {
     let t = mix(b, c, s);
-    t * t % PRIME * t % PRIME
+    2 * (t * t % PRIME * t % PRIME)
 }

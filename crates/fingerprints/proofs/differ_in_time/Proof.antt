@@ -1,18 +1,20 @@
+use native.Mathlib.Omega.{arith}
 use mathlib.Core.Path.{_∙_, ap, sym}
 use mathlib.Core.Bool.{true, false, false≢true}
 use Rattle.fields.specs.View.{viewed}
 use Rattle.fingerprints.specs.Fingerprints.{Sound, printOf, allDiffer}
-use Rattle.fingerprints.proofs.Equivalent.{all-differ-told, round-sound, sound-start}
+use Rattle.fingerprints.proofs.Equivalent.{all-differ-told, all-useful, round-sound, sound-start}
 use Rattle.validity.proofs.Views.{viewed-ranged, viewed-states}
 use borrow.Author.Needs.{needs}
 use Rattle.fingerprints.proofs.differ_in_time.Statement.{statement}
 use Rattle.fingerprints.proofs.differ_in_time.Tie as tie
 
 abbrev Inv-loop : tie.InvT-loop
-Inv-loop classes run count n prints₀ turns₀ prints turns = Sound (viewed classes run n count) (printOf prints)
+Inv-loop classes run count n useful prints₀ turns₀ prints turns =
+    Sound (viewed classes run n count) (printOf prints)
 
 abbrev μ-loop : tie.MeasureT-loop
-μ-loop classes run count n prints₀ turns₀ prints turns = turns
+μ-loop classes run count n useful prints₀ turns₀ prints turns = turns
 
 add-turns : tie.Need-add-turns Inv-loop μ-loop
 add-turns c = search needs
@@ -22,57 +24,54 @@ div-turns c = search needs
 
 loop-holds : tie.Need-loop-holds Inv-loop μ-loop
 loop-holds c =
-    sound-start ((viewed (c .before .before .args .classes .now) (c .before .before .args .run .now) (c .before
-    .before .args .n) (c .before .before .args .count))) 256
+    let start = c .before .before in
+    sound-start ((viewed (start .args .classes .now) (start .args .run .now) (start .args .n) (start .args
+    .count))) 256
 
 sub-turns : tie.Need-sub-turns Inv-loop μ-loop
 sub-turns c = search needs
 
 round-requires : tie.Need-round-requires Inv-loop μ-loop
-round-requires c κs = search needs
+round-requires c κs =
+    let start = c .before .before .before .before .before .before in (
+      start .pre .0,
+      all-useful ((viewed (start .args .classes .now) (start .args .run .now) (start .args .n)
+          (start .args .count))) (omega (
+            arith,
+            start .pre .0 .states,
+            viewed-states (start .args .classes .now)
+                (start .args .run .now) (start .args .n) (start .args .count),
+          )) (start .pre .1 .1),
+    )
 
 all-differ-requires : tie.Need-all-differ-requires Inv-loop μ-loop
 all-differ-requires c κs = search needs
 
 returns : tie.Need-returns Inv-loop μ-loop
 returns c =
-    λ e. all-differ-told ((viewed (c .before .before .before .before .before .before .before .before .before .args
-    .classes .now) (c .before .before .before .before .before .before .before .before .before .args .run .now) (c
-    .before .before .before .before .before .before .before .before .before .args .n) (c .before .before .before
-    .before .before .before .before .before .before .args .count))) (c .before .before .before .round .result)
-    ((round-sound (viewed (c .before .before .before .before .before .before .before .before .before .args .classes
-    .now) (c .before .before .before .before .before .before .before .before .before .args .run .now) (c .before
-    .before .before .before .before .before .before .before .before .args .n) (c .before .before .before .before
-    .before .before .before .before .before .args .count)) (viewed-ranged (c .before .before .before .before .before
-    .before .before .before .before .args .classes .now) (c .before .before .before .before .before .before .before
-    .before .before .args .run .now) (c .before .before .before .before .before .before .before .before .before
-    .args .n) (c .before .before .before .before .before .before .before .before .before .args .count) (c .before
-    .before .before .before .before .before .before .before .before .pre .0 .over)) (c .before .before .before
-    .before .before .before .before .before .before .pre .1 .0) (c .before .before .before .before .before .before
-    .before .before .before .pre .1 .1) (printOf (c .before .before .before .before .before .before .loop .prints))
-    (c .before .before .before .before .before .before .loop .inv) (c .before .before .before .round .ensures))) (ap
-    (allDiffer (c .before .before .before .round .result)) (viewed-states (c .before .before .before .before .before
-    .before .before .before .before .args .classes .now) (c .before .before .before .before .before .before .before
-    .before .before .args .run .now) (c .before .before .before .before .before .before .before .before .before
-    .args .n) (c .before .before .before .before .before .before .before .before .before .args .count)) ∙ sym (c
-    .before .all-differ .ensures) ∙ c .if1 .taken)
+    let at-round = c .before .before .before in
+    let at-loop = at-round .before .before .before .before in
+    let start = at-loop .before .before .before in
+    λ e. all-differ-told ((viewed (start .args .classes .now) (start .args .run .now) (start .args .n) (start
+    .args .count))) (at-round .round .result) ((round-sound (viewed (start .args .classes .now) (start .args
+    .run .now) (start .args .n) (start .args .count)) (viewed-ranged (start .args .classes .now) (start .args
+    .run .now) (start .args .n) (start .args .count) (start .pre .0 .over)) (start .pre .1 .0) (printOf (at-loop
+    .loop .prints)) (at-loop .loop .inv) (at-round .round .ensures))) (ap (allDiffer (at-round .round .result))
+    (viewed-states (start .args .classes .now) (start .args .run .now) (start .args .n) (start .args .count)) ∙
+    sym (c .before .all-differ .ensures) ∙ c .if1 .taken)
 
 loop-less : tie.Need-loop-less Inv-loop μ-loop
 loop-less c = search needs
 
 loop-again : tie.Need-loop-again Inv-loop μ-loop
 loop-again c =
-    ((round-sound (viewed (c .before .before .before .before .before .before .before .before .before .args .classes
-    .now) (c .before .before .before .before .before .before .before .before .before .args .run .now) (c .before
-    .before .before .before .before .before .before .before .before .args .n) (c .before .before .before .before
-    .before .before .before .before .before .args .count)) (viewed-ranged (c .before .before .before .before .before
-    .before .before .before .before .args .classes .now) (c .before .before .before .before .before .before .before
-    .before .before .args .run .now) (c .before .before .before .before .before .before .before .before .before
-    .args .n) (c .before .before .before .before .before .before .before .before .before .args .count) (c .before
-    .before .before .before .before .before .before .before .before .pre .0 .over)) (c .before .before .before
-    .before .before .before .before .before .before .pre .1 .0) (c .before .before .before .before .before .before
-    .before .before .before .pre .1 .1) (printOf (c .before .before .before .before .before .before .loop .prints))
-    (c .before .before .before .before .before .before .loop .inv) (c .before .before .before .round .ensures)))
+    let at-round = c .before .before .before in
+    let at-loop = at-round .before .before .before .before in
+    let start = at-loop .before .before .before in
+    ((round-sound (viewed (start .args .classes .now) (start .args .run .now) (start .args .n) (start .args
+    .count)) (viewed-ranged (start .args .classes .now) (start .args .run .now) (start .args .n) (start .args
+    .count) (start .pre .0 .over)) (start .pre .1 .0) (printOf (at-loop .loop .prints)) (at-loop .loop .inv)
+    (at-round .round .ensures)))
 
 returns-2 : tie.Need-returns-2 Inv-loop μ-loop
 returns-2 c = λ e. absurd (false≢true e)

@@ -29,8 +29,9 @@ differs-above-requires c κs = search needs
 returns : tie.Need-returns Inv-loop μ-loop
 unfolding allDiffer
 returns c =
-    every-broken (c .before .before .before .loop .inv) (omega arith) (sym (c .before .differs-above .ensures) ∙
-    not-true _ (c .if1 .taken))
+    let at-loop = c .before .before .before in
+    every-broken (at-loop .loop .inv) (omega arith) (sym (c .before .differs-above .ensures) ∙ not-true _ (c
+    .if1 .taken))
 
 add-p : tie.Need-add-p Inv-loop μ-loop
 add-p c = search needs
@@ -40,8 +41,9 @@ loop-less c = search needs
 
 loop-again : tie.Need-loop-again Inv-loop μ-loop
 loop-again c =
-    every-next (c .before .before .before .loop .inv) (omega arith) (sym (c .before .differs-above .ensures) ∙
-    not-false _ (c .if1 .left))
+    let at-loop = c .before .before .before in
+    every-next (at-loop .loop .inv) (omega arith) (sym (c .before .differs-above .ensures) ∙ not-false _ (c .if1
+    .left))
 
 returns-2 : tie.Need-returns-2 Inv-loop μ-loop
 unfolding allDiffer

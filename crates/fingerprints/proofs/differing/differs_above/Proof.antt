@@ -49,11 +49,9 @@ loop-less : tie.Need-loop-less Inv-loop μ-loop
 loop-less c = search needs
 
 loop-again : tie.Need-loop-again Inv-loop μ-loop
-loop-again c = (
-  refl,
-  every-next (c .before .before .before .loop .inv .1) (omega arith) (ap not (ne-eqb _ _ (λ e. (c .if1)
-      .left (sym e)))),
-)
+loop-again c =
+    let at-loop = c .before .before .before in
+    (refl, every-next (at-loop .loop .inv .1) (omega arith) (ap not (ne-eqb _ _ (λ e. (c .if1) .left (sym e)))))
 
 returns-2 : tie.Need-returns-2 Inv-loop μ-loop
 returns-2 c = every-end (c .before .loop .inv .1) (omega arith)

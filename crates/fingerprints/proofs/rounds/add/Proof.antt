@@ -20,8 +20,9 @@ element-write-prints c = search needs
 
 returns : tie.Need-returns
 returns c =
-    gained-only (c .before .before .args .prints .now) (c .before .before .args .q) (c .before .before .args .v) (c
-    .before .before .pre .0) (c .before .before .pre .1) (c .wrapping-add-usize .ensures)
+    let start = c .before .before in
+    gained-only (start .args .prints .now) (start .args .q) (start .args .v) (start .pre .0) (start .pre .1) (c
+    .wrapping-add-usize .ensures)
 
 pub add-spec : {M : Type 1} → statement M
 add-spec =

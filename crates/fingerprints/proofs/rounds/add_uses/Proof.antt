@@ -45,39 +45,33 @@ wide-requires-2 c κs = search needs
 
 salt-requires : tie.Need-salt-requires Inv-loop μ-loop
 salt-requires c κs =
-    omega (
-      arith,
-      c .wide2 .ensures,
-      c .before .shared-slice-known3 .given ((11 * (c .before .before .before .before
-          .before .args) .i)),
-    )
+    let start = c .before .before .before .before .before in
+    omega (arith, c .wide2 .ensures, c .before .shared-slice-known3 .given ((11 * (start .args) .i)))
 
 mul-packed-args : tie.Need-mul-packed-args Inv-loop μ-loop
 mul-packed-args c = search needs
 
 packed-args-requires : tie.Need-packed-args-requires Inv-loop μ-loop
 packed-args-requires c κs =
-    ((readable (c .before .before .before .before .before .before .pre .0 .runs) (c .before .before .before .before
-    .before .before .args .i) (c .before .before .before .before .before .before .pre .1 .1 .0)))
+    let start = c .before .before .before .before .before .before in
+    ((readable (start .pre .0 .runs) (start .args .i) (start .pre .1 .1 .0)))
 
 loop-holds : tie.Need-loop-holds Inv-loop μ-loop
 loop-holds c =
-    let e : ((11 * (c .before .before .before .before .before .before .before .args) .i)) + 2 - 1 ≡ ((11 * (c
-    .before .before .before .before .before .before .before .args) .i)) + 1 = omega arith in (
+    let at-wide2 = c .before .before in
+    let at-wide = at-wide2 .before .before in
+    let start = at-wide .before .before .before in
+    let e : ((11 * (start .args) .i)) + 2 - 1 ≡ ((11 * (start .args) .i)) + 1 = omega arith in (
       omega arith,
-      c .before .before .before .before .wide .ensures ∙ ap (λ (j : ℕ). getD (c .before .before .before
-          .before .before .before .before .args .run .now) j 0) e,
-      c .before .salt .ensures .0 ∙ ap (λ (l : ℕ). salted l
-          (c .before .before .before .before .before .before .before .args .x)) (c .before .before .wide2 .ensures),
-      omega
-          arith,
+      at-wide .wide .ensures ∙ ap (λ (j : ℕ). getD (start .args .run .now) j 0) e,
+      c .before .salt
+          .ensures .0 ∙ ap (λ (l : ℕ). salted l (start .args .x)) (at-wide2 .wide2 .ensures),
+      omega arith,
       refl,
-      c .packed-args .ensures ∙ sym (packed-whole (c .before .before .before .before .before .before
-          .before .args .run .now) ((11 * (c .before .before .before .before .before .before .before .args) .i)) 0 refl),
-      filling-start (c .before .before .before .before .before .before .before .pre .1 .1 .1) (λ q. gain-start (c
-          .before .before .before .before .before .before .before .args .run .now) ((11 * (c .before .before .before
-          .before .before .before .before .args) .i)) (c .before .before .before .before .before .before .before .args .x)
-          q),
+      c
+          .packed-args .ensures ∙ sym (packed-whole (start .args .run .now) ((11 * (start .args) .i)) 0 refl),
+      filling-start (start .pre .1 .1 .1) (λ q. gain-start (start .args .run .now) ((11 * (start .args) .i))
+          (start .args .x) q),
     )
 
 mul-wide-3 : tie.Need-mul-wide-3 Inv-loop μ-loop
@@ -88,29 +82,16 @@ add-wide-2 c = search needs
 
 add-wide-3 : tie.Need-add-wide-3 Inv-loop μ-loop
 add-wide-3 c =
-    let r = ((readable (c .before .before .before .before .before .before .before .before .before .pre .0 .runs) (c
-    .before .before .before .before .before .before .before .before .before .args .i) (c .before .before .before
-    .before .before .before .before .before .before .pre .1 .1 .0))) in omega (
-      arith,
-      r .narrow,
-      c .before .loop
-          .inv .1,
-      c .before .before .before .before .before .before .before .before .before .pre .0 .runs .few,
-      c .before
-          .before .before .before .before .before .before .before .before .pre .1 .1 .0,
-    )
+    let start = c .before .before .before .before .before .before .before .before .before in
+    let r = ((readable (start .pre .0 .runs) (start .args .i) (start .pre .1 .1 .0))) in
+    omega (arith, r .narrow, c .before .loop .inv .1, start .pre .0 .runs .few, start .pre .1 .1 .0)
 
 shared-slice-read-wide-3 : tie.Need-shared-slice-read-wide-3 Inv-loop μ-loop
 shared-slice-read-wide-3 c =
-    let r = ((readable (c .before .before .before .before .before .before .before .before .before .before .pre .0
-    .runs) (c .before .before .before .before .before .before .before .before .before .before .args .i) (c .before
-    .before .before .before .before .before .before .before .before .before .pre .1 .1 .0))) in omega (
-      arith,
-      r
-          .narrow,
-      r .inside,
-      c .before .before .loop .inv .1,
-    )
+    let at-loop = c .before .before in
+    let start = at-loop .before .before .before .before .before .before .before .before in
+    let r = ((readable (start .pre .0 .runs) (start .args .i) (start .pre .1 .1 .0))) in
+    omega (arith, r .narrow, r .inside, at-loop .loop .inv .1)
 
 wide-requires-3 : tie.Need-wide-requires-3 Inv-loop μ-loop
 wide-requires-3 c κs = search needs
@@ -119,30 +100,34 @@ value-requires : tie.Need-value-requires Inv-loop μ-loop
 value-requires c κs = search needs
 
 add-requires : tie.Need-add-requires Inv-loop μ-loop
-add-requires c κs = (
-  c .before .before .before .before .before .loop .inv .6 .prints,
-  omega (
-    arith,
-    c .before .before .wide3
-        .ensures,
-    c .before .before .before .shared-slice-known4 .given (((11 * (c .before .before .before .before
-        .before .before .before .before .before .before .before .before .before .args) .i)) + 2 + (c .before .before
-        .before .before .before .loop .k)),
-  ),
-)
+add-requires c κs =
+    let at-wide3 = c .before .before in
+    let at-shared-slice-known4 = at-wide3 .before in
+    let at-loop = at-shared-slice-known4 .before .before in
+    let start = at-loop .before .before .before .before .before .before .before .before in (
+      at-loop .loop .inv .6 .prints,
+      omega (
+        arith,
+        at-wide3 .wide3 .ensures,
+        at-shared-slice-known4
+            .shared-slice-known4 .given (((11 * (start .args) .i)) + 2 + (at-loop .loop .k)),
+      ),
+    )
 
 fold-requires : tie.Need-fold-requires Inv-loop μ-loop
-fold-requires c κs = (
-  c .before .before .before .before .before .before .loop .inv .3,
-  omega (
-    arith,
-    c .before .before .before .wide3
-        .ensures,
-    c .before .before .before .before .shared-slice-known4 .given (((11 * (c .before .before .before
-        .before .before .before .before .before .before .before .before .before .before .before .args) .i)) + 2 + (c
-        .before .before .before .before .before .before .loop .k)),
-  ),
-)
+fold-requires c κs =
+    let at-wide3 = c .before .before .before in
+    let at-shared-slice-known4 = at-wide3 .before in
+    let at-loop = at-shared-slice-known4 .before .before in
+    let start = at-loop .before .before .before .before .before .before .before .before in (
+      at-loop .loop .inv .3,
+      omega (
+        arith,
+        at-wide3 .wide3 .ensures,
+        at-shared-slice-known4 .shared-slice-known4
+            .given (((11 * (start .args) .i)) + 2 + (at-loop .loop .k)),
+      ),
+    )
 
 add-k : tie.Need-add-k Inv-loop μ-loop
 add-k c = search needs
@@ -152,53 +137,39 @@ loop-less c = search needs
 
 loop-again : tie.Need-loop-again Inv-loop μ-loop
 loop-again c =
-    let h : (c .before .before .before .before .before .before .before .loop .k) < arityOf (c .before .before
-    .before .before .before .before .before .before .before .before .before .before .before .before .before .args
-    .run .now) ((11 * (c .before .before .before .before .before .before .before .before .before .before .before
-    .before .before .before .before .args) .i)) = omega (
+    let at-value = c .before .before in
+    let at-wide3 = at-value .before .before in
+    let at-shared-slice-known4 = at-wide3 .before in
+    let at-loop = at-shared-slice-known4 .before .before in
+    let start = at-loop .before .before .before .before .before .before .before .before in
+    let h : (at-loop .loop .k) < arityOf (start .args .run .now) ((11 * (start .args) .i)) = omega (
       arith,
-      c .before .before .before .before .before .before
-          .before .loop .inv .1,
+      at-loop .loop .inv .1,
     ) in
-    let f = ap (λ (y : ℕ). y / 256) (c .before .before .before .before .before .before .before .loop .inv .5) ∙
-    packed-next (c .before .before .before .before .before .before .before .before .before .before .before .before
-    .before .before .before .args .run .now) ((11 * (c .before .before .before .before .before .before .before
-    .before .before .before .before .before .before .before .before .args) .i)) (c .before .before .before .before
-    .before .before .before .loop .k) h (omega (
+    let f = ap (λ (y : ℕ). y / 256) (at-loop .loop .inv .5) ∙ packed-next (start .args .run .now) ((11 *
+    (start .args) .i)) (at-loop .loop .k) h (omega (
       arith,
-      c .before .before .before .before .before
-          .shared-slice-known4 .given (((11 * (c .before .before .before .before .before .before .before .before .before
-          .before .before .before .before .before .before .args) .i)) + 2 + (c .before .before .before .before .before
-          .before .before .loop .k)),
+      at-shared-slice-known4 .shared-slice-known4 .given
+          (((11 * (start .args) .i)) + 2 + (at-loop .loop .k)),
     )) in (
       omega arith,
-      c .before .before .before .before .before .before .before .loop .inv .1,
-      c .before .before .before
-          .before .before .before .before .loop .inv .2,
+      at-loop .loop .inv .1,
+      at-loop .loop .inv .2,
       c .fold .ensures .1,
-      c .fold .ensures .0 ∙ folded-next (c .before
-          .before .before .before .before .before .before .before .before .before .before .before .before .before .before
-          .args .run .now) ((11 * (c .before .before .before .before .before .before .before .before .before .before
-          .before .before .before .before .before .args) .i)) (c .before .before .before .before .before .before .before
-          .loop .k) (c .before .before .before .before .before .before .before .loop .inv .4) (c .before .before .before
-          .before .wide3 .ensures),
+      c .fold .ensures .0 ∙
+          folded-next (start .args .run .now) ((11 * (start .args) .i)) (at-loop .loop .k) (at-loop .loop .inv .4)
+          (at-wide3 .wide3 .ensures),
       f,
-      filling-next (c .before .before .before .before .before .before .before .loop .inv
-          .6) (c .before .add .ensures) (gain-step (c .before .before .before .before .before .before .before .before
-          .before .before .before .before .before .before .before .args .run .now) ((11 * (c .before .before .before
-          .before .before .before .before .before .before .before .before .before .before .before .before .args) .i)) (c
-          .before .before .before .before .before .before .before .before .before .before .before .before .before .before
-          .before .args .x) (c .before .before .before .before .before .before .before .loop .k) h (c .before .before
-          .before .before .wide3 .ensures) (c .before .before .before .before .before .before .before .loop .inv .4) f (c
-          .before .before .before .before .before .before .before .loop .inv .2) (c .before .before .value .ensures)),
+      filling-next (at-loop .loop .inv .6) (c .before .add .ensures) (gain-step
+          (start .args .run .now) ((11 * (start .args) .i)) (start .args .x) (at-loop .loop .k) h (at-wide3
+          .wide3 .ensures) (at-loop .loop .inv .4) f (at-loop .loop .inv .2) (at-value .value .ensures)),
     )
 
 returns : tie.Need-returns Inv-loop μ-loop
 returns c =
-    filling-end (c .before .loop .inv .6) (λ q. gain-end (c .before .before .before .before .before .before .before
-    .before .before .args .run .now) ((11 * (c .before .before .before .before .before .before .before .before
-    .before .args) .i)) (c .before .before .before .before .before .before .before .before .before .args .x) (c
-    .before .loop .k) q (omega (arith, c .before .loop .inv .1)))
+    let start = c .before .before .before .before .before .before .before .before .before in
+    filling-end (c .before .loop .inv .6) (λ q. gain-end (start .args .run .now) ((11 * (start .args) .i))
+    (start .args .x) (c .before .loop .k) q (omega (arith, c .before .loop .inv .1)))
 
 pub add-uses-spec : {M : Type 1} → statement M
 add-uses-spec =

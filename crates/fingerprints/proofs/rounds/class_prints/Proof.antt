@@ -6,13 +6,13 @@ use Rattle.fingerprints.proofs.rounds.class_prints.Statement.{statement
 use Rattle.fingerprints.proofs.rounds.class_prints.Tie as tie
 
 abbrev Inv-loop : tie.InvT-loop
-Inv-loop classes n prints₀ q₀ prints q = (q ≤ n + 1) × ClassBelow classes q prints
+Inv-loop classes n prints₀ q₀ prints q = (1 ≤ q) × (q ≤ n + 1) × ClassBelow classes q prints
 
 abbrev μ-loop : tie.MeasureT-loop
 μ-loop classes n prints₀ q₀ prints q = n + 1 - q
 
 loop-holds : tie.Need-loop-holds Inv-loop μ-loop
-loop-holds c = (omega arith, class-start (c .before .args .classes .now))
+loop-holds c = (omega arith, omega arith, class-start (c .before .args .classes .now))
 
 add-loop : tie.Need-add-loop Inv-loop μ-loop
 add-loop c = search needs
@@ -33,17 +33,20 @@ loop-less : tie.Need-loop-less Inv-loop μ-loop
 loop-less c = search needs
 
 loop-again : tie.Need-loop-again Inv-loop μ-loop
-loop-again c = (
-  omega arith,
-  class-next (c .before .before .loop .inv .1) (omega (
-    arith,
-    c .before .before .before .before .pre
-        .1,
-  )) (c .class-print .ensures),
-)
+loop-again c =
+    let at-loop = c .before .before in
+    let start = at-loop .before .before in (
+      omega arith,
+      omega arith,
+      class-next (at-loop .loop .inv .2) (at-loop .loop .inv .0) (omega (
+        arith,
+        start
+            .pre .1,
+      )) (c .class-print .ensures),
+    )
 
 returns : tie.Need-returns Inv-loop μ-loop
-returns c = class-end (c .before .loop .inv .1) (omega arith)
+returns c = class-end (c .before .loop .inv .2) (omega arith)
 
 pub class-prints-spec : {M : Type 1} → statement M
 class-prints-spec =

@@ -12,10 +12,11 @@ add-all-uses-requires c κs = search needs
 
 returns : tie.Need-returns
 returns c =
-    round-is (c .before .before .before .before .before .args .classes .now) (c .before .before .before .before
-    .before .args .run .now) (c .before .before .before .before .before .args .n) (c .before .before .before
-    .before .before .args .count) (printOf (c .before .before .before .before .before .args .seen .now)) (c
-    .before .before .class-prints .ensures) (c .add-all-uses .ensures)
+    let at-class-prints = c .before .before in
+    let start = at-class-prints .before .before .before in
+    round-is (start .args .classes .now) (start .args .run .now) (start .args .n) (start .args .count) (start
+    .args .useful .now) (printOf (start .args .seen .now)) (start .pre .0 .over) (start .pre .1)
+    (at-class-prints .class-prints .ensures) (c .add-all-uses .ensures)
 
 pub round-spec : {M : Type 1} → statement M
 round-spec = tie.close (tie.spec class-prints-requires add-all-uses-requires returns)

@@ -30,15 +30,15 @@ wide-requires c κs = search needs
 
 loop-holds : tie.Need-loop-holds Inv-loop μ-loop
 loop-holds c =
-    let e : (c .before .before .before .args .at) + 2 - 1 ≡ (c .before .before .before .args .at) + 1 = omega arith in
-    let r : c .wide .result ≡ arityOf (c .before .before .before .args .run .now) (c .before .before .before .args
-    .at) = c .wide .ensures ∙ ap (λ (j : ℕ). getD (c .before .before .before .args .run .now) j 0) e in
-    let z : 0 ≡ arityOf (c .before .before .before .args .run .now) (c .before .before .before .args .at) - (c
-    .wide) .result = omega (arith, r) in (
+    let start = c .before .before .before in
+    let e : (start .args .at) + 2 - 1 ≡ (start .args .at) + 1 = omega arith in
+    let r : c .wide .result ≡ arityOf (start .args .run .now) (start .args .at) = c .wide .ensures ∙ ap (λ
+    (j : ℕ). getD (start .args .run .now) j 0) e in
+    let z : 0 ≡ arityOf (start .args .run .now) (start .args .at) - (c .wide) .result = omega (arith, r) in (
       omega (arith, r),
       subst (λ (m : ℕ). 0 < radix m) z (omega arith),
-      sym (ap packed (argsFrom-none (c .before
-          .before .before .args .run .now) (c .before .before .before .args .at) (c .wide .result) (omega (arith, r)))),
+      sym (ap packed (argsFrom-none (start
+          .args .run .now) (start .args .at) (c .wide .result) (omega (arith, r)))),
     )
 
 sub-k : tie.Need-sub-k Inv-loop μ-loop
@@ -58,27 +58,25 @@ wide-requires-2 c κs = search needs
 
 mul-sum : tie.Need-mul-sum Inv-loop μ-loop
 mul-sum c =
-    let h = radix-small (arityOf (c .before .before .before .before .before .before .before .args .run .now) (c
-    .before .before .before .before .before .before .before .args .at) - (c .before .before .before .loop .k))
-    (omega (arith, c .before .before .before .before .before .before .before .pre .narrow)) in omega (
-      arith,
-      h,
-      c
-          .before .before .before .loop .inv .1,
-    )
+    let at-loop = c .before .before .before in
+    let start = at-loop .before .before .before .before in
+    let h = radix-small (arityOf (start .args .run .now) (start .args .at) - (at-loop .loop .k)) (omega
+    (arith, start .pre .narrow)) in
+    omega (arith, h, at-loop .loop .inv .1)
 
 add-sum : tie.Need-add-sum Inv-loop μ-loop
 add-sum c =
-    let h = radix-small (arityOf (c .before .before .before .before .before .before .before .args .run .now) (c
-    .before .before .before .before .before .before .before .args .at) - (c .before .before .before .loop .k))
-    (omega (arith, c .before .before .before .before .before .before .before .pre .narrow)) in omega (
+    let at-loop = c .before .before .before in
+    let start = at-loop .before .before .before .before in
+    let h = radix-small (arityOf (start .args .run .now) (start .args .at) - (at-loop .loop .k)) (omega
+    (arith, start .pre .narrow)) in
+    omega (
       arith,
       h,
-      c
-          .before .before .before .loop .inv .1,
+      at-loop .loop .inv .1,
       c .wide2 .ensures,
-      c .before .shared-slice-known3 .given ((c .before
-          .before .before .before .before .before .before .args .at) + 2 + ((c .before .before .before .loop .k) - 1)),
+      c .before .shared-slice-known3 .given ((start
+          .args .at) + 2 + ((at-loop .loop .k) - 1)),
     )
 
 loop-less : tie.Need-loop-less Inv-loop μ-loop
@@ -86,34 +84,29 @@ loop-less c = search needs
 
 loop-again : tie.Need-loop-again Inv-loop μ-loop
 loop-again c =
-    let e : suc (arityOf (c .before .before .before .before .before .before .before .args .run .now) (c .before
-    .before .before .before .before .before .before .args .at) - (c .before .before .before .loop .k)) ≡ arityOf (c
-    .before .before .before .before .before .before .before .args .run .now) (c .before .before .before .before
-    .before .before .before .args .at) - ((c .before .before .before .loop .k) - 1) = omega (
-      arith,
-      c .before
-          .before .before .loop .inv .0,
-    ) in (
-      omega (arith, c .before .before .before .loop .inv .0),
-      subst (λ (m : ℕ). (c .wide2) .result + 256 * (c .before
-          .before .before .loop) .sum < radix m) e (omega (
+    let at-loop = c .before .before .before in
+    let start = at-loop .before .before .before .before in
+    let e : suc (arityOf (start .args .run .now) (start .args .at) - (at-loop .loop .k)) ≡ arityOf (start
+    .args .run .now) (start .args .at) - ((at-loop .loop .k) - 1) = omega (arith, at-loop .loop .inv .0) in (
+      omega (arith, at-loop .loop .inv .0),
+      subst (λ (m : ℕ). (c .wide2) .result + 256 * (at-loop .loop) .sum <
+          radix m) e (omega (
             arith,
-            c .before .before .before .loop .inv .1,
-            c .wide2
-                .ensures,
-            c .before .shared-slice-known3 .given ((c .before .before .before .before .before .before .before
-                .args .at) + 2 + ((c .before .before .before .loop .k) - 1)),
+            at-loop .loop .inv .1,
+            c .wide2 .ensures,
+            c .before .shared-slice-known3 .given
+                ((start .args .at) + 2 + ((at-loop .loop .k) - 1)),
           )),
-      packed-before (c .before .before .before .before
-          .before .before .before .args .run .now) (c .before .before .before .before .before .before .before .args .at)
-          (c .before .before .before .loop .k) (omega arith) (c .before .before .before .loop .inv .0) (c .wide2 .ensures)
-          (c .before .before .before .loop .inv .2),
+      packed-before (start .args .run .now) (start
+          .args .at) (at-loop .loop .k) (omega arith) (at-loop .loop .inv .0) (c .wide2 .ensures) (at-loop .loop
+          .inv .2),
     )
 
 returns : tie.Need-returns Inv-loop μ-loop
 returns c =
-    c .before .loop .inv .2 ∙ packed-whole (c .before .before .before .before .before .args .run .now) (c .before
-    .before .before .before .before .args .at) (c .before .loop .k) (omega arith)
+    let start = c .before .before .before .before .before in
+    c .before .loop .inv .2 ∙ packed-whole (start .args .run .now) (start .args .at) (c .before .loop .k)
+    (omega arith)
 
 pub packed-args-spec : {M : Type 1} → statement M
 packed-args-spec =

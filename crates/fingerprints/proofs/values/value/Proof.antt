@@ -16,12 +16,17 @@ mul-result c =
 
 mul-result-2 : tie.Need-mul-result-2
 mul-result-2 c =
-    let h : (c .mix .result) ≤ prime = omega (arith, c .mix .ensures .1) in let g : ((c .mix .result) * (c .mix
-    .result)) % prime ≤ prime = omega arith in let l = mul-le-mul g h in omega arith
+    let h : (c .mix .result) ≤ prime = omega (arith, c .mix .ensures .1) in
+    let g : ((c .mix .result) * (c .mix .result)) % prime ≤ prime = omega arith in
+    let l = mul-le-mul g h in
+    omega arith
+
+mul-result-3 : tie.Need-mul-result-3
+mul-result-3 c = omega arith
 
 returns : tie.Need-returns
 unfolding cubed
-returns c = ap (λ (t : ℕ). (t * t) % prime * t % prime) (c .mix .ensures .0)
+returns c = ap (λ (t : ℕ). 2 * (t * t % prime * t % prime)) (c .mix .ensures .0)
 
 pub value-spec : {M : Type 1} → statement M
-value-spec = tie.close (tie.spec mix-requires mul-result mul-result-2 returns)
+value-spec = tie.close (tie.spec mix-requires mul-result mul-result-2 mul-result-3 returns)

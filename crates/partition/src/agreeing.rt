@@ -1,0 +1,141 @@
+// Whether the parts are a congruence: an argument's part decides the output's.
+ghost use mathlib.Core.Path.{_≡_};
+ghost use Prim.Native.Nat.{_*_, _<_, _≤_};
+ghost use Rattle.fields.specs.Fields.{RunsOver};
+ghost use Rattle.fingerprints.specs.Fingerprints.{printOf};
+ghost use Rattle.format.specs.Format.{transitionBytes};
+ghost use Rattle.sorted.specs.Sorted.{Sorted};
+ghost use Rattle.table.specs.Layout.{arityOf};
+ghost use Rattle.partition.specs.Parts.{SharedMarks, agreesAt, agreesPlace, agreesTransition, allAgree};
+use distinguish::stepped;
+use fields::wide;
+use fingerprints::PRINT_COUNT;
+use format::ARGS_AT;
+use format::OUT_AT;
+use format::TRANSITION_BYTES;
+
+// Transition i with q for its argument k.
+fn agrees(
+    run: &[u8],
+    count: usize,
+    n: usize,
+    i: usize,
+    k: usize,
+    q: usize,
+    prints: &[usize; PRINT_COUNT],
+) -> bool
+    requires { ⌜ Sorted (now run) count ⌝ }
+    requires { ⌜ RunsOver (now run) count n ⌝ }
+    requires { ⌜ i < count ⌝ }
+    requires { ⌜ k < arityOf (now run) (transitionBytes * i) ⌝ }
+    requires { ⌜ q ≤ 255 ⌝ }
+    ensures { λ r. ⌜ r ≡ agreesAt (now (run .entry)) count (printOf (now (prints .entry))) i k q ⌝ }
+{
+    let a = wide(run[TRANSITION_BYTES * i + ARGS_AT + k]);
+    if prints[q] != prints[a] {
+        return true;
+    }
+    let out = wide(run[TRANSITION_BYTES * i + OUT_AT]);
+    let to = wide(stepped(run, count, n, i, k, (q % 256) as u8));
+    prints[to] == prints[out]
+}
+
+fn all_agree_at(
+    run: &[u8],
+    count: usize,
+    n: usize,
+    i: usize,
+    k: usize,
+    prints: &[usize; PRINT_COUNT],
+) -> bool
+    requires { ⌜ Sorted (now run) count ⌝ }
+    requires { ⌜ RunsOver (now run) count n ⌝ }
+    requires { ⌜ n ≤ 255 ⌝ }
+    requires { ⌜ i < count ⌝ }
+    requires { ⌜ k < arityOf (now run) (transitionBytes * i) ⌝ }
+    ensures { λ r. ⌜ r ≡ agreesPlace (now (run .entry)) count n (printOf (now (prints .entry))) i k ⌝ }
+{
+    let mut q = 0;
+    while q < n + 1 {
+        if !agrees(run, count, n, i, k, q, prints) {
+            return false;
+        }
+        q += 1;
+    }
+    true
+}
+
+// An argument that is alone in its part can be replaced by itself only.
+fn place_agrees(
+    run: &[u8],
+    count: usize,
+    n: usize,
+    i: usize,
+    k: usize,
+    prints: &[usize; PRINT_COUNT],
+    shared: &[u8; PRINT_COUNT],
+) -> bool
+    requires { ⌜ Sorted (now run) count ⌝ }
+    requires { ⌜ RunsOver (now run) count n ⌝ }
+    requires { ⌜ n ≤ 255 ⌝ }
+    requires { ⌜ i < count ⌝ }
+    requires { ⌜ k < arityOf (now run) (transitionBytes * i) ⌝ }
+    requires { ⌜ SharedMarks (now prints) n (now shared) ⌝ }
+    ensures { λ r. ⌜ r ≡ agreesPlace (now (run .entry)) count n (printOf (now (prints .entry))) i k ⌝ }
+{
+    let a = wide(run[TRANSITION_BYTES * i + ARGS_AT + k]);
+    if shared[a] == 0 {
+        return true;
+    }
+    all_agree_at(run, count, n, i, k, prints)
+}
+
+fn transition_agrees(
+    run: &[u8],
+    count: usize,
+    n: usize,
+    i: usize,
+    prints: &[usize; PRINT_COUNT],
+    shared: &[u8; PRINT_COUNT],
+) -> bool
+    requires { ⌜ Sorted (now run) count ⌝ }
+    requires { ⌜ RunsOver (now run) count n ⌝ }
+    requires { ⌜ n ≤ 255 ⌝ }
+    requires { ⌜ i < count ⌝ }
+    requires { ⌜ SharedMarks (now prints) n (now shared) ⌝ }
+    ensures { λ r. ⌜ r ≡ agreesTransition (now (run .entry)) count n (printOf (now (prints .entry))) i ⌝ }
+{
+    let arity = wide(run[TRANSITION_BYTES * i + ARGS_AT - 1]);
+    let mut k = 0;
+    while k < arity {
+        if !place_agrees(run, count, n, i, k, prints, shared) {
+            return false;
+        }
+        k += 1;
+    }
+    true
+}
+
+// Every transition at every place.
+pub fn all_agree(
+    run: &[u8],
+    count: usize,
+    n: usize,
+    prints: &[usize; PRINT_COUNT],
+    shared: &[u8; PRINT_COUNT],
+) -> bool
+    requires { ⌜ Sorted (now run) count ⌝ }
+    requires { ⌜ RunsOver (now run) count n ⌝ }
+    requires { ⌜ n ≤ 255 ⌝ }
+    requires { ⌜ SharedMarks (now prints) n (now shared) ⌝ }
+    ensures { λ r. ⌜ r ≡ allAgree (now (run .entry)) count n (printOf (now (prints .entry))) ⌝ }
+{
+    let mut i = 0;
+    while i < count {
+        if !transition_agrees(run, count, n, i, prints, shared) {
+            return false;
+        }
+        i += 1;
+    }
+    true
+}
