@@ -6,7 +6,7 @@ use mathlib.Core.Path.{_∙_, _≡_, ap, ap₂, refl, subst, sym}
 use Prim.Native.Nat.{_%_, _*_, _+_, _-_, _/_, _<_, _^_, _≤_, suc, zero, ℕ}
 use native.Mathlib.Omega.{arith}
 use lib.Dec.{eqb}
-use lib.ListN.{getD, length, length-replicate, length-set, replicate, set}
+use lib.ListN.{getD, length-replicate, length-set, replicate, set}
 use lib.Seq.{getD-set-other, getD-set-same}
 use borrow.Author.Tests.{eqb-false, eqb-true}
 use Rattle.automata.specs.Automaton.{Transition, accepting}
@@ -180,8 +180,8 @@ module _ (s : List ℕ) (at : ℕ) where
       ap₂ (λ (x y : ℕ). x + 256 * y) e (f ∙ ap (λ (j : ℕ). packed (argsFrom j)) (sym z))
       ∙ ap packed (sym (argsFrom-next (k - 1) (omega arith)))
 
-  pub packed-next : (k : ℕ) → k < arityOf s at → argOf s at k ≤ 255 → packed (argsFrom k) / 256 ≡ packed (argsFrom
-      (k + 1))
+  pub packed-next : (k : ℕ) → k < arityOf s at → argOf s at k ≤ 255 → packed (argsFrom k) / 256 ≡
+      packed (argsFrom (k + 1))
   packed-next k h l = ap (λ (r : List ℕ). packed r / 256) (argsFrom-next k h) ∙ omega arith
 
 -- ---- the transitions of a run
@@ -197,8 +197,8 @@ module _ (s : List ℕ) (u : ℕ → Bool) (h : ℕ → ℕ) (i : ℕ) {o : ℕ}
       Gained (usefulGain (nthTransition s i) u h) m m'
   useful-gain e {m} g = record {
     prints = g .prints;
-    each = λ q. g .each q ∙ ap (λ (x : ℕ). (printOf m q + x) % 2 ^
-        64) (same q);
+    each =
+        λ q. g .each q ∙ ap (λ (x : ℕ). (printOf m q + x) % 2 ^ 64) (same q);
   }
     where
       same : (q : ℕ) → gain (nthTransition s i) (h o) q ≡ usefulGain (nthTransition s i) u h q
@@ -276,8 +276,8 @@ pub round-is : (cl s : List ℕ) (n c : ℕ) (u : List ℕ) (h : ℕ → ℕ) {m
 unfolding fingerprint
 round-is cl s n c u h {m} over useful k g = record {
   each = λ q b. g .each q ∙ ap₂ (λ (x y : ℕ). (x + y) % 2 ^ 64) (class q (omega (arith, viewed-states cl s n c)))
-      (gains-same (marked u) (coaccessible (viewed cl s n c)) h q (transitionsIn s c) (λ τ i. agree τ
-      (in-transitionsIn s c τ i)));
+      (gains-same (marked u) (coaccessible (viewed cl s n c)) h q (transitionsIn s c)
+      (λ τ i. agree τ (in-transitionsIn s c τ i)));
 }
   where
     class : (q : ℕ) → q ≤ n → printOf m q ≡ bit (accepting (viewed cl s n c) q)

@@ -3,7 +3,7 @@
 use mathlib.Core.Bool.{Bool, Bool·beq, _&&_, _||_, cond, false, false≢true, not, true, true≢false}
 use mathlib.Core.List.{List, [], _++_, _∷_}
 use mathlib.Core.Logic.{_≢_, _⊎_, inl, inr}
-use mathlib.Core.Path.{_∙_, _≡_, ap, ap₂, refl, subst, subst₂, sym}
+use mathlib.Core.Path.{_∙_, _≡_, ap, ap₂, refl, subst, sym}
 use Prim.Native.Nat.{_%_, _+_, _-_, _<_, _^_, _≤_, suc, zero, ℕ}
 use native.Mathlib.Omega.{arith}
 use lib.Dec.{eqb, ltb}
@@ -15,10 +15,11 @@ use Rattle.automata.specs.Distinguishable.{Slot, allDistinguishable, distinguis
 use Rattle.automata.specs.Distinguishable.{distinguishableRule, pairs, slots, stepSlot}
 use Rattle.automata.specs.Order.{rising}
 use Rattle.automata.specs.Valid.{statesInRange}
-use Rattle.fingerprints.specs.Fingerprints.{Round, Sound, UsefulMarks, allDiffer, differs, differsAbove, fingerprint, gain}
+use Rattle.fingerprints.specs.Fingerprints.{Round, Sound, UsefulMarks, allDiffer, differs, differsAbove}
+use Rattle.fingerprints.specs.Fingerprints.{fingerprint, gain}
 use Rattle.fingerprints.specs.Fingerprints.{gains, places, printOf, slotValue, total, valueAt}
 use Rattle.lists.specs.Closure.{closure, elem}
-use Rattle.lists.specs.Positions.{Pair, eqPair, upFrom}
+use Rattle.lists.specs.Positions.{eqPair, upFrom}
 use Rattle.lists.specs.Tests.{_∈_, any, every, filter}
 use Rattle.marking.specs.Marks.{bit, marked}
 use Rattle.automata.proofs.Distinguishable.{in-slots, step-fits}
@@ -26,7 +27,8 @@ use Rattle.automata.proofs.Order.{lookup-transition}
 use Rattle.automata.proofs.Steps.{Fits, Taken, step-view}
 use Rattle.automata.proofs.Valid.{ranged-fits, ranged-transition}
 use Rattle.distinguish.proofs.Symmetry.{told-sym}
-use Rattle.fingerprints.proofs.Uses.{Used, in-uses, places-in, total-append, total-filter, total-members, total-same, total-zero, uses}
+use Rattle.fingerprints.proofs.Uses.{Used, in-uses, places-in, total-append, total-filter, total-members}
+use Rattle.fingerprints.proofs.Uses.{total-same, total-zero, uses}
 use Rattle.fingerprints.proofs.Uses.{uses-distinct, uses-in}
 use Rattle.lists.proofs.Closure.{closed, closure-all, closure-fixed, elem-in, in-elem}
 use Rattle.lists.proofs.Distinct.{filter-distinct}
@@ -67,8 +69,8 @@ module _ (A : Automaton) (ranged : statesInRange A ≡ true) (rises : rising (A 
       by-rule p q h l
       (or-right (not (Bool·beq (accepting A p) (accepting A q))) _
       (in-any (λ s. distinguishable A (stepSlot A s p) (stepSlot A s q)) (slots (A .transitions)) z
-      (subst (λ (a : ℕ). _∈_ {A = Slot} (record { label = a; before = z .before; after = z .after }) (slots (A
-      .transitions)))
+      (subst (λ (a : ℕ). _∈_ {A = Slot} (record { label = a; before = z .before; after = z .after })
+      (slots (A .transitions)))
       (sym e) (in-slots (A .transitions) τ (z .before) x (z .after) i f)) d))
 
   useless-zero : coaccessible A 0 ≡ false
@@ -85,8 +87,8 @@ module _ (A : Automaton) (ranged : statesInRange A ≡ true) (rises : rising (A 
               filter-in (λ k. elem eqb k (closure eqb (coaccessibleRule A) (upFrom 1 (states A))) ||
               coaccessibleRule A (λ l. elem eqb l (closure eqb (coaccessibleRule A) (upFrom 1 (states A)))) k)
               (upFrom 1 (states A)) 0
-              (subst (λ (X : List ℕ). 0 ∈ X) (sym (closure-fixed eqb eqb-true eqb-same (coaccessibleRule A) (upFrom
-              1 (states A)))) j) .0
+              (subst (λ (X : List ℕ). 0 ∈ X) (sym
+              (closure-fixed eqb eqb-true eqb-same (coaccessibleRule A) (upFrom 1 (states A)))) j) .0
       go false e = refl
 
   -- a useless state is not accepting, and no transition takes it to a useful one
@@ -113,15 +115,15 @@ module _ (A : Automaton) (ranged : statesInRange A ≡ true) (rises : rising (A 
       taken u false e = refl
       taken (n, (υ, j, a, f, o)) true e =
           let m : coaccessible A (υ .out) ≡ true = subst (λ (x : ℕ). coaccessible A x ≡ true) (sym o) e in
-          let i : q ∈ υ .args = subst (λ (qs : List ℕ). q ∈ qs) (sym f) (in-append-right (z .before) (q ∷ z .after)
-          q (inl refl)) in
+          let i : q ∈ υ .args = subst (λ (qs : List ℕ). q ∈ qs) (sym f)
+          (in-append-right (z .before) (q ∷ z .after) q (inl refl)) in
           absurd (true≢false (sym (useful-by q (ranged-transition A ranged υ j .args q i .0) l
-          (or-right (accepting A q) _ (in-any (λ τ. coaccessible A (τ .out) && elem eqb q (τ .args)) (A
-          .transitions) υ j
+          (or-right (accepting A q) _ (in-any (λ τ. coaccessible A (τ .out) && elem eqb q (τ .args))
+          (A .transitions) υ j
           (and-both m (in-elem eqb eqb-true eqb-same q (υ .args) i))))) ∙ d))
 
-      go : (stepSlot A z q ≡ 0) ⊎ Taken A (z .label) (z .before ++ (q ∷ z .after)) → coaccessible A (stepSlot A z q)
-          ≡ false
+      go : (stepSlot A z q ≡ 0) ⊎ Taken A (z .label) (z .before ++ (q ∷ z .after)) →
+          coaccessible A (stepSlot A z q) ≡ false
       go (inl e) = subst (λ (x : ℕ). coaccessible A x ≡ false) (sym e) useless-zero
       go (inr u) = taken u (coaccessible A (stepSlot A z q)) refl
 
@@ -205,8 +207,8 @@ module _ (A : Automaton) (ranged : statesInRange A ≡ true) (rises : rising (A 
             (stepSlot A z q ≡ 0) ⊎ Taken A (z .label) (z .before ++ (q ∷ z .after)) → z ∈ usefulUses q
         go false e t =
             absurd (d (by-use p z u p q k l
-            (useful-told (stepSlot A z p) (f .1) (stepSlot A z q) (step-fits A fit (z .label) (z .before ++ (q ∷ z
-            .after))) e)))
+            (useful-told (stepSlot A z p) (f .1) (stepSlot A z q)
+            (step-fits A fit (z .label) (z .before ++ (q ∷ z .after))) e)))
         go true e (inl o) =
             absurd (true≢false (sym (subst (λ (x : ℕ). coaccessible A x ≡ true) o e) ∙ useless-zero))
         go true e (inr (n, (υ, j, a, b, o))) =

@@ -53,8 +53,8 @@ in-places (p ∷ r) l a q [] c e =
     let rc : r ≡ c = cc in
     rw (pq, rc, eqb-same q, append-nil l) (inl refl)
 in-places (p ∷ r) l a q (x ∷ b) c e =
-    go (eqb p q) (subst (λ (y : List ℕ). Found (places r (l ++ (p ∷ [])) a q) y) back (in-places r (l ++ (p ∷ [])) a
-    q b c rest))
+    go (eqb p q) (subst (λ (y : List ℕ). Found (places r (l ++ (p ∷ [])) a q) y) back
+    (in-places r (l ++ (p ∷ [])) a q b c rest))
   where
     first : p ≡ x
     first = cc
@@ -122,8 +122,8 @@ pub uses-distinct : (τs : List Transition) (q : ℕ) → rising τs ≡ true �
 uses-distinct [] q e = tt
 uses-distinct (τ ∷ τs) q e =
     append-distinct (places (τ .args) [] (τ .label) q) (uses τs q) (places-distinct (τ .args) [] (τ .label) q)
-    (uses-distinct τs q (rising-tail τ τs e)) (λ z i j. apart z (places-in (τ .args) [] (τ .label) q z i .0)
-    (uses-in τs q z j))
+    (uses-distinct τs q (rising-tail τ τs e))
+    (λ z i j. apart z (places-in (τ .args) [] (τ .label) q z i .0) (uses-in τs q z j))
   where
     apart : (z : Slot) → FromArgs (τ .args) (τ .label) q z → Used τs q z → ⊥
     apart z (a, b) (υ, i, (c, d)) =
@@ -204,8 +204,8 @@ total-zero [] = refl
 total-zero (x ∷ xs) = omega (arith, total-zero xs)
 
 -- what a test leaves of a list
-pub total-filter : (p : Slot → Bool) (f : Slot → ℕ) (xs : List Slot) → total xs (λ z. cond (p z) (f z) 0) ≡ total
-    (filter p xs) f
+pub total-filter : (p : Slot → Bool) (f : Slot → ℕ) (xs : List Slot) → total xs (λ z. cond (p z) (f z) 0) ≡
+    total (filter p xs) f
 total-filter p f [] = refl
 total-filter p f (x ∷ xs) = go (p x) (total-filter p f xs)
   where

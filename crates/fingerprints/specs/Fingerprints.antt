@@ -1,7 +1,7 @@
 -- Fingerprints of states: numbers that equivalent states have in common. A state's fingerprint is a sum over its uses,
 -- the slots in which transitions to coaccessible states have it, of a number that depends on the slot and on the
--- fingerprint that the output had a round before. Nothing is claimed of how well the numbers spread: where two states share a fingerprint,
--- nothing follows.
+-- fingerprint that the output had a round before. Nothing is claimed of how well the numbers spread: where two states
+-- share a fingerprint, nothing follows.
 use mathlib.Core.Bool.{Bool, cond, not, true}
 use mathlib.Core.List.{List, [], _++_, _∷_}
 use mathlib.Core.Path.{_≡_}

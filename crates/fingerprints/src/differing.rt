@@ -4,6 +4,7 @@ ghost use Prim.Native.Nat.{_≤_};
 ghost use Rattle.fingerprints.specs.Fingerprints.{allDiffer, differsAbove};
 use crate::rounds::PRINT_COUNT;
 
+// Whether p's fingerprint differs from those of the states above it.
 fn differs_above(prints: &[usize; PRINT_COUNT], n: usize, p: usize) -> bool
     requires { ⌜ n ≤ 255 ⌝ }
     requires { ⌜ p ≤ n ⌝ }
@@ -20,6 +21,7 @@ fn differs_above(prints: &[usize; PRINT_COUNT], n: usize, p: usize) -> bool
     true
 }
 
+// Whether each two differ.
 pub fn all_differ(prints: &[usize; PRINT_COUNT], n: usize) -> bool
     requires { ⌜ n ≤ 255 ⌝ }
     ensures { λ r. ⌜ r ≡ allDiffer (now (prints .entry)) n ⌝ }

@@ -83,6 +83,7 @@ fn add_useful(
     add_uses(run, count, n, i, seen[out], prints);
 }
 
+// The uses in all transitions.
 fn add_all_uses(
     run: &[u8],
     count: usize,
@@ -104,6 +105,7 @@ fn add_all_uses(
     }
 }
 
+// The class of a state as a number.
 fn class_print(classes: &[u8], q: usize) -> usize
     requires { ⌜ q < length (now classes) ⌝ }
     ensures { λ r. ⌜ r ≡ bit (classAt (now (classes .entry)) q) ⌝ }
@@ -114,6 +116,7 @@ fn class_print(classes: &[u8], q: usize) -> usize
     0
 }
 
+// What fingerprints start from.
 fn class_prints(classes: &[u8], n: usize) -> [usize; PRINT_COUNT]
     requires { ⌜ n < length (now classes) ⌝ }
     requires { ⌜ n ≤ 255 ⌝ }
@@ -128,7 +131,7 @@ fn class_prints(classes: &[u8], n: usize) -> [usize; PRINT_COUNT]
     prints
 }
 
-// `useful` has a mark for each coaccessible state.
+// The fingerprints of the states 0 to n. `useful` has a mark for each coaccessible state.
 pub fn round(
     classes: &[u8],
     run: &[u8],
@@ -139,8 +142,8 @@ pub fn round(
 ) -> [usize; PRINT_COUNT]
     requires { ⌜ Viewed (now classes) (now run) n count ⌝ }
     requires { ⌜ UsefulMarks (viewed (now classes) (now run) n count) (now useful) ⌝ }
-    ensures { λ r. ⌜ Round (viewed (now (classes .entry)) (now (run .entry)) n count) (printOf (now (seen .entry)))
-        r ⌝ }
+    ensures { λ r. ⌜ Round (viewed (now (classes .entry)) (now (run .entry)) n count)
+        (printOf (now (seen .entry))) r ⌝ }
 {
     let mut prints = class_prints(classes, n);
     add_all_uses(run, count, n, useful, seen, &mut prints);

@@ -34,6 +34,7 @@ pub fn fold(b: usize, q: usize) -> usize
     (b * 1566083941 + q) % PRIME
 }
 
+// What the label and the fingerprint x of the output give.
 pub fn salt(label: usize, x: usize) -> usize
     requires { ⌜ label ≤ 255 ⌝ }
     ensures { λ r. ⌜ r ≡ salted label x ⌝ }
@@ -42,6 +43,7 @@ pub fn salt(label: usize, x: usize) -> usize
     (label * 1812433253 + x % PRIME * 1664525989) % PRIME
 }
 
+// Three numbers in one.
 fn mix(b: usize, c: usize, s: usize) -> usize
     requires { ⌜ b < prime ⌝ }
     requires { ⌜ s < prime ⌝ }

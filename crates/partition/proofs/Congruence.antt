@@ -3,38 +3,41 @@ use mathlib.Core.Bool.{Bool, Bool·beq, _||_, cond, false, false≢true, not, tr
 use mathlib.Core.List.{List, [], _++_, _∷_}
 use mathlib.Core.Logic.{_≢_, _⊎_, inl, inr}
 use mathlib.Core.Path.{_∙_, _≡_, ap, refl, subst, sym}
-use Prim.Native.Nat.{_%_, _*_, _+_, _<_, _^_, _≤_, suc, ℕ}
+use Prim.Native.Nat.{_%_, _*_, _+_, _-_, _<_, _^_, _≤_, suc, ℕ}
 use native.Mathlib.Omega.{arith}
 use lib.Dec.{eqb}
-use lib.ListN.{getD, length-replicate, replicate}
-use borrow.Author.Tests.{eq-eqb, eqb-false, eqb-true, ne-eqb}
+use lib.ListN.{length-replicate, replicate}
+use borrow.Author.Tests.{eq-eqb, eqb-true, ne-eqb}
 use Rattle.automata.specs.Automaton.{Automaton, Transition, accepting, states}
 use Rattle.automata.specs.Coaccessible.{coaccessible}
-use Rattle.automata.specs.Distinguishable.{Slot, distinguishable, distinguishableRule, pairs, slots, stepSlot}
+use Rattle.automata.specs.Distinguishable.{Slot, allDistinguishable, distinguishable, distinguishableRule, pairs, slots}
+use Rattle.automata.specs.Distinguishable.{stepSlot}
 use Rattle.automata.specs.Order.{rising}
 use Rattle.automata.specs.Valid.{statesInRange}
-use Rattle.distinguish.specs.Telling.{MarksOf, pairAt, slotAt, stepAt}
+use Rattle.distinguish.specs.Telling.{MarksOf, stepAt}
 use Rattle.fields.specs.Fields.{RunsOver}
 use Rattle.fields.specs.View.{Viewed, viewed}
 use Rattle.fingerprints.specs.Fingerprints.{Round, Sound, differs, fingerprint, gain, gains, printOf, slotValue, total}
-use Rattle.fingerprints.specs.Fingerprints.{places, valueAt}
+use Rattle.fingerprints.specs.Fingerprints.{allDiffer, differsAbove, places, valueAt}
 use Rattle.format.specs.Format.{transitionBytes}
 use Rattle.lists.specs.Positions.{Pair, eqPair, upFrom}
-use Rattle.lists.specs.Tests.{_∈_, any}
+use Rattle.lists.specs.Tests.{_∈_, any, every}
 use Rattle.marking.specs.Marks.{bit, marked, nonzero}
-use Rattle.partition.specs.Parts.{Fingerprinted, PartsMarked, SharedMarks, agreesAt, agreesPlace, agreesTransition}
-use Rattle.partition.specs.Parts.{allAgree, besides, shared}
+use Rattle.partition.specs.Parts.{Fingerprinted, PartsMarked, SharedMarks, agreesAt, agreesPlace}
+use Rattle.partition.specs.Parts.{agreesTransition}
+use Rattle.partition.specs.Parts.{allAgree, besides}
 use Rattle.table.specs.Layout.{argOf, arityOf, outOf, transitionsIn}
 use Rattle.automata.proofs.Steps.{Taken, step-view}
 use Rattle.distinguish.proofs.Closing.{own-step, taken-through}
-use Rattle.fingerprints.proofs.Equivalent.{round-sound}
+use Rattle.fingerprints.proofs.Equivalent.{all-differ-told, round-sound}
 use Rattle.lists.proofs.Closure.{closure-all}
 use Rattle.lists.proofs.Distinct.{grid-in}
 use Rattle.lists.proofs.Intervals.{every-upFrom, upFrom-every}
 use Rattle.lists.proofs.Positions.{eqPair-same, eqPair-true, in-upFrom, upFrom-in}
 use Rattle.lists.proofs.Tests.{and-both, any-in, in-any, or-cases}
+use Rattle.partition.proofs.Marked.{marked-bit}
 use Rattle.validity.proofs.Fixpoints.{same-test}
-use Rattle.validity.proofs.Views.{viewed-ranged, viewed-states}
+use Rattle.validity.proofs.Views.{viewed-states}
 
 -- ---- the class is the last bit of a fingerprint
 
@@ -101,12 +104,12 @@ module _ (s : List ℕ) (n c : ℕ) (over : RunsOver s c n) (few : n ≤ 255) (r
   pub lone-agrees : marked f (argOf s (transitionBytes * i) k) ≡ false → agreesPlace s c n (printOf m) i k ≡ true
   unfolding a
   lone-agrees d =
-      upFrom-every (agreesAt s c (printOf m) i k) 0 (n + 1) (λ q x b. go q (omega arith) (eqb (printOf m q) (printOf
-      m a)) refl)
+      upFrom-every (agreesAt s c (printOf m) i k) 0 (n + 1)
+      (λ q x b. go q (omega arith) (eqb (printOf m q) (printOf m a)) refl)
     where
       go : (q : ℕ) → q ≤ n → (t : Bool) → eqb (printOf m q) (printOf m a) ≡ t →
-          (not t || eqb (printOf m (stepAt s c (transitionBytes * i) k q)) (printOf m (outOf s (transitionBytes *
-          i)))) ≡ true
+          (not t || eqb (printOf m (stepAt s c (transitionBytes * i) k q))
+          (printOf m (outOf s (transitionBytes * i)))) ≡ true
       go q b false e = refl
       go q b true e =
           eq-eqb _ _
@@ -130,8 +133,8 @@ module _ (cl s : List ℕ) (n c : ℕ) (view : Viewed cl s n c) (rises : rising 
   unfolding allAgree
   agrees-at i k q a b d e =
       let t = every-upFrom (agreesTransition s c n h) 0 c agree i (omega arith) (omega arith) in
-      let u = every-upFrom (agreesPlace s c n h i) 0 (arityOf s (transitionBytes * i)) t k (omega arith) (omega
-      arith) in
+      let u = every-upFrom (agreesPlace s c n h i) 0 (arityOf s (transitionBytes * i)) t k (omega arith)
+      (omega arith) in
       let v = every-upFrom (agreesAt s c h i k) 0 (n + 1) u q (omega arith) (omega arith) in
       go (or-cases (not (eqb (h q) (h (argOf s (transitionBytes * i) k)))) _ v)
     where
@@ -154,8 +157,8 @@ module _ (cl s : List ℕ) (n c : ℕ) (view : Viewed cl s n c) (rises : rising 
       go (step-view A (z .label) (z .before ++ (p ∷ z .after))) (step-view A (z .label) (z .before ++ (q ∷ z .after)))
     where
       go : (stepSlot A z p ≡ 0) ⊎ Taken A (z .label) (z .before ++ (p ∷ z .after)) →
-          (stepSlot A z q ≡ 0) ⊎ Taken A (z .label) (z .before ++ (q ∷ z .after)) → h (stepSlot A z p) ≡ h (stepSlot
-          A z q)
+          (stepSlot A z q ≡ 0) ⊎ Taken A (z .label) (z .before ++ (q ∷ z .after)) → h (stepSlot A z p) ≡
+          h (stepSlot A z q)
       go (inr u) y = sym (taken-agrees z p q l e u)
       go (inl x) (inr u) = taken-agrees z q p k (sym e) u
       go (inl x) (inl y) = ap h (x ∙ sym y)
@@ -194,18 +197,14 @@ module _ (cl s : List ℕ) (n c : ℕ) (view : Viewed cl s n c) (rises : rising 
               ih (stepSlot A z (k .0), stepSlot A z (k .1)) f (slot-agrees z (k .0) (k .1) (small .0) (small .1) g)
 
 -- marks of different parts are the pairs that are told apart
-marked-bit : (b : Bool) → nonzero (bit b) ≡ b
-marked-bit true = refl
-marked-bit false = refl
-
 pub parts-marks : (cl s : List ℕ) (n c : ℕ) → Viewed cl s n c → rising (transitionsIn s c) ≡ true → (h : List ℕ) →
     Fingerprinted (viewed cl s n c) (printOf h) → allAgree s c n (printOf h) ≡ true → {m : List ℕ} → PartsMarked h n m →
     MarksOf m (viewed cl s n c)
 parts-marks cl s n c view rises h made agree p = record {
   marks = λ x y a b.
       ap nonzero (p .each x y (omega (arith, viewed-states cl s n c)) (omega (arith, viewed-states cl s n c)))
-      ∙ marked-bit (differs h x y) ∙ same-test (differs h x y) (distinguishable (viewed cl s n c) x y) (told x y a
-      b) (apart x y);
+      ∙ marked-bit (differs h x y) ∙ same-test (differs h x y) (distinguishable (viewed cl s n c) x y)
+      (told x y a b) (apart x y);
 }
   where
     told : (x y : ℕ) → x ≤ states (viewed cl s n c) → y ≤ states (viewed cl s n c) → differs h x y ≡ true →
@@ -216,9 +215,42 @@ parts-marks cl s n c view rises h made agree p = record {
         go true e = refl
         go false e =
             absurd (false≢true
-            (sym (ap not (eq-eqb (printOf h x) (printOf h y) (made .sound .equal x y a b (λ w. false≢true (sym e ∙
-            w))))) ∙ d))
+            (sym (ap not (eq-eqb (printOf h x) (printOf h y)
+            (made .sound .equal x y a b (λ w. false≢true (sym e ∙ w))))) ∙ d))
 
     apart : (x y : ℕ) → distinguishable (viewed cl s n c) x y ≡ true → differs h x y ≡ true
-    apart x y d = ap not (ne-eqb (printOf h x) (printOf h y) (parts-apart cl s n c view rises (printOf h) made agree
-        x y d))
+    apart x y d = ap not (ne-eqb (printOf h x) (printOf h y)
+        (parts-apart cl s n c view rises (printOf h) made agree x y d))
+
+-- and all parts are of one state exactly when condition 12 holds
+pub parts-exact : (cl s : List ℕ) (n c : ℕ) → Viewed cl s n c → rising (transitionsIn s c) ≡ true → (h : List ℕ) →
+    Fingerprinted (viewed cl s n c) (printOf h) → allAgree s c n (printOf h) ≡ true →
+    allDiffer h n ≡ allDistinguishable (viewed cl s n c)
+unfolding allDiffer
+parts-exact cl s n c view rises h made agree = same-test (allDiffer h n) (allDistinguishable A) there back
+  where
+    A : Automaton
+    A = viewed cl s n c
+
+    many : states A ≡ n
+    many = viewed-states cl s n c
+
+    there : allDiffer h n ≡ true → allDistinguishable A ≡ true
+    there e = all-differ-told A h (made .sound) (ap (allDiffer h) many ∙ e)
+
+    apart : (p q : ℕ) → p < q → (eqb p q || distinguishable A p q) ≡ true → differs h p q ≡ true
+    apart p q l e = go (or-cases (eqb p q) _ e)
+      where
+        go : (eqb p q ≡ true) ⊎ (distinguishable A p q ≡ true) → differs h p q ≡ true
+        go (inl d) = absurd (let f = eqb-true p q d in omega arith)
+        go (inr d) = ap not (ne-eqb (printOf h p) (printOf h q)
+            (parts-apart cl s n c view rises (printOf h) made agree p q d))
+
+    back : allDistinguishable A ≡ true → allDiffer h n ≡ true
+    back e =
+        upFrom-every (differsAbove h n) 1 n
+        (λ p a b. upFrom-every (differs h p) (p + 1) (n - p)
+        (λ q x y. apart p q (omega arith)
+        (every-upFrom (λ q. eqb p q || distinguishable A p q) 1 (states A)
+        (every-upFrom (λ p. every (λ q. eqb p q || distinguishable A p q) (upFrom 1 (states A))) 1 (states A) e p a
+        (omega (arith, many))) q (omega arith) (omega (arith, many)))))

@@ -12,7 +12,7 @@ use borrow.Author.Tests.{eq-eqb, eqb-false, eqb-true, ne-eqb}
 use Rattle.distinguish.specs.Telling.{pairAt, pairCount, stepAt}
 use Rattle.fingerprints.specs.Fingerprints.{differs}
 use Rattle.format.specs.Format.{transitionBytes}
-use Rattle.marking.specs.Marks.{bit, marked, nonzero}
+use Rattle.marking.specs.Marks.{bit, nonzero}
 use Rattle.partition.specs.Parts.{PartsMarked, RowMarked, SharedMarks, agreesAt, shared}
 use Rattle.table.specs.Layout.{argOf, outOf}
 
@@ -32,7 +32,7 @@ shared-next {m} {n} {k} {f} {r} b h e =
     go p l false d = let ne = eqb-false p k d in
         getD-set-other f k p r 0 ne ∙ b .each p (omega arith)
 
-marked-bit : (b : Bool) → nonzero (bit b) ≡ b
+pub marked-bit : (b : Bool) → nonzero (bit b) ≡ b
 marked-bit true = refl
 marked-bit false = refl
 
@@ -49,8 +49,8 @@ pub record RowBelow (h : List ℕ) (p k : ℕ) (m m' : List ℕ) : Type 0 where
 pub row-start : (h : List ℕ) (p : ℕ) (m : List ℕ) → RowBelow h p 0 m m
 row-start h p m = record { size = refl; row = λ q l. absurd (omega arith); others = λ x y a b. refl }
 
-pub row-next : {h : List ℕ} {p k : ℕ} {m m' : List ℕ} {r : ℕ} → RowBelow h p k m m' → length m ≡ pairCount → p ≤ 255 →
-    k ≤ 255 → r ≡ bit (differs h p k) → RowBelow h p (k + 1) m (set m' (pairAt p k) r)
+pub row-next : {h : List ℕ} {p k : ℕ} {m m' : List ℕ} {r : ℕ} → RowBelow h p k m m' → length m ≡ pairCount →
+    p ≤ 255 → k ≤ 255 → r ≡ bit (differs h p k) → RowBelow h p (k + 1) m (set m' (pairAt p k) r)
 row-next {h} {p} {k} {m} {m'} {r} b size a l e = record {
   size = length-set m' (pairAt p k) r ∙ b .size;
   row = λ q d. go q d (eqb q k) refl;
@@ -58,8 +58,8 @@ row-next {h} {p} {k} {m} {m'} {r} b size a l e = record {
       getD-set-other m' (pairAt p k) (pairAt x y) r 0 (λ z. omega arith) ∙ b .others x y u v;
 }
   where
-    go : (q : ℕ) → q < k + 1 → (t : Bool) → eqb q k ≡ t → getD (set m' (pairAt p k) r) (pairAt p q) 0 ≡ bit (differs
-        h p q)
+    go : (q : ℕ) → q < k + 1 → (t : Bool) → eqb q k ≡ t → getD (set m' (pairAt p k) r) (pairAt p q) 0 ≡
+        bit (differs h p q)
     go q d true f = rw (eqb-true q k f) (getD-set-same m' (pairAt p k) r 0 (omega (arith, b .size, size)) ∙ e)
     go q d false f = let ne = eqb-false q k f in
         getD-set-other m' (pairAt p k) (pairAt p q) r 0 (λ z. ne (omega arith)) ∙ b .row q (omega arith)
@@ -78,11 +78,8 @@ rows-start h n m e = record { size = e; each = λ p q l d. absurd (omega arith) 
 
 pub rows-next : {h : List ℕ} {n k : ℕ} {m m' : List ℕ} → RowsBelow h n k m → n ≤ 255 → RowMarked h n k m m' →
     RowsBelow h n (k + 1) m'
-rows-next {h} {n} {k} {m} {m'} b few r = record {
-  size = r .size ∙ b .size;
-  each = λ p q l d. go p q l d (eqb p k)
-      refl;
-}
+rows-next {h} {n} {k} {m} {m'} b few r =
+    record { size = r .size ∙ b .size; each = λ p q l d. go p q l d (eqb p k) refl }
   where
     go : (p q : ℕ) → p < k + 1 → q ≤ n → (t : Bool) → eqb p k ≡ t → getD m' (pairAt p q) 0 ≡ bit (differs h p q)
     go p q l d true f = rw (eqb-true p k f) (r .row q d)
@@ -99,8 +96,8 @@ module _ (s : List ℕ) (c : ℕ) (h : ℕ → ℕ) (i k q : ℕ) {a : ℕ} (arg
   agrees-other d =
       let e : eqb (h q) (h (argOf s (transitionBytes * i) k)) ≡ false = ne-eqb _ _ (λ x. d (x ∙ ap h (sym arg))) in rw e
 
-  pub agrees-same : {o t : ℕ} → h q ≡ h a → o ≡ outOf s (transitionBytes * i) → t ≡ stepAt s c (transitionBytes * i)
-      k q →
+  pub agrees-same : {o t : ℕ} → h q ≡ h a → o ≡ outOf s (transitionBytes * i) → t ≡
+      stepAt s c (transitionBytes * i) k q →
       eqb (h t) (h o) ≡ agreesAt s c h i k q
   agrees-same d f g =
       let e : eqb (h q) (h (argOf s (transitionBytes * i) k)) ≡ true = eq-eqb _ _ (d ∙ ap h arg) in

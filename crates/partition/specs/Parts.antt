@@ -1,6 +1,6 @@
 -- States with one fingerprint are a part. Where replacing an argument by another state of its part never changes the
 -- part of the output, the parts are the classes of equivalent states.
-use mathlib.Core.Bool.{Bool, _&&_, _||_, false, not, true}
+use mathlib.Core.Bool.{Bool, _&&_, _||_, not}
 use mathlib.Core.List.{List}
 use mathlib.Core.Path.{_≡_}
 use Prim.Native.Nat.{_*_, _+_, _<_, _≤_, ℕ}

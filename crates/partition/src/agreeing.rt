@@ -40,6 +40,7 @@ fn agrees(
     prints[to] == prints[out]
 }
 
+// Transition i with each state of 0 to n for its argument k.
 fn all_agree_at(
     run: &[u8],
     count: usize,
@@ -90,6 +91,7 @@ fn place_agrees(
     all_agree_at(run, count, n, i, k, prints)
 }
 
+// Transition i at each place.
 fn transition_agrees(
     run: &[u8],
     count: usize,
@@ -116,7 +118,7 @@ fn transition_agrees(
     true
 }
 
-// Every transition at every place.
+// Every transition.
 pub fn all_agree(
     run: &[u8],
     count: usize,

@@ -1,6 +1,7 @@
-// Pairs of states told apart, from fingerprints: states with one fingerprint are a part, and where the parts pass an
-// exact test they are the classes of equivalent states. Where they do not pass in time, the pairs are marked one by
-// one (crate distinguish). `run` has `count` sorted transitions over the states 1 to n; 0, "no state", takes part.
+// Equivalent states from fingerprints: states with one fingerprint are a part, and where the parts pass an exact test
+// they are the classes of equivalent states. Where they do not pass in time, the pairs are marked one by one (crate
+// distinguish): a bad fingerprint costs time, never an answer. `run` has `count` sorted transitions over the states 1
+// to n; 0, "no state", takes part.
 mod alone; // states that are alone in their part
 mod agreeing; // the test
 mod rows; // a mark for each pair of different parts
@@ -9,6 +10,8 @@ ghost use mathlib.Core.Bool.{false, true};
 ghost use mathlib.Core.Path.{_≡_};
 ghost use Prim.Native.Nat.{_≤_};
 ghost use lib.ListN.{length};
+ghost use Rattle.automata.specs.Coaccessible.{allCoaccessible};
+ghost use Rattle.automata.specs.Distinguishable.{allDistinguishable};
 ghost use Rattle.automata.specs.Order.{rising};
 ghost use Rattle.distinguish.specs.Telling.{MarksOf, pairCount, unmarked};
 ghost use Rattle.fields.specs.Fields.{RunsOver};
@@ -16,17 +19,19 @@ ghost use Rattle.fields.specs.View.{Viewed, viewed};
 ghost use Rattle.fingerprints.specs.Fingerprints.{Sound, UsefulMarks, printOf};
 ghost use Rattle.sorted.specs.Sorted.{Sorted};
 ghost use Rattle.table.specs.Layout.{transitionsIn};
-ghost use Rattle.partition.specs.Parts.{Fingerprinted, PartsMarked, allAgree};
+ghost use Rattle.partition.specs.Parts.{Fingerprinted, allAgree};
 use agreeing::all_agree;
 use alone::shared_marks;
 use distinguish::PAIRS;
+use distinguish::all_distinguishable;
 use fingerprints::PRINT_COUNT;
+use fingerprints::all_differ;
 use fingerprints::round;
 use rows::mark_rows;
 use validity::useful;
 
-// Rounds times transitions, about.
-const WORK: usize = 65536;
+// Rounds times transitions, about: a table of 1,024 transitions may need a round for each of 200 states.
+const WORK: usize = 262144;
 
 // The coaccessible states, marked.
 fn useful_marks(classes: &[u8], run: &[u8], count: usize, n: usize) -> [u8; PRINT_COUNT]
@@ -63,28 +68,15 @@ fn rounds(
     prints
 }
 
-// Marks the pairs of different parts, where the parts pass the test.
-fn mark_parts(
-    run: &[u8],
-    count: usize,
-    n: usize,
-    prints: &[usize; PRINT_COUNT],
-    marks: &mut [u8; PAIRS],
-) -> bool
+// Whether the parts pass the test.
+fn parts_agree(run: &[u8], count: usize, n: usize, prints: &[usize; PRINT_COUNT]) -> bool
     requires { ⌜ Sorted (now run) count ⌝ }
     requires { ⌜ RunsOver (now run) count n ⌝ }
     requires { ⌜ n ≤ 255 ⌝ }
-    requires { ⌜ length (now marks) ≡ pairCount ⌝ }
-    ensures { λ r. ⌜ (r ≡ true → allAgree (now (run .entry)) count n (printOf (now (prints .entry))) ≡ true) ⌝ }
-    ensures { λ r. ⌜ (r ≡ true → PartsMarked (now (prints .entry)) n (now (marks .exit))) ⌝ }
-    ensures { λ r. ⌜ (r ≡ false → now (marks .exit) ≡ now (marks .entry)) ⌝ }
+    ensures { λ r. ⌜ r ≡ allAgree (now (run .entry)) count n (printOf (now (prints .entry))) ⌝ }
 {
-    let lone = shared_marks(prints, n);
-    if !all_agree(run, count, n, prints, &lone) {
-        return false;
-    }
-    mark_rows(prints, n, marks);
-    true
+    let shared = shared_marks(prints, n);
+    all_agree(run, count, n, prints, &shared)
 }
 
 // Rounds and tests in turn, each time twice as many rounds. Answers whether the marks are made.
@@ -98,8 +90,8 @@ fn told_by_parts(
     requires { ⌜ Viewed (now classes) (now run) n count ⌝ }
     requires { ⌜ rising (transitionsIn (now run) count) ≡ true ⌝ }
     requires { ⌜ length (now marks) ≡ pairCount ⌝ }
-    ensures { λ r. ⌜ (r ≡ true → MarksOf (now (marks .exit)) (viewed (now (classes .entry)) (now (run .entry)) n
-        count)) ⌝ }
+    ensures { λ r. ⌜ (r ≡ true →
+        MarksOf (now (marks .exit)) (viewed (now (classes .entry)) (now (run .entry)) n count)) ⌝ }
     ensures { λ r. ⌜ (r ≡ false → now (marks .exit) ≡ now (marks .entry)) ⌝ }
 {
     let useful = useful_marks(classes, run, count, n);
@@ -107,7 +99,8 @@ fn told_by_parts(
     let mut turns = 0;
     while turns < WORK / (count + 1) {
         prints = rounds(classes, run, count, n, &useful, turns, &prints);
-        if mark_parts(run, count, n, &prints, marks) {
+        if parts_agree(run, count, n, &prints) {
+            mark_rows(&prints, n, marks);
             return true;
         }
         turns = 2 * turns + 1;
@@ -126,4 +119,27 @@ pub fn distinguish(classes: &[u8], run: &[u8], count: usize, n: usize, marks: &m
         return;
     }
     distinguish::distinguish(classes, run, count, n, marks);
+}
+
+// Condition 12, where condition 10 holds, so that every state is useful: no two different states are equivalent.
+pub fn all_distinguishable_useful(classes: &[u8], run: &[u8], count: usize, n: usize) -> bool
+    requires { ⌜ Viewed (now classes) (now run) n count ⌝ }
+    requires { ⌜ rising (transitionsIn (now run) count) ≡ true ⌝ }
+    requires { ⌜ allCoaccessible (viewed (now classes) (now run) n count) ≡ true ⌝ }
+    ensures { λ r. ⌜ r ≡ allDistinguishable (viewed (now (classes .entry)) (now (run .entry)) n count) ⌝ }
+{
+    let useful = [1u8; PRINT_COUNT];
+    let mut prints = [0usize; PRINT_COUNT];
+    let mut turns = 0;
+    while turns < WORK / (count + 1) {
+        prints = rounds(classes, run, count, n, &useful, turns, &prints);
+        if all_differ(&prints, n) {
+            return true;
+        }
+        if parts_agree(run, count, n, &prints) {
+            return false;
+        }
+        turns = 2 * turns + 1;
+    }
+    all_distinguishable(classes, run, count, n)
 }

@@ -21,6 +21,7 @@ fn pair_mark(prints: &[usize; PRINT_COUNT], p: usize, q: usize) -> u8
     1
 }
 
+// The pairs of p.
 fn mark_row(prints: &[usize; PRINT_COUNT], n: usize, p: usize, marks: &mut [u8; PAIRS])
     requires { ⌜ n ≤ 255 ⌝ }
     requires { ⌜ p ≤ n ⌝ }
@@ -34,6 +35,7 @@ fn mark_row(prints: &[usize; PRINT_COUNT], n: usize, p: usize, marks: &mut [u8; 
     }
 }
 
+// The pairs of the states 0 to n.
 pub fn mark_rows(prints: &[usize; PRINT_COUNT], n: usize, marks: &mut [u8; PAIRS])
     requires { ⌜ n ≤ 255 ⌝ }
     requires { ⌜ length (now marks) ≡ pairCount ⌝ }

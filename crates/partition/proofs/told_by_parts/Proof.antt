@@ -2,8 +2,8 @@ use native.Mathlib.Nat.{div-le-self}
 use native.Mathlib.Omega.{arith}
 use lib.ListN.{length}
 use mathlib.Core.Bool.{false≢true, true≢false}
-use mathlib.Core.Path.{_≡_, _∙_, ap, refl}
-use Prim.Native.Nat.{_-_, _+_}
+use mathlib.Core.Path.{_≡_, _∙_, ap, refl, sym}
+use Prim.Native.Nat.{_+_, _-_}
 use Rattle.fields.specs.View.{viewed}
 use Rattle.fingerprints.specs.Fingerprints.{Sound, printOf}
 use Rattle.fingerprints.proofs.Equivalent.{sound-start}
@@ -17,7 +17,7 @@ Inv-loop classes run count n marks₀ useful prints₀ turns₀ marks prints tur
     (marks ≡ marks₀) × Sound (viewed classes run n count) (printOf prints)
 
 abbrev μ-loop : tie.MeasureT-loop
-μ-loop classes run count n marks₀ useful prints₀ turns₀ marks prints turns = 65536 - turns
+μ-loop classes run count n marks₀ useful prints₀ turns₀ marks prints turns = 262144 - turns
 
 useful-marks-requires : tie.Need-useful-marks-requires Inv-loop μ-loop
 useful-marks-requires c κs = search needs
@@ -43,58 +43,56 @@ rounds-requires c κs =
     let start = at-useful-marks .before .before .before in
     (start .pre .0, (start .pre .1 .0, (at-useful-marks .useful-marks .ensures, at-loop .loop .inv .1)))
 
-mark-parts-requires : tie.Need-mark-parts-requires Inv-loop μ-loop
-mark-parts-requires c κs =
-    let at-loop = c .before .before .before .before .before .before in
-    let start = at-loop .before .before .before .before in (
+parts-agree-requires : tie.Need-parts-agree-requires Inv-loop μ-loop
+parts-agree-requires c κs =
+    let start = c .before .before .before .before .before .before .before .before .before in (
       record { runs = start .pre .0 .over .runs; rises = start .pre .1 .0 },
       (
         start .pre .0 .over,
-        (
-          start .pre .0
-              .states,
-          ap length (at-loop .loop .inv .0) ∙ start .pre .1 .1,
-        ),
+        start .pre .0
+            .states,
       ),
     )
 
+mark-rows-requires : tie.Need-mark-rows-requires Inv-loop μ-loop
+mark-rows-requires c κs =
+    let at-loop = c .before .before .before .before .before .before .before .before .before in
+    let start = at-loop .before .before .before .before in
+    (start .pre .0 .states, ap length (at-loop .loop .inv .0) ∙ start .pre .1 .1)
+
 returns : tie.Need-returns Inv-loop μ-loop
 returns c =
-    let at-rounds = c .before .before .before .before in
+    let at-if1 = c .before .before .before in
+    let at-parts-agree = at-if1 .before in
+    let at-rounds = at-parts-agree .before .before in
     let start = at-rounds .before .before .before .before .before .before .before .before in (
       λ e. parts-marks (start .args .classes .now) (start .args .run .now) (start .args .n) (start .args .count)
-          (start .pre .0) (start .pre .1 .0) (at-rounds .rounds .result) (at-rounds .rounds .ensures) (c .before
-          .mark-parts .ensures .0 (c .if1 .taken)) (c .before .mark-parts .ensures .1 .0 (c .if1 .taken)),
+          (start .pre .0) (start .pre .1 .0) (at-rounds .rounds .result) (at-rounds .rounds .ensures) (sym
+          (at-parts-agree .parts-agree .ensures) ∙ at-if1 .if1 .taken) (c .mark-rows .ensures),
       λ e. absurd
           (true≢false e),
     )
 
 mul-turns : tie.Need-mul-turns Inv-loop μ-loop
 mul-turns c =
-    let start = c .before .before .before .before .before .before .before .before .before .before .before
-    .before in
-    omega (arith, div-le-self 65536 (start .args .count + 1))
+    let start = c .before .before .before .before .before .before .before .before .before .before .before in
+    omega (arith, div-le-self 262144 (start .args .count + 1))
 
 add-turns : tie.Need-add-turns Inv-loop μ-loop
 add-turns c =
-    let start = c .before .before .before .before .before .before .before .before .before .before .before
-    .before in
-    omega (arith, div-le-self 65536 (start .args .count + 1))
+    let start = c .before .before .before .before .before .before .before .before .before .before .before in
+    omega (arith, div-le-self 262144 (start .args .count + 1))
 
 loop-less : tie.Need-loop-less Inv-loop μ-loop
 loop-less c =
-    let start = c .before .before .before .before .before .before .before .before .before .before .before
-    .before in
-    omega (arith, div-le-self 65536 (start .args .count + 1))
+    let start = c .before .before .before .before .before .before .before .before .before .before .before in
+    omega (arith, div-le-self 262144 (start .args .count + 1))
 
 loop-again : tie.Need-loop-again Inv-loop μ-loop
 loop-again c =
-    let at-rounds = c .before .before .before .before in
-    let at-loop = at-rounds .before .before .before .before in (
-      c .before .mark-parts .ensures .1 .1 (c .if1 .left) ∙ at-loop .loop .inv .0,
-      at-rounds .rounds .ensures
-          .sound,
-    )
+    let at-rounds = c .before .before .before in
+    let at-loop = at-rounds .before .before .before .before in
+    (at-loop .loop .inv .0, at-rounds .rounds .ensures .sound)
 
 returns-2 : tie.Need-returns-2 Inv-loop μ-loop
 returns-2 c = (λ e. absurd (false≢true e), λ e. (c .before .loop) .inv .0)
@@ -110,7 +108,8 @@ told-by-parts-spec =
     add-loop
     div-loop
     rounds-requires
-    mark-parts-requires
+    parts-agree-requires
+    mark-rows-requires
     returns
     mul-turns
     add-turns
