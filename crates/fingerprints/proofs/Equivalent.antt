@@ -57,13 +57,13 @@ module _ (A : Automaton) (ranged : statesInRange A ≡ true) (rises : rising (A 
       (in-upFrom 0 (suc (states A)) q (omega arith) (omega arith))) e
 
   -- a slot that is used takes the state to the transition's output
-  used-step : (q : ℕ) (z : Slot) (u : Used (A .transitions) q z) → stepSlot A z q ≡ u .0 .out
+  pub used-step : (q : ℕ) (z : Slot) (u : Used (A .transitions) q z) → stepSlot A z q ≡ u .0 .out
   used-step q z (τ, i, (e, f)) =
       let n = none-zero (τ .args) (λ p j. ranged-transition A ranged τ i .args p j .0) in
       rw (e, ← f, n) (lookup-transition (A .transitions) rises τ i)
 
   -- states that a used slot takes to states told apart are told apart
-  by-use : (x : ℕ) (z : Slot) → Used (A .transitions) x z → (p q : ℕ) → p ≤ states A → q ≤ states A →
+  pub by-use : (x : ℕ) (z : Slot) → Used (A .transitions) x z → (p q : ℕ) → p ≤ states A → q ≤ states A →
       distinguishable A (stepSlot A z p) (stepSlot A z q) ≡ true → distinguishable A p q ≡ true
   by-use x z (τ, i, (e, f)) p q h l d =
       by-rule p q h l
@@ -73,7 +73,7 @@ module _ (A : Automaton) (ranged : statesInRange A ≡ true) (rises : rising (A 
       (slots (A .transitions)))
       (sym e) (in-slots (A .transitions) τ (z .before) x (z .after) i f)) d))
 
-  useless-zero : coaccessible A 0 ≡ false
+  pub useless-zero : coaccessible A 0 ≡ false
   useless-zero = go (coaccessible A 0) refl
     where
       go : (b : Bool) → coaccessible A 0 ≡ b → b ≡ false
@@ -128,10 +128,10 @@ module _ (A : Automaton) (ranged : statesInRange A ≡ true) (rises : rising (A 
       go (inr u) = taken u (coaccessible A (stepSlot A z q)) refl
 
   -- a useful state is told from a useless one
-  abbrev Told : ℕ → Type 0
+  abbrev pub Told : ℕ → Type 0
   Told x = (y : ℕ) → y ≤ states A → coaccessible A y ≡ false → distinguishable A x y ≡ true
 
-  useful-told : (q : ℕ) → coaccessible A q ≡ true → Told q
+  pub useful-told : (q : ℕ) → coaccessible A q ≡ true → Told q
   useful-told = closure-all eqb eqb-true eqb-same (coaccessibleRule A) (upFrom 1 (states A)) Told made
     where
       made : (m : ℕ → Bool) → ((j : ℕ) → m j ≡ true → Told j) → (k : ℕ) → k ∈ upFrom 1 (states A) →
@@ -164,7 +164,7 @@ module _ (A : Automaton) (ranged : statesInRange A ≡ true) (rises : rising (A 
           go (inr h) = used (any-in (λ τ. m (τ .out) && elem eqb k (τ .args)) (A .transitions) h)
 
   -- the uses that count, and what a slot gives to a state, h the fingerprints a round before
-  abbrev leadsOn : ℕ → Slot → Bool
+  abbrev pub leadsOn : ℕ → Slot → Bool
   leadsOn q z = coaccessible A (stepSlot A z q)
 
   abbrev stepValue : (ℕ → ℕ) → ℕ → Slot → ℕ
@@ -188,66 +188,70 @@ module _ (A : Automaton) (ranged : statesInRange A ≡ true) (rises : rising (A 
       here true = refl
       here false = sym (total-zero (places (τ .args) [] (τ .label) q))
 
-  abbrev usefulUses : ℕ → List Slot
+  abbrev pub usefulUses : ℕ → List Slot
   usefulUses q = filter (leadsOn q) (uses (A .transitions) q)
 
-  module _ (h : ℕ → ℕ) (sound : Sound A h) where
-    -- a useful use of p is one of q
-    use-too : (p q : ℕ) → p ≤ states A → q ≤ states A → (distinguishable A p q ≡ true → ⊥) → (z : Slot) →
-        z ∈ usefulUses p → z ∈ usefulUses q
-    use-too p q k l d z i = go (leadsOn q z) refl (step-view A (z .label) (z .before ++ (q ∷ z .after)))
-      where
-        f : (z ∈ uses (A .transitions) p) × (leadsOn p z ≡ true)
-        f = filter-in (leadsOn p) (uses (A .transitions) p) z i
+  -- a useful use of p is one of q
+  pub use-too : (p q : ℕ) → p ≤ states A → q ≤ states A → (distinguishable A p q ≡ true → ⊥) → (z : Slot) →
+      z ∈ usefulUses p → z ∈ usefulUses q
+  use-too p q k l d z i = go (leadsOn q z) refl (step-view A (z .label) (z .before ++ (q ∷ z .after)))
+    where
+      f : (z ∈ uses (A .transitions) p) × (leadsOn p z ≡ true)
+      f = filter-in (leadsOn p) (uses (A .transitions) p) z i
 
-        u : Used (A .transitions) p z
-        u = uses-in (A .transitions) p z (f .0)
+      u : Used (A .transitions) p z
+      u = uses-in (A .transitions) p z (f .0)
 
-        go : (b : Bool) → leadsOn q z ≡ b →
-            (stepSlot A z q ≡ 0) ⊎ Taken A (z .label) (z .before ++ (q ∷ z .after)) → z ∈ usefulUses q
-        go false e t =
-            absurd (d (by-use p z u p q k l
-            (useful-told (stepSlot A z p) (f .1) (stepSlot A z q)
-            (step-fits A fit (z .label) (z .before ++ (q ∷ z .after))) e)))
-        go true e (inl o) =
-            absurd (true≢false (sym (subst (λ (x : ℕ). coaccessible A x ≡ true) o e) ∙ useless-zero))
-        go true e (inr (n, (υ, j, a, b, o))) =
-            in-filter (leadsOn q) (uses (A .transitions) q) z (in-uses (A .transitions) q z (υ, j, (sym a, b))) e
+      go : (b : Bool) → leadsOn q z ≡ b →
+          (stepSlot A z q ≡ 0) ⊎ Taken A (z .label) (z .before ++ (q ∷ z .after)) → z ∈ usefulUses q
+      go false e t =
+          absurd (d (by-use p z u p q k l
+          (useful-told (stepSlot A z p) (f .1) (stepSlot A z q)
+          (step-fits A fit (z .label) (z .before ++ (q ∷ z .after))) e)))
+      go true e (inl o) =
+          absurd (true≢false (sym (subst (λ (x : ℕ). coaccessible A x ≡ true) o e) ∙ useless-zero))
+      go true e (inr (n, (υ, j, a, b, o))) =
+          in-filter (leadsOn q) (uses (A .transitions) q) z (in-uses (A .transitions) q z (υ, j, (sym a, b))) e
 
-    module _ (p q : ℕ) (k : p ≤ states A) (l : q ≤ states A) (d : distinguishable A p q ≡ true → ⊥) where
-      turned : distinguishable A q p ≡ true → ⊥
-      turned e = d (told-sym A q p e)
+  -- states that nothing tells apart, and whose uses lead to states with equal fingerprints
+  module _ (h : ℕ → ℕ) (p q : ℕ) (k : p ≤ states A) (l : q ≤ states A) (d : distinguishable A p q ≡ true → ⊥)
+      (near : (z : Slot) → z ∈ usefulUses p → h (stepSlot A z p) ≡ h (stepSlot A z q)) where
+    turned : distinguishable A q p ≡ true → ⊥
+    turned e = d (told-sym A q p e)
 
-      value-too : (z : Slot) → z ∈ usefulUses p → stepValue h p z ≡ stepValue h q z
-      value-too z i =
+    value-too : (z : Slot) → z ∈ usefulUses p → stepValue h p z ≡ stepValue h q z
+    value-too z i = ap (slotValue z) (near z i)
+
+    equal-gains : gains (A .transitions) (coaccessible A) h p ≡ gains (A .transitions) (coaccessible A) h q
+    equal-gains =
+        gains-uses h p (A .transitions) (λ τ i. i)
+        ∙ total-filter (leadsOn p) (stepValue h p) (uses (A .transitions) p)
+        ∙ total-same (usefulUses p) (stepValue h p) (stepValue h q) value-too
+        ∙ total-members (usefulUses p) (usefulUses q) (stepValue h q)
+        (filter-distinct (leadsOn p) (uses (A .transitions) p) (uses-distinct (A .transitions) p rises))
+        (filter-distinct (leadsOn q) (uses (A .transitions) q) (uses-distinct (A .transitions) q rises))
+        (use-too p q k l d) (use-too q p l k turned)
+        ∙ sym (total-filter (leadsOn q) (stepValue h q) (uses (A .transitions) q))
+        ∙ sym (gains-uses h q (A .transitions) (λ τ i. i))
+
+    equal-class : accepting A p ≡ accepting A q
+    equal-class = same-class (accepting A p) (accepting A q) (λ e. d (by-rule p q k l (or-left _ _ e)))
+
+    pub equal-fingerprint : fingerprint A h p ≡ fingerprint A h q
+    unfolding fingerprint
+    equal-fingerprint = ap₂ (λ (c : Bool) (g : ℕ). (bit c + g) % 2 ^ 64) equal-class equal-gains
+
+  pub round-sound : (h : ℕ → ℕ) → Sound A h → {m : List ℕ} → Round A h m → Sound A (printOf m)
+  round-sound h sound r = record {
+    equal = λ p q b e d. r .each p b ∙ equal-fingerprint h p q b e d (near p q b e d) ∙ sym (r .each q e);
+  }
+    where
+      near : (p q : ℕ) → p ≤ states A → q ≤ states A → (distinguishable A p q ≡ true → ⊥) → (z : Slot) →
+          z ∈ usefulUses p → h (stepSlot A z p) ≡ h (stepSlot A z q)
+      near p q k l d z i =
           let u = uses-in (A .transitions) p z (filter-in (leadsOn p) (uses (A .transitions) p) z i .0) in
-          ap (slotValue z)
-          (sound .equal (stepSlot A z p) (stepSlot A z q) (step-fits A fit (z .label) (z .before ++ (p ∷ z .after)))
-          (step-fits A fit (z .label) (z .before ++ (q ∷ z .after))) (λ e. d (by-use p z u p q k l e)))
-
-      equal-gains : gains (A .transitions) (coaccessible A) h p ≡ gains (A .transitions) (coaccessible A) h q
-      equal-gains =
-          gains-uses h p (A .transitions) (λ τ i. i)
-          ∙ total-filter (leadsOn p) (stepValue h p) (uses (A .transitions) p)
-          ∙ total-same (usefulUses p) (stepValue h p) (stepValue h q) value-too
-          ∙ total-members (usefulUses p) (usefulUses q) (stepValue h q)
-          (filter-distinct (leadsOn p) (uses (A .transitions) p) (uses-distinct (A .transitions) p rises))
-          (filter-distinct (leadsOn q) (uses (A .transitions) q) (uses-distinct (A .transitions) q rises))
-          (use-too p q k l d) (use-too q p l k turned)
-          ∙ sym (total-filter (leadsOn q) (stepValue h q) (uses (A .transitions) q))
-          ∙ sym (gains-uses h q (A .transitions) (λ τ i. i))
-
-      equal-class : accepting A p ≡ accepting A q
-      equal-class = same-class (accepting A p) (accepting A q) (λ e. d (by-rule p q k l (or-left _ _ e)))
-
-      equal-fingerprint : fingerprint A h p ≡ fingerprint A h q
-      unfolding fingerprint
-      equal-fingerprint = ap₂ (λ (c : Bool) (g : ℕ). (bit c + g) % 2 ^ 64) equal-class equal-gains
-
-    pub round-sound : {m : List ℕ} → Round A h m → Sound A (printOf m)
-    round-sound r = record {
-      equal = λ p q b e d. r .each p b ∙ equal-fingerprint p q b e d ∙ sym (r .each q e);
-    }
+          sound .equal (stepSlot A z p) (stepSlot A z q) (step-fits A fit (z .label) (z .before ++ (p ∷ z .after)))
+          (step-fits A fit (z .label) (z .before ++ (q ∷ z .after))) (λ e. d (by-use p z u p q k l e))
 
 -- at first all fingerprints are 0
 pub sound-start : (A : Automaton) (n : ℕ) → Sound A (printOf (replicate n 0))
@@ -269,28 +273,30 @@ all-useful A h e = record {
     one (suc k) zero l = refl
     one (suc k) (suc q) l = one k q (omega arith)
 
+-- different states differ
+module _ (m : List ℕ) (n : ℕ) (e : allDiffer m n ≡ true) where
+  above : (p q : ℕ) → 1 ≤ p → p < q → q ≤ n → printOf m p ≢ printOf m q
+  unfolding allDiffer
+  above p q a b c f =
+      let r = every-upFrom (differsAbove m n) 1 n e p a (omega arith) in
+      let d = every-upFrom (differs m p) (p + 1) (n - p) r q (omega arith) (omega arith) in
+      false≢true (sym (ap not (eq-eqb (printOf m p) (printOf m q) f)) ∙ d)
+
+  pub differ-apart : (p q : ℕ) → 1 ≤ p → p ≤ n → 1 ≤ q → q ≤ n → p ≢ q → printOf m p ≢ printOf m q
+  differ-apart p q a b c d k = go (ltb p q) refl
+    where
+      go : (t : Bool) → ltb p q ≡ t → printOf m p ≢ printOf m q
+      go true f = above p q a (ltb-true p q f) d
+      go false f = λ g. above q p c (omega (arith, ltb-false p q f)) b (sym g)
+
 -- states whose fingerprints all differ are told apart
 pub all-differ-told : (A : Automaton) (m : List ℕ) → Sound A (printOf m) → allDiffer m (states A) ≡ true →
     allDistinguishable A ≡ true
-unfolding allDiffer
 all-differ-told A m s e =
     upFrom-every (λ p. every (λ q. eqb p q || distinguishable A p q) (upFrom 1 (states A))) 1 (states A)
     (λ p a b. upFrom-every (λ q. eqb p q || distinguishable A p q) 1 (states A)
     (λ q c d. told p q a (omega arith) c (omega arith)))
   where
-    above : (p q : ℕ) → 1 ≤ p → p < q → q ≤ states A → printOf m p ≢ printOf m q
-    above p q a b c f =
-        let r = every-upFrom (differsAbove m (states A)) 1 (states A) e p a (omega arith) in
-        let d = every-upFrom (differs m p) (p + 1) (states A - p) r q (omega arith) (omega arith) in
-        false≢true (sym (ap not (eq-eqb (printOf m p) (printOf m q) f)) ∙ d)
-
-    apart : (p q : ℕ) → 1 ≤ p → p ≤ states A → 1 ≤ q → q ≤ states A → p ≢ q → printOf m p ≢ printOf m q
-    apart p q a b c d n = go (ltb p q) refl
-      where
-        go : (t : Bool) → ltb p q ≡ t → printOf m p ≢ printOf m q
-        go true f = above p q a (ltb-true p q f) d
-        go false f = λ g. above q p c (omega (arith, ltb-false p q f)) b (sym g)
-
     told : (p q : ℕ) → 1 ≤ p → p ≤ states A → 1 ≤ q → q ≤ states A → (eqb p q || distinguishable A p q) ≡ true
     told p q a b c d = go (eqb p q) (distinguishable A p q) refl refl
       where
@@ -298,4 +304,5 @@ all-differ-told A m s e =
         go true u f g = refl
         go false true f g = refl
         go false false f g =
-            absurd (apart p q a b c d (eqb-false p q f) (s .equal p q b d (λ w. false≢true (sym g ∙ w))))
+            absurd (differ-apart m (states A) e p q a b c d (eqb-false p q f)
+            (s .equal p q b d (λ w. false≢true (sym g ∙ w))))

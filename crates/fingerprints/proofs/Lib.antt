@@ -1,3 +1,4 @@
 pub mod Uses
 pub mod Equivalent
+pub mod OneRound
 pub mod Adding

@@ -10,6 +10,7 @@ ghost use mathlib.Core.Bool.{false, true};
 ghost use mathlib.Core.Path.{_≡_};
 ghost use Prim.Native.Nat.{_≤_};
 ghost use lib.ListN.{length};
+ghost use Rattle.automata.specs.Acyclic.{acyclic};
 ghost use Rattle.automata.specs.Coaccessible.{allCoaccessible};
 ghost use Rattle.automata.specs.Distinguishable.{allDistinguishable};
 ghost use Rattle.automata.specs.Order.{rising};
@@ -121,14 +122,31 @@ pub fn distinguish(classes: &[u8], run: &[u8], count: usize, n: usize, marks: &m
     distinguish::distinguish(classes, run, count, n, marks);
 }
 
-// Condition 12, where condition 10 holds, so that every state is useful: no two different states are equivalent.
+// Each state with its own number. Any fingerprints will do, so this has no contract; these are the ones that differ.
+fn numbers() -> [usize; PRINT_COUNT] {
+    let mut prints = [0usize; PRINT_COUNT];
+    let mut q = 0;
+    while q < PRINT_COUNT {
+        prints[q] = q;
+        q += 1;
+    }
+    prints
+}
+
+// Condition 12, where conditions 10 and 11 hold: no two different states are equivalent. Every state is useful, and
+// without loops one round from any fingerprints may show that all differ.
 pub fn all_distinguishable_useful(classes: &[u8], run: &[u8], count: usize, n: usize) -> bool
     requires { ⌜ Viewed (now classes) (now run) n count ⌝ }
     requires { ⌜ rising (transitionsIn (now run) count) ≡ true ⌝ }
     requires { ⌜ allCoaccessible (viewed (now classes) (now run) n count) ≡ true ⌝ }
+    requires { ⌜ acyclic (viewed (now classes) (now run) n count) ≡ true ⌝ }
     ensures { λ r. ⌜ r ≡ allDistinguishable (viewed (now (classes .entry)) (now (run .entry)) n count) ⌝ }
 {
     let useful = [1u8; PRINT_COUNT];
+    let first = round(classes, run, count, n, &useful, &numbers());
+    if all_differ(&first, n) {
+        return true;
+    }
     let mut prints = [0usize; PRINT_COUNT];
     let mut turns = 0;
     while turns < WORK / (count + 1) {

@@ -50,8 +50,16 @@ all-distinguishable-useful-requires : tie.Need-all-distinguishable-useful-requir
 all-distinguishable-useful-requires c κs =
     let at-if2 = c .before .before in
     let at-all-coaccessible = at-if2 .before in
-    let start = at-all-coaccessible .before .before .before .before .before .before in
-    (start .pre .0, (start .pre .1, kept (at-all-coaccessible .all-coaccessible .ensures) (at-if2 .if2 .left)))
+    let start = at-all-coaccessible .before .before .before .before .before .before in (
+      start .pre .0,
+      (
+        start .pre .1,
+        (
+          kept (at-all-coaccessible .all-coaccessible .ensures) (at-if2 .if2 .left),
+          kept (c .before .acyclic .ensures (start .args .classes .now)) (c .if3 .left),
+        ),
+      ),
+    )
 
 returns-4 : tie.Need-returns-4
 returns-4 c =
