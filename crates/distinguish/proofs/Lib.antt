@@ -1,3 +1,4 @@
+pub mod Slots
 pub mod Symmetry
 pub mod Closing
 pub mod Marking

@@ -22,7 +22,7 @@ use Rattle.table.specs.Layout.{argOf, arityOf, labelOf, outOf, transitionAt, tr
 use Rattle.validity.specs.Rules.{Has}
 use Rattle.validity.specs.Spread.{Covers, Rule, Spread}
 use Rattle.automata.proofs.Steps.{step-zero}
-use Rattle.distinguish.proofs.Closing.{args-around}
+use Rattle.distinguish.proofs.Slots.{args-around}
 use Rattle.lists.proofs.Tests.{and-left, and-right, append-in, in-append-left, in-append-right, none-zero, or-cases}
 use Rattle.lists.proofs.Tests.{or-left, or-right}
 use Rattle.marking.proofs.Sweeps.{nonzero-false, nonzero-true, swept-closed, swept-then}

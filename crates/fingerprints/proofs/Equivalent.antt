@@ -1,27 +1,26 @@
 -- States that nothing tells apart have one fingerprint. They have the same uses that lead to coaccessible states: what
 -- such a use leads to is told from 0 and from useless states, so the other state cannot lack it.
-use mathlib.Core.Bool.{Bool, Bool·beq, _&&_, _||_, cond, false, false≢true, not, true, true≢false}
+use mathlib.Core.Bool.{Bool, Bool·beq, _&&_, _||_, cond, false, not, true, true≢false}
 use mathlib.Core.List.{List, [], _++_, _∷_}
 use mathlib.Core.Logic.{_≢_, _⊎_, inl, inr}
 use mathlib.Core.Path.{_∙_, _≡_, ap, ap₂, refl, subst, sym}
-use Prim.Native.Nat.{_%_, _+_, _-_, _<_, _^_, _≤_, suc, zero, ℕ}
+use Prim.Native.Nat.{_%_, _+_, _-_, _^_, _≤_, suc, zero, ℕ}
 use native.Mathlib.Omega.{arith}
-use lib.Dec.{eqb, ltb}
-use lib.ListN.{getD, replicate}
-use borrow.Author.Tests.{eq-eqb, eqb-false, eqb-true, ltb-false, ltb-true}
+use lib.Dec.{eqb}
+use borrow.Author.Tests.{eqb-true}
 use Rattle.automata.specs.Automaton.{Automaton, Transition, accepting, states}
-use Rattle.automata.specs.Coaccessible.{allCoaccessible, coaccessible, coaccessibleRule}
-use Rattle.automata.specs.Distinguishable.{Slot, allDistinguishable, distinguishable, distinguishablePairs}
+use Rattle.automata.specs.Coaccessible.{coaccessible, coaccessibleRule}
+use Rattle.automata.specs.Distinguishable.{Slot, distinguishable, distinguishablePairs}
 use Rattle.automata.specs.Distinguishable.{distinguishableRule, pairs, slots, stepSlot}
 use Rattle.automata.specs.Order.{rising}
 use Rattle.automata.specs.Valid.{statesInRange}
-use Rattle.fingerprints.specs.Fingerprints.{Round, Sound, UsefulMarks, allDiffer, differs, differsAbove}
+use Rattle.fingerprints.specs.Fingerprints.{Round, Sound}
 use Rattle.fingerprints.specs.Fingerprints.{fingerprint, gain}
 use Rattle.fingerprints.specs.Fingerprints.{gains, places, printOf, slotValue, total, valueAt}
 use Rattle.lists.specs.Closure.{closure, elem}
 use Rattle.lists.specs.Positions.{eqPair, upFrom}
-use Rattle.lists.specs.Tests.{_∈_, any, every, filter}
-use Rattle.marking.specs.Marks.{bit, marked}
+use Rattle.lists.specs.Tests.{_∈_, any, filter}
+use Rattle.marking.specs.Marks.{bit}
 use Rattle.automata.proofs.Distinguishable.{in-slots, step-fits}
 use Rattle.automata.proofs.Order.{lookup-transition}
 use Rattle.automata.proofs.Steps.{Fits, Taken, step-view}
@@ -32,7 +31,6 @@ use Rattle.fingerprints.proofs.Uses.{total-same, total-zero, uses}
 use Rattle.fingerprints.proofs.Uses.{uses-distinct, uses-in}
 use Rattle.lists.proofs.Closure.{closed, closure-all, closure-fixed, elem-in, in-elem}
 use Rattle.lists.proofs.Distinct.{filter-distinct}
-use Rattle.lists.proofs.Intervals.{every-upFrom, upFrom-every}
 use Rattle.lists.proofs.Positions.{eqPair-same, eqPair-true, in-grid, in-upFrom, upFrom-in}
 use Rattle.lists.proofs.Tests.{and-both, and-left, and-right, any-in, eqb-same, filter-in, in-any, in-append-right}
 use Rattle.lists.proofs.Tests.{in-filter, in-split, none-zero, or-cases, or-left}
@@ -252,57 +250,3 @@ module _ (A : Automaton) (ranged : statesInRange A ≡ true) (rises : rising (A 
           let u = uses-in (A .transitions) p z (filter-in (leadsOn p) (uses (A .transitions) p) z i .0) in
           sound .equal (stepSlot A z p) (stepSlot A z q) (step-fits A fit (z .label) (z .before ++ (p ∷ z .after)))
           (step-fits A fit (z .label) (z .before ++ (q ∷ z .after))) (λ e. d (by-use p z u p q k l e))
-
--- at first all fingerprints are 0
-pub sound-start : (A : Automaton) (n : ℕ) → Sound A (printOf (replicate n 0))
-sound-start A n = record { equal = λ p q b e d. none n p ∙ sym (none n q) }
-  where
-    none : (k q : ℕ) → _≡_ {A = ℕ} (getD (replicate k 0) q 0) 0
-    none zero q = refl
-    none (suc k) zero = refl
-    none (suc k) (suc q) = none k q
-
--- where every state is coaccessible all marks are right
-pub all-useful : (A : Automaton) → states A ≤ 255 → allCoaccessible A ≡ true → UsefulMarks A (replicate 256 1)
-all-useful A h e = record {
-  each = λ q a b. one 256 q (omega arith) ∙ sym (every-upFrom (coaccessible A) 1 (states A) e q a (omega arith));
-}
-  where
-    one : (k q : ℕ) → q < k → marked (replicate k 1) q ≡ true
-    one zero q l = absurd (omega arith)
-    one (suc k) zero l = refl
-    one (suc k) (suc q) l = one k q (omega arith)
-
--- different states differ
-module _ (m : List ℕ) (n : ℕ) (e : allDiffer m n ≡ true) where
-  above : (p q : ℕ) → 1 ≤ p → p < q → q ≤ n → printOf m p ≢ printOf m q
-  unfolding allDiffer
-  above p q a b c f =
-      let r = every-upFrom (differsAbove m n) 1 n e p a (omega arith) in
-      let d = every-upFrom (differs m p) (p + 1) (n - p) r q (omega arith) (omega arith) in
-      false≢true (sym (ap not (eq-eqb (printOf m p) (printOf m q) f)) ∙ d)
-
-  pub differ-apart : (p q : ℕ) → 1 ≤ p → p ≤ n → 1 ≤ q → q ≤ n → p ≢ q → printOf m p ≢ printOf m q
-  differ-apart p q a b c d k = go (ltb p q) refl
-    where
-      go : (t : Bool) → ltb p q ≡ t → printOf m p ≢ printOf m q
-      go true f = above p q a (ltb-true p q f) d
-      go false f = λ g. above q p c (omega (arith, ltb-false p q f)) b (sym g)
-
--- states whose fingerprints all differ are told apart
-pub all-differ-told : (A : Automaton) (m : List ℕ) → Sound A (printOf m) → allDiffer m (states A) ≡ true →
-    allDistinguishable A ≡ true
-all-differ-told A m s e =
-    upFrom-every (λ p. every (λ q. eqb p q || distinguishable A p q) (upFrom 1 (states A))) 1 (states A)
-    (λ p a b. upFrom-every (λ q. eqb p q || distinguishable A p q) 1 (states A)
-    (λ q c d. told p q a (omega arith) c (omega arith)))
-  where
-    told : (p q : ℕ) → 1 ≤ p → p ≤ states A → 1 ≤ q → q ≤ states A → (eqb p q || distinguishable A p q) ≡ true
-    told p q a b c d = go (eqb p q) (distinguishable A p q) refl refl
-      where
-        go : (t u : Bool) → eqb p q ≡ t → distinguishable A p q ≡ u → (t || u) ≡ true
-        go true u f g = refl
-        go false true f g = refl
-        go false false f g =
-            absurd (differ-apart m (states A) e p q a b c d (eqb-false p q f)
-            (s .equal p q b d (λ w. false≢true (sym g ∙ w))))

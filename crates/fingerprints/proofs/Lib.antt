@@ -1,4 +1,5 @@
 pub mod Uses
 pub mod Equivalent
+pub mod Told
 pub mod OneRound
 pub mod Adding

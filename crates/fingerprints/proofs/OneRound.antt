@@ -21,8 +21,9 @@ use Rattle.lists.specs.Tests.{_∈_, filter}
 use Rattle.automata.proofs.Leads.{Feeds, Leads, acyclic-iff, leads-iff, more, once}
 use Rattle.automata.proofs.Valid.{ranged-transition}
 use Rattle.distinguish.proofs.Symmetry.{told-sym}
-use Rattle.fingerprints.proofs.Equivalent.{all-differ-told, by-use, differ-apart, equal-fingerprint, leadsOn}
-use Rattle.fingerprints.proofs.Equivalent.{use-too, used-step, useful-told, usefulUses, useless-zero}
+use Rattle.fingerprints.proofs.Equivalent.{by-use, equal-fingerprint, leadsOn, use-too, used-step}
+use Rattle.fingerprints.proofs.Equivalent.{useful-told, usefulUses, useless-zero}
+use Rattle.fingerprints.proofs.Told.{all-differ-told, differ-apart}
 use Rattle.fingerprints.proofs.Uses.{uses, uses-in}
 use Rattle.lists.proofs.Intervals.{every-upFrom}
 use Rattle.lists.proofs.Positions.{in-upFrom}

@@ -29,7 +29,8 @@ use Rattle.partition.specs.Parts.{allAgree, besides}
 use Rattle.table.specs.Layout.{argOf, arityOf, outOf, transitionsIn}
 use Rattle.automata.proofs.Steps.{Taken, step-view}
 use Rattle.distinguish.proofs.Closing.{own-step, taken-through}
-use Rattle.fingerprints.proofs.Equivalent.{all-differ-told, round-sound}
+use Rattle.fingerprints.proofs.Equivalent.{round-sound}
+use Rattle.fingerprints.proofs.Told.{all-differ-told}
 use Rattle.lists.proofs.Closure.{closure-all}
 use Rattle.lists.proofs.Distinct.{grid-in}
 use Rattle.lists.proofs.Intervals.{every-upFrom, upFrom-every}

@@ -4,7 +4,7 @@ use mathlib.Core.Path.{_∙_, ap, sym}
 use Prim.Native.Nat.{_+_, _-_}
 use Rattle.fields.specs.View.{viewed}
 use Rattle.fingerprints.specs.Fingerprints.{Sound, allDiffer, printOf}
-use Rattle.fingerprints.proofs.Equivalent.{all-differ-told, all-useful, sound-start}
+use Rattle.fingerprints.proofs.Told.{all-differ-told, all-useful, sound-start}
 use Rattle.fingerprints.proofs.OneRound.{one-round}
 use Rattle.partition.proofs.Congruence.{parts-exact}
 use Rattle.validity.proofs.Views.{viewed-ranged, viewed-states}

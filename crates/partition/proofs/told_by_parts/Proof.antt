@@ -6,7 +6,7 @@ use mathlib.Core.Path.{_≡_, _∙_, ap, refl, sym}
 use Prim.Native.Nat.{_+_, _-_}
 use Rattle.fields.specs.View.{viewed}
 use Rattle.fingerprints.specs.Fingerprints.{Sound, printOf}
-use Rattle.fingerprints.proofs.Equivalent.{sound-start}
+use Rattle.fingerprints.proofs.Told.{sound-start}
 use Rattle.partition.proofs.Congruence.{parts-marks}
 use borrow.Author.Needs.{needs}
 use Rattle.partition.proofs.told_by_parts.Statement.{statement}
