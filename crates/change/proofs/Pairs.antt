@@ -9,9 +9,10 @@ use lib.Dec.{eqb}
 use lib.ListN.{getD, length, length-replicate, length-set, replicate, set}
 use lib.Seq.{getD-set-other, getD-set-same}
 use borrow.Author.Tests.{eq-eqb, eqb-false, eqb-true, le-leb, lt-leb, ne-eqb}
-use Rattle.change.specs.Classes.{Classed, nameCount, pairClass}
+use Rattle.change.specs.Classes.{Classed, pairClass}
 use Rattle.products.specs.Pairs.{stateOf}
 use Rattle.table.specs.Layout.{classAt}
+use Rattle.format.specs.Format.{byteValues}
 
 -- ---- the state and the class of a number
 
@@ -40,15 +41,15 @@ module _ (b : List ℕ) (n : ℕ) (q : List ℕ) (own : ℕ) (inserting : Bool) 
 
 -- the classes below p are there
 pub record ClassedBelow (f : ℕ → Bool) (cl : List ℕ) (p : ℕ) : Type 0 where
-  pub size : length cl ≡ nameCount
+  pub size : length cl ≡ byteValues
   pub class : (i : ℕ) → 1 ≤ i → i < p → classAt cl i ≡ f i
 
 module _ {f : ℕ → Bool} where
-  pub classed-start : ClassedBelow f (replicate nameCount 0) 1
+  pub classed-start : ClassedBelow f (replicate byteValues 0) 1
   classed-start =
-      record { size = length-replicate {A = ℕ} nameCount 0; class = λ i h l. absurd (omega arith) }
+      record { size = length-replicate {A = ℕ} byteValues 0; class = λ i h l. absurd (omega arith) }
 
-  pub classed-next : {cl : List ℕ} {p : ℕ} → ClassedBelow f cl p → p < nameCount → (x : ℕ) → eqb x 1 ≡ f p →
+  pub classed-next : {cl : List ℕ} {p : ℕ} → ClassedBelow f cl p → p < byteValues → (x : ℕ) → eqb x 1 ≡ f p →
       ClassedBelow f (set cl p x) (p + 1)
   classed-next {cl} {p} inv h x e = record {
     size = length-set cl p x ∙ inv .size;

@@ -7,10 +7,7 @@ use lib.Dec.{eqb}
 use lib.ListN.{length}
 use Rattle.products.specs.Pairs.{stateOf}
 use Rattle.table.specs.Layout.{classAt}
-
--- an entry for each number that a byte can have
-abbrev pub nameCount : ℕ
-nameCount = 256
+use Rattle.format.specs.Format.{byteValues}
 
 -- the class that a table has for a state; no state is not accepting
 abbrev pub classIn : List ℕ → ℕ → Bool
@@ -23,5 +20,5 @@ pairClass b n q own inserting p = cond (eqb p own) inserting (classIn b (stateOf
 
 -- cl has the classes of the pairs 1 to k
 pub record Classed (f : ℕ → Bool) (k : ℕ) (cl : List ℕ) : Type 0 where
-  pub size : length cl ≡ nameCount
+  pub size : length cl ≡ byteValues
   pub class : (p : ℕ) → 1 ≤ p → p ≤ k → classAt cl p ≡ f p

@@ -6,11 +6,9 @@ ghost use lib.ListN.{length};
 ghost use Rattle.format.specs.Format.{maxNodes, maxStates, tableBytes};
 ghost use Rattle.products.specs.Pairs.{stateOf};
 ghost use Rattle.change.specs.Classes.{Classed, pairClass};
-use fields::wide;
+use format::BYTE_VALUES;
 use format::MAX_NODES;
-
-// An entry for each number that a byte can have.
-pub const NAMES: usize = 256;
+use format::wide;
 
 // The state of the pair with number p.
 fn state_of(n: usize, states: &[u8; MAX_NODES], p: usize) -> u8
@@ -66,13 +64,13 @@ pub fn pair_classes(
     states: &[u8; MAX_NODES],
     own: usize,
     inserting: bool,
-) -> [u8; NAMES]
+) -> [u8; BYTE_VALUES]
     requires { ⌜ length (now table) ≡ tableBytes ⌝ }
     requires { ⌜ n ≤ maxStates ⌝ }
     requires { ⌜ m ≤ maxNodes ⌝ }
     ensures { λ r. ⌜ Classed (pairClass (now (table .entry)) n (now (states .entry)) own inserting) (n + m) r ⌝ }
 {
-    let mut classes = [0u8; NAMES];
+    let mut classes = [0u8; BYTE_VALUES];
     let mut p = 1;
     while p <= n + m {
         classes[p] = class_of(table, n, states, own, inserting, p);

@@ -17,8 +17,8 @@ ghost use Rattle.change.specs.Changing.{Worked, changeOf, changedOutcome
 use classes::pair_classes;
 use distinguish::blank;
 use fields::transition_count;
-use fields::wide;
 use format::HEAD_BYTES;
+use format::wide;
 use minimize::write::Made;
 use minimize::write::write;
 use partition::distinguish;

@@ -10,11 +10,11 @@ use lib.ListN.{getD, length, length-replicate, replicate, set}
 use lib.Seq.{getD-set-other, getD-set-same}
 use borrow.Author.Tests.{eq-eqb, eqb-false, eqb-true, ne-eqb, not-false, not-true}
 use Rattle.automata.specs.Automaton.{Automaton, accepting, lookup}
-use Rattle.distinguish.specs.Telling.{Led, Copied, Seed, Tell, eitherWay, pairAt, pairCount, slotAt, stepAt}
+use Rattle.distinguish.specs.Telling.{Led, Copied, Seed, Tell, eitherWay, pairAt, slotAt, stepAt}
 use Rattle.distinguish.specs.Telling.{Led, toldApart, unmarked}
 use Rattle.fields.specs.Fields.{RunsOver}
 use Rattle.fields.specs.View.{viewed}
-use Rattle.format.specs.Format.{argsAt, maxArity, transitionBytes}
+use Rattle.format.specs.Format.{argsAt, bytePairs, maxArity, transitionBytes}
 use Rattle.lists.specs.Positions.{upFrom}
 use Rattle.lists.specs.Tests.{_∈_, any}
 use Rattle.marking.specs.Marks.{marked, nonzero}
@@ -59,7 +59,7 @@ told-other m p q e = rw (ne-eqb p q e) (unequal-marked (getD m (pairAt p q) 0))
 pub mark-old : (m : List ℕ) (i : ℕ) → getD m i 0 ≢ 0 → Spread (Has i) m m false
 mark-old m i e = spread-none (nonzero-true (getD m i 0) e)
 
-pub mark-new : (m : List ℕ) (i : ℕ) → length m ≡ pairCount → i < pairCount → getD m i 0 ≡ 0 →
+pub mark-new : (m : List ℕ) (i : ℕ) → length m ≡ bytePairs → i < bytePairs → getD m i 0 ≡ 0 →
     Spread (Has i) m (set m i 1) true
 mark-new m i size h e = spread-mark i (omega arith) (nonzero-false (getD m i 0) e) (λ p c w. c)
 
@@ -108,14 +108,14 @@ tell-new s c at k q {m} e t u = record {
 -- ---- marks that grow within the pairs that are told apart
 
 pub record Grown (p : ℕ → Bool) (m : List ℕ) : Type 0 where
-  pub size : length m ≡ pairCount
+  pub size : length m ≡ bytePairs
   pub within : Covers p m
 
 pub grown-none : {p : ℕ → Bool} (m : List ℕ) → m ≡ unmarked → Grown p m
 unfolding unmarked
 grown-none m e = record {
-  size = ap length e ∙ length-replicate {A = ℕ} pairCount 0;
-  within = λ i d. absurd (false≢true (sym (replicate-unmarked pairCount i) ∙ sym (ap (λ (k : List ℕ). marked k i) e)
+  size = ap length e ∙ length-replicate {A = ℕ} bytePairs 0;
+  within = λ i d. absurd (false≢true (sym (replicate-unmarked bytePairs i) ∙ sym (ap (λ (k : List ℕ). marked k i) e)
       ∙ d));
 }
   where

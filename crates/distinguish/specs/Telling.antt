@@ -9,22 +9,19 @@ use lib.ListN.{getD, length, replicate}
 use Rattle.automata.specs.Automaton.{Automaton, accepting, states}
 use Rattle.automata.specs.Distinguishable.{Slot, distinguishable, stepSlot}
 use Rattle.fields.specs.View.{viewed}
-use Rattle.format.specs.Format.{transitionBytes}
+use Rattle.format.specs.Format.{bytePairs, byteValues, transitionBytes}
 use Rattle.lists.specs.Positions.{upFrom}
 use Rattle.lists.specs.Tests.{every}
 use Rattle.marking.specs.Marks.{marked, marks}
 use Rattle.table.specs.Layout.{argOf, arityOf, labelOf, outOf}
 use Rattle.validity.specs.Spread.{Covers, Rule, UpTo}
 
-abbrev pub pairCount : ℕ
-pairCount = 65536
-
 abbrev pub pairAt : ℕ → ℕ → ℕ
-pairAt p q = 256 * p + q
+pairAt p q = byteValues * p + q
 
 -- no pair is marked
 unfoldable pub unmarked : List ℕ
-unmarked = replicate pairCount 0
+unmarked = replicate bytePairs 0
 
 -- the transition that starts at a byte, with argument k left out
 abbrev pub slotAt : List ℕ → ℕ → ℕ → Slot

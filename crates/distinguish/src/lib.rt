@@ -18,7 +18,8 @@ ghost use Rattle.lists.specs.Positions.{upFrom};
 ghost use Rattle.lists.specs.Tests.{every};
 ghost use Rattle.table.specs.Layout.{transitionsIn};
 ghost use Rattle.distinguish.specs.Telling.{MarksOf, allToldApart, toldApart, unmarked};
-pub use marks::PAIRS;
+use format::BYTE_PAIRS;
+use format::BYTE_VALUES;
 pub use marks::blank;
 use ordering::tell_in_order;
 use seeds::seed_all;
@@ -26,7 +27,7 @@ pub use steps::stepped;
 use telling::sweep;
 
 // Marks the pairs of states that are told apart.
-pub fn distinguish(classes: &[u8], run: &[u8], count: usize, n: usize, marks: &mut [u8; PAIRS])
+pub fn distinguish(classes: &[u8], run: &[u8], count: usize, n: usize, marks: &mut [u8; BYTE_PAIRS])
     requires { ⌜ Viewed (now classes) (now run) n count ⌝ }
     requires { ⌜ rising (transitionsIn (now run) count) ≡ true ⌝ }
     requires { ⌜ now marks ≡ unmarked ⌝ }
@@ -38,7 +39,7 @@ pub fn distinguish(classes: &[u8], run: &[u8], count: usize, n: usize, marks: &m
 }
 
 // Whether p is told apart from each other state of 1 to n.
-fn told_from(marks: &[u8; PAIRS], n: usize, p: usize) -> bool
+fn told_from(marks: &[u8; BYTE_PAIRS], n: usize, p: usize) -> bool
     requires { ⌜ n ≤ 255 ⌝ }
     requires { ⌜ p ≤ 255 ⌝ }
     ensures { λ r. ⌜ r ≡ every (toldApart (now (marks .entry)) p) (upFrom 1 n) ⌝ }
@@ -54,7 +55,7 @@ fn told_from(marks: &[u8; PAIRS], n: usize, p: usize) -> bool
 }
 
 // Whether p is told apart from q, or is q.
-fn told(marks: &[u8; PAIRS], p: usize, q: usize) -> bool
+fn told(marks: &[u8; BYTE_PAIRS], p: usize, q: usize) -> bool
     requires { ⌜ p ≤ 255 ⌝ }
     requires { ⌜ q ≤ 255 ⌝ }
     ensures { λ r. ⌜ r ≡ toldApart (now (marks .entry)) p q ⌝ }
@@ -62,11 +63,11 @@ fn told(marks: &[u8; PAIRS], p: usize, q: usize) -> bool
     if p == q {
         return true;
     }
-    marks[256 * p + q] != 0
+    marks[BYTE_VALUES * p + q] != 0
 }
 
 // Whether each two states of 1 to n are told apart.
-fn all_told(marks: &[u8; PAIRS], n: usize) -> bool
+fn all_told(marks: &[u8; BYTE_PAIRS], n: usize) -> bool
     requires { ⌜ n ≤ 255 ⌝ }
     ensures { λ r. ⌜ r ≡ allToldApart (now (marks .entry)) n ⌝ }
 {

@@ -6,21 +6,22 @@ ghost use lib.ListN.{length};
 ghost use Rattle.marking.specs.Marks.{marked};
 ghost use Rattle.validity.specs.Rules.{Has};
 ghost use Rattle.validity.specs.Spread.{Spread};
-ghost use Rattle.distinguish.specs.Telling.{eitherWay, pairAt, pairCount, unmarked};
-
-pub const PAIRS: usize = 65536;
+ghost use Rattle.distinguish.specs.Telling.{eitherWay, pairAt, unmarked};
+ghost use Rattle.format.specs.Format.{bytePairs};
+use format::BYTE_PAIRS;
+use format::BYTE_VALUES;
 
 // No pair is marked.
-pub fn blank() -> [u8; PAIRS]
+pub fn blank() -> [u8; BYTE_PAIRS]
     ensures { λ r. ⌜ r ≡ unmarked ⌝ }
 {
-    [0u8; PAIRS]
+    [0u8; BYTE_PAIRS]
 }
 
 // Marks an entry. Answers whether the mark is new.
-pub fn mark(marks: &mut [u8; PAIRS], at: usize) -> bool
-    requires { ⌜ length (now marks) ≡ pairCount ⌝ }
-    requires { ⌜ at < pairCount ⌝ }
+pub fn mark(marks: &mut [u8; BYTE_PAIRS], at: usize) -> bool
+    requires { ⌜ length (now marks) ≡ bytePairs ⌝ }
+    requires { ⌜ at < bytePairs ⌝ }
     ensures { λ r. ⌜ Spread (Has at) (now (marks .entry)) (now (marks .exit)) r ⌝ }
 {
     if marks[at] != 0 {
@@ -31,25 +32,25 @@ pub fn mark(marks: &mut [u8; PAIRS], at: usize) -> bool
 }
 
 // Whether two states are marked both ways.
-pub fn both_marked(marks: &[u8; PAIRS], x: usize, y: usize) -> bool
+pub fn both_marked(marks: &[u8; BYTE_PAIRS], x: usize, y: usize) -> bool
     requires { ⌜ x ≤ 255 ⌝ }
     requires { ⌜ y ≤ 255 ⌝ }
     ensures { λ r. ⌜ r ≡ (marked (now (marks .entry)) (pairAt x y) && marked (now (marks .entry)) (pairAt y x)) ⌝ }
 {
-    if marks[256 * x + y] == 0 {
+    if marks[BYTE_VALUES * x + y] == 0 {
         return false;
     }
-    marks[256 * y + x] != 0
+    marks[BYTE_VALUES * y + x] != 0
 }
 
 // Whether two states are marked one way or the other.
-pub fn either_marked(marks: &[u8; PAIRS], x: usize, y: usize) -> bool
+pub fn either_marked(marks: &[u8; BYTE_PAIRS], x: usize, y: usize) -> bool
     requires { ⌜ x ≤ 255 ⌝ }
     requires { ⌜ y ≤ 255 ⌝ }
     ensures { λ r. ⌜ r ≡ eitherWay (marked (now (marks .entry))) x y ⌝ }
 {
-    if marks[256 * x + y] != 0 {
+    if marks[BYTE_VALUES * x + y] != 0 {
         return true;
     }
-    marks[256 * y + x] != 0
+    marks[BYTE_VALUES * y + x] != 0
 }

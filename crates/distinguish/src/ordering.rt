@@ -6,20 +6,22 @@ ghost use lib.ListN.{length};
 ghost use Rattle.fields.specs.Fields.{RunsOver};
 ghost use Rattle.sorted.specs.Sorted.{Sorted};
 ghost use Rattle.validity.specs.Spread.{UpTo};
-ghost use Rattle.distinguish.specs.Telling.{Led, nthTell, pairCount};
-use crate::marks::PAIRS;
+ghost use Rattle.distinguish.specs.Telling.{Led, nthTell};
+ghost use Rattle.format.specs.Format.{bytePairs, byteValues};
 use crate::telling::tell_at;
-use fields::wide;
 use format::ARGS_AT;
+use format::BYTE_PAIRS;
+use format::BYTE_VALUES;
 use format::OUT_AT;
 use format::TRANSITION_BYTES;
+use format::wide;
 
 // State a is deeper than out. Answers whether its depth has grown.
-fn put_below(depths: &mut [u8; 256], a: usize, out: usize) -> bool
+fn put_below(depths: &mut [u8; BYTE_VALUES], a: usize, out: usize) -> bool
     requires { ⌜ a ≤ 255 ⌝ }
     requires { ⌜ out ≤ 255 ⌝ }
-    requires { ⌜ length (now depths) ≡ 256 ⌝ }
-    ensures { λ _. ⌜ length (now (depths .exit)) ≡ 256 ⌝ }
+    requires { ⌜ length (now depths) ≡ byteValues ⌝ }
+    ensures { λ _. ⌜ length (now (depths .exit)) ≡ byteValues ⌝ }
 {
     let depth = depths[out];
     if 254 < depth {
@@ -33,12 +35,12 @@ fn put_below(depths: &mut [u8; 256], a: usize, out: usize) -> bool
 }
 
 // Each argument of transition i is deeper than its output. Answers whether a depth has grown.
-fn deepen(run: &[u8], count: usize, n: usize, i: usize, depths: &mut [u8; 256]) -> bool
+fn deepen(run: &[u8], count: usize, n: usize, i: usize, depths: &mut [u8; BYTE_VALUES]) -> bool
     requires { ⌜ RunsOver (now run) count n ⌝ }
     requires { ⌜ n ≤ 255 ⌝ }
     requires { ⌜ i < count ⌝ }
-    requires { ⌜ length (now depths) ≡ 256 ⌝ }
-    ensures { λ _. ⌜ length (now (depths .exit)) ≡ 256 ⌝ }
+    requires { ⌜ length (now depths) ≡ byteValues ⌝ }
+    ensures { λ _. ⌜ length (now (depths .exit)) ≡ byteValues ⌝ }
 {
     let arity = wide(run[TRANSITION_BYTES * i + ARGS_AT - 1]);
     let out = wide(run[TRANSITION_BYTES * i + OUT_AT]);
@@ -53,11 +55,11 @@ fn deepen(run: &[u8], count: usize, n: usize, i: usize, depths: &mut [u8; 256]) 
     changed
 }
 
-fn deepen_all(run: &[u8], count: usize, n: usize, depths: &mut [u8; 256]) -> bool
+fn deepen_all(run: &[u8], count: usize, n: usize, depths: &mut [u8; BYTE_VALUES]) -> bool
     requires { ⌜ RunsOver (now run) count n ⌝ }
     requires { ⌜ n ≤ 255 ⌝ }
-    requires { ⌜ length (now depths) ≡ 256 ⌝ }
-    ensures { λ _. ⌜ length (now (depths .exit)) ≡ 256 ⌝ }
+    requires { ⌜ length (now depths) ≡ byteValues ⌝ }
+    ensures { λ _. ⌜ length (now (depths .exit)) ≡ byteValues ⌝ }
 {
     let mut changed = false;
     let mut i = 0;
@@ -74,16 +76,16 @@ fn tell_there(
     run: &[u8],
     count: usize,
     n: usize,
-    depths: &[u8; 256],
+    depths: &[u8; BYTE_VALUES],
     depth: usize,
     i: usize,
-    marks: &mut [u8; PAIRS],
+    marks: &mut [u8; BYTE_PAIRS],
 )
     requires { ⌜ Sorted (now run) count ⌝ }
     requires { ⌜ RunsOver (now run) count n ⌝ }
     requires { ⌜ n ≤ 255 ⌝ }
     requires { ⌜ i < count ⌝ }
-    requires { ⌜ length (now marks) ≡ pairCount ⌝ }
+    requires { ⌜ length (now marks) ≡ bytePairs ⌝ }
     ensures { λ _. ⌜ Led (nthTell (now (run .entry)) count n i) (now (marks .entry)) (now (marks .exit)) ⌝ }
 {
     let out = wide(run[TRANSITION_BYTES * i + OUT_AT]);
@@ -98,14 +100,14 @@ fn tell_level(
     run: &[u8],
     count: usize,
     n: usize,
-    depths: &[u8; 256],
+    depths: &[u8; BYTE_VALUES],
     depth: usize,
-    marks: &mut [u8; PAIRS],
+    marks: &mut [u8; BYTE_PAIRS],
 )
     requires { ⌜ Sorted (now run) count ⌝ }
     requires { ⌜ RunsOver (now run) count n ⌝ }
     requires { ⌜ n ≤ 255 ⌝ }
-    requires { ⌜ length (now marks) ≡ pairCount ⌝ }
+    requires { ⌜ length (now marks) ≡ bytePairs ⌝ }
     ensures { λ _. ⌜ Led (UpTo (nthTell (now (run .entry)) count n) count) (now (marks .entry)) (now (marks .exit)) ⌝ }
 {
     let mut i = 0;
@@ -116,29 +118,35 @@ fn tell_level(
 }
 
 // All transitions, the least depth first.
-fn tell_levels(run: &[u8], count: usize, n: usize, depths: &[u8; 256], marks: &mut [u8; PAIRS])
+fn tell_levels(
+    run: &[u8],
+    count: usize,
+    n: usize,
+    depths: &[u8; BYTE_VALUES],
+    marks: &mut [u8; BYTE_PAIRS],
+)
     requires { ⌜ Sorted (now run) count ⌝ }
     requires { ⌜ RunsOver (now run) count n ⌝ }
     requires { ⌜ n ≤ 255 ⌝ }
-    requires { ⌜ length (now marks) ≡ pairCount ⌝ }
+    requires { ⌜ length (now marks) ≡ bytePairs ⌝ }
     ensures { λ _. ⌜ Led (UpTo (nthTell (now (run .entry)) count n) count) (now (marks .entry)) (now (marks .exit)) ⌝ }
 {
     let mut depth = 0;
-    while depth < 256 {
+    while depth < BYTE_VALUES {
         tell_level(run, count, n, depths, depth, marks);
         depth += 1;
     }
 }
 
 // Twice: the first time also tells every state from none, which may tell apart pairs that came too early.
-pub fn tell_in_order(run: &[u8], count: usize, n: usize, marks: &mut [u8; PAIRS])
+pub fn tell_in_order(run: &[u8], count: usize, n: usize, marks: &mut [u8; BYTE_PAIRS])
     requires { ⌜ Sorted (now run) count ⌝ }
     requires { ⌜ RunsOver (now run) count n ⌝ }
     requires { ⌜ n ≤ 255 ⌝ }
-    requires { ⌜ length (now marks) ≡ pairCount ⌝ }
+    requires { ⌜ length (now marks) ≡ bytePairs ⌝ }
     ensures { λ _. ⌜ Led (UpTo (nthTell (now (run .entry)) count n) count) (now (marks .entry)) (now (marks .exit)) ⌝ }
 {
-    let mut depths = [0u8; 256];
+    let mut depths = [0u8; BYTE_VALUES];
     let mut turn = 0;
     while turn < n {
         if !deepen_all(run, count, n, &mut depths) {

@@ -6,9 +6,11 @@ ghost use lib.ListN.{length};
 ghost use Rattle.automata.specs.Automaton.{accepting};
 ghost use Rattle.fields.specs.View.{viewed};
 ghost use Rattle.validity.specs.Spread.{Spread, UpTo};
-ghost use Rattle.distinguish.specs.Telling.{Seed, SeedRow, pairCount};
-use crate::marks::PAIRS;
+ghost use Rattle.distinguish.specs.Telling.{Seed, SeedRow};
+ghost use Rattle.format.specs.Format.{bytePairs};
 use crate::marks::mark;
+use format::BYTE_PAIRS;
+use format::BYTE_VALUES;
 
 // The class of a state; 0 is not accepting.
 fn class_of(classes: &[u8], n: usize, q: usize) -> bool
@@ -22,12 +24,12 @@ fn class_of(classes: &[u8], n: usize, q: usize) -> bool
     classes[q] == 1
 }
 
-fn seed(classes: &[u8], n: usize, p: usize, q: usize, marks: &mut [u8; PAIRS]) -> bool
+fn seed(classes: &[u8], n: usize, p: usize, q: usize, marks: &mut [u8; BYTE_PAIRS]) -> bool
     requires { ⌜ n < length (now classes) ⌝ }
     requires { ⌜ n ≤ 255 ⌝ }
     requires { ⌜ p ≤ n ⌝ }
     requires { ⌜ q ≤ n ⌝ }
-    requires { ⌜ length (now marks) ≡ pairCount ⌝ }
+    requires { ⌜ length (now marks) ≡ bytePairs ⌝ }
     ensures { λ r. ⌜ Spread (Seed (viewed (now (classes .entry)) [] n 0) p q) (now (marks .entry)) (now (marks
         .exit)) r ⌝ }
 {
@@ -36,14 +38,14 @@ fn seed(classes: &[u8], n: usize, p: usize, q: usize, marks: &mut [u8; PAIRS]) -
     if a == b {
         return false;
     }
-    mark(marks, 256 * p + q)
+    mark(marks, BYTE_VALUES * p + q)
 }
 
-fn seed_row(classes: &[u8], n: usize, p: usize, marks: &mut [u8; PAIRS]) -> bool
+fn seed_row(classes: &[u8], n: usize, p: usize, marks: &mut [u8; BYTE_PAIRS]) -> bool
     requires { ⌜ n < length (now classes) ⌝ }
     requires { ⌜ n ≤ 255 ⌝ }
     requires { ⌜ p ≤ n ⌝ }
-    requires { ⌜ length (now marks) ≡ pairCount ⌝ }
+    requires { ⌜ length (now marks) ≡ bytePairs ⌝ }
     ensures { λ r. ⌜ Spread (SeedRow (viewed (now (classes .entry)) [] n 0) n p) (now (marks .entry)) (now (marks
         .exit)) r ⌝ }
 {
@@ -58,10 +60,10 @@ fn seed_row(classes: &[u8], n: usize, p: usize, marks: &mut [u8; PAIRS]) -> bool
 }
 
 // Marks the pairs of different classes. Answers whether a mark is new.
-pub fn seed_all(classes: &[u8], n: usize, marks: &mut [u8; PAIRS]) -> bool
+pub fn seed_all(classes: &[u8], n: usize, marks: &mut [u8; BYTE_PAIRS]) -> bool
     requires { ⌜ n < length (now classes) ⌝ }
     requires { ⌜ n ≤ 255 ⌝ }
-    requires { ⌜ length (now marks) ≡ pairCount ⌝ }
+    requires { ⌜ length (now marks) ≡ bytePairs ⌝ }
     ensures { λ r. ⌜ Spread (UpTo (SeedRow (viewed (now (classes .entry)) [] n 0) n) (n + 1)) (now (marks .entry))
         (now (marks .exit)) r ⌝ }
 {

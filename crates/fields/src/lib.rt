@@ -14,6 +14,7 @@ ghost use Rattle.table.specs.Layout.{argFits, classFits, layoutFits, nthFits, t
 ghost use Rattle.table.specs.Layout.{transitionFits, transitionsIn, zeroAt};
 ghost use Rattle.fields.specs.Fields.{Readable, Runs, firstArgs, foundState, isFound};
 use format::ARGS_AT;
+use format::ARITY_AT;
 use format::COUNT_AT;
 use format::HEAD_BYTES;
 use format::MAX_ARITY;
@@ -21,21 +22,12 @@ use format::MAX_STATES;
 use format::MAX_TRANSITIONS;
 use format::OUT_AT;
 use format::TRANSITION_BYTES;
-
-// The arity stands right before the arguments.
-const ARITY_AT: usize = ARGS_AT - 1;
+use format::wide;
 
 // What a search answers: the output of the transition that it found, if any.
 pub enum Found {
     State(u8),
     Nothing,
-}
-
-// A byte as an index or a count.
-pub fn wide(x: u8) -> usize
-    ensures { λ r. ⌜ r ≡ x ⌝ }
-{
-    x as usize
 }
 
 // The number of transitions of a table.

@@ -16,9 +16,9 @@ use Rattle.fields.specs.Fields.{RunsOver}
 use Rattle.fields.specs.View.{viewed}
 use Rattle.fingerprints.specs.Fingerprints.{ClassPrints, Gained, Prints, Round, UsefulMarks, cubed, fingerprint}
 use Rattle.fingerprints.specs.Fingerprints.{folded, gain, usefulGain}
-use Rattle.fingerprints.specs.Fingerprints.{gains, mixed, only, packed, places, prime, printCount, printOf}
+use Rattle.fingerprints.specs.Fingerprints.{gains, mixed, only, packed, places, prime, printOf}
 use Rattle.fingerprints.specs.Fingerprints.{salted, slotValue, total, valueAt}
-use Rattle.format.specs.Format.{transitionBytes}
+use Rattle.format.specs.Format.{byteValues, transitionBytes}
 use Rattle.lists.specs.Positions.{upFrom}
 use Rattle.lists.specs.Tests.{_∈_}
 use Rattle.marking.specs.Marks.{bit, marked}
@@ -236,9 +236,9 @@ pub record ClassBelow (cl : List ℕ) (q : ℕ) (m : List ℕ) : Type 0 where
   pub none : printOf m 0 ≡ 0
   pub each : (p : ℕ) → 1 ≤ p → p < q → printOf m p ≡ bit (classAt cl p)
 
-pub class-start : (cl : List ℕ) → ClassBelow cl 1 (replicate printCount 0)
+pub class-start : (cl : List ℕ) → ClassBelow cl 1 (replicate byteValues 0)
 class-start cl = record {
-  prints = record { size = length-replicate {A = ℕ} printCount 0; small = λ q. zeros printCount q };
+  prints = record { size = length-replicate {A = ℕ} byteValues 0; small = λ q. zeros byteValues q };
   none = refl;
   each = λ p h l. absurd (omega arith);
 }

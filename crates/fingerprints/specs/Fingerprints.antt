@@ -15,6 +15,7 @@ use Rattle.lists.specs.Positions.{upFrom}
 use Rattle.lists.specs.Tests.{every}
 use Rattle.marking.specs.Marks.{bit, marked}
 use Rattle.table.specs.Layout.{classAt}
+use Rattle.format.specs.Format.{byteValues}
 
 -- ---- the numbers
 
@@ -84,15 +85,11 @@ fingerprint A h q = (bit (accepting A q) + gains (A .transitions) (coaccessible 
 
 -- ---- tables of fingerprints
 
--- an entry for each value of a byte
-abbrev pub printCount : ℕ
-printCount = 256
-
 abbrev pub printOf : List ℕ → ℕ → ℕ
 printOf m q = getD m q 0
 
 pub record Prints (m : List ℕ) : Type 0 where
-  pub size : length m ≡ printCount
+  pub size : length m ≡ byteValues
   pub small : (q : ℕ) → printOf m q < 2 ^ 64
 
 -- m' has what m has and what g gives

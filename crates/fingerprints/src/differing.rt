@@ -2,10 +2,10 @@
 ghost use mathlib.Core.Path.{_≡_};
 ghost use Prim.Native.Nat.{_≤_};
 ghost use Rattle.fingerprints.specs.Fingerprints.{allDiffer, differsAbove};
-use crate::rounds::PRINT_COUNT;
+use format::BYTE_VALUES;
 
 // Whether p's fingerprint differs from those of the states above it.
-fn differs_above(prints: &[usize; PRINT_COUNT], n: usize, p: usize) -> bool
+fn differs_above(prints: &[usize; BYTE_VALUES], n: usize, p: usize) -> bool
     requires { ⌜ n ≤ 255 ⌝ }
     requires { ⌜ p ≤ n ⌝ }
     ensures { λ r. ⌜ r ≡ differsAbove (now (prints .entry)) n p ⌝ }
@@ -22,7 +22,7 @@ fn differs_above(prints: &[usize; PRINT_COUNT], n: usize, p: usize) -> bool
 }
 
 // Whether each two differ.
-pub fn all_differ(prints: &[usize; PRINT_COUNT], n: usize) -> bool
+pub fn all_differ(prints: &[usize; BYTE_VALUES], n: usize) -> bool
     requires { ⌜ n ≤ 255 ⌝ }
     ensures { λ r. ⌜ r ≡ allDiffer (now (prints .entry)) n ⌝ }
 {

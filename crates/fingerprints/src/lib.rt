@@ -6,5 +6,4 @@ mod rounds; // the fingerprints of all states, from those before
 mod differing; // whether all differ
 
 pub use differing::all_differ;
-pub use rounds::PRINT_COUNT;
 pub use rounds::round;

@@ -13,15 +13,14 @@ use crate::values::fold;
 use crate::values::packed_args;
 use crate::values::salt;
 use crate::values::value;
-use fields::wide;
 use format::ARGS_AT;
+use format::BYTE_VALUES;
 use format::OUT_AT;
 use format::TRANSITION_BYTES;
-
-pub const PRINT_COUNT: usize = 256;
+use format::wide;
 
 // State q gains v.
-fn add(prints: &mut [usize; PRINT_COUNT], q: usize, v: usize)
+fn add(prints: &mut [usize; BYTE_VALUES], q: usize, v: usize)
     requires { ⌜ Prints (now prints) ⌝ }
     requires { ⌜ q ≤ 255 ⌝ }
     ensures { λ _. ⌜ Gained (only q v) (now (prints .entry)) (now (prints .exit)) ⌝ }
@@ -37,7 +36,7 @@ fn add_uses(
     n: usize,
     i: usize,
     x: usize,
-    prints: &mut [usize; PRINT_COUNT],
+    prints: &mut [usize; BYTE_VALUES],
 )
     requires { ⌜ RunsOver (now run) count n ⌝ }
     requires { ⌜ n ≤ 255 ⌝ }
@@ -65,9 +64,9 @@ fn add_useful(
     count: usize,
     n: usize,
     i: usize,
-    useful: &[u8; PRINT_COUNT],
-    seen: &[usize; PRINT_COUNT],
-    prints: &mut [usize; PRINT_COUNT],
+    useful: &[u8; BYTE_VALUES],
+    seen: &[usize; BYTE_VALUES],
+    prints: &mut [usize; BYTE_VALUES],
 )
     requires { ⌜ RunsOver (now run) count n ⌝ }
     requires { ⌜ n ≤ 255 ⌝ }
@@ -88,9 +87,9 @@ fn add_all_uses(
     run: &[u8],
     count: usize,
     n: usize,
-    useful: &[u8; PRINT_COUNT],
-    seen: &[usize; PRINT_COUNT],
-    prints: &mut [usize; PRINT_COUNT],
+    useful: &[u8; BYTE_VALUES],
+    seen: &[usize; BYTE_VALUES],
+    prints: &mut [usize; BYTE_VALUES],
 )
     requires { ⌜ RunsOver (now run) count n ⌝ }
     requires { ⌜ n ≤ 255 ⌝ }
@@ -117,12 +116,12 @@ fn class_print(classes: &[u8], q: usize) -> usize
 }
 
 // What fingerprints start from.
-fn class_prints(classes: &[u8], n: usize) -> [usize; PRINT_COUNT]
+fn class_prints(classes: &[u8], n: usize) -> [usize; BYTE_VALUES]
     requires { ⌜ n < length (now classes) ⌝ }
     requires { ⌜ n ≤ 255 ⌝ }
     ensures { λ r. ⌜ ClassPrints (now (classes .entry)) n r ⌝ }
 {
-    let mut prints = [0usize; PRINT_COUNT];
+    let mut prints = [0usize; BYTE_VALUES];
     let mut q = 1;
     while q < n + 1 {
         prints[q] = class_print(classes, q);
@@ -137,9 +136,9 @@ pub fn round(
     run: &[u8],
     count: usize,
     n: usize,
-    useful: &[u8; PRINT_COUNT],
-    seen: &[usize; PRINT_COUNT],
-) -> [usize; PRINT_COUNT]
+    useful: &[u8; BYTE_VALUES],
+    seen: &[usize; BYTE_VALUES],
+) -> [usize; BYTE_VALUES]
     requires { ⌜ Viewed (now classes) (now run) n count ⌝ }
     requires { ⌜ UsefulMarks (viewed (now classes) (now run) n count) (now useful) ⌝ }
     ensures { λ r. ⌜ Round (viewed (now (classes .entry)) (now (run .entry)) n count)

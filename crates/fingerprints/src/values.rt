@@ -5,8 +5,8 @@ ghost use Prim.Native.Nat.{_%_, _*_, _+_, _<_, _≤_};
 ghost use Rattle.fields.specs.Fields.{Readable};
 ghost use Rattle.table.specs.Layout.{transitionAt};
 ghost use Rattle.fingerprints.specs.Fingerprints.{cubed, folded, mixed, packed, prime, salted};
-use fields::wide;
 use format::ARGS_AT;
+use format::wide;
 
 pub const PRIME: usize = 2147483629;
 

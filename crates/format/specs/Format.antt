@@ -39,8 +39,11 @@ abbrev pub headBytes : ℕ
 headBytes = maxStates + 3
 
 -- a transition has its label, the number of its arguments, the arguments and its output
+abbrev pub arityAt : ℕ
+arityAt = labelBytes
+
 abbrev pub argsAt : ℕ
-argsAt = labelBytes + 1
+argsAt = arityAt + 1
 
 abbrev pub outAt : ℕ
 outAt = argsAt + maxArity
@@ -69,6 +72,14 @@ maxLineNodes = 126
 abbrev pub listingBytes : ℕ
 listingBytes = nodeBytes * maxLineNodes
 
+-- the values of a byte: a list with an entry for each has every byte, and so every state, as a position
+abbrev pub byteValues : ℕ
+byteValues = 256
+
+-- the same for two bytes
+abbrev pub bytePairs : ℕ
+bytePairs = byteValues * byteValues
+
 -- what a slice of bytes holds
 abbrev pub AllBytes : List ℕ → Type 0
-AllBytes s = (i : ℕ) → getD s i 0 < 256
+AllBytes s = (i : ℕ) → getD s i 0 < byteValues

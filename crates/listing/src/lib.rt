@@ -3,19 +3,11 @@
 ghost use mathlib.Core.Path.{_≡_};
 ghost use Rattle.trees.specs.Listing.{wholeNodes, allLabelled, allNarrow, oneTree, listingRefusal};
 ghost use Rattle.listing.specs.Measure.{measured};
+use format::LABEL_BYTES;
 use format::MAX_ARITY;
 use format::MAX_LISTING;
 use format::NODE_BYTES;
-
-// A node's label comes before its child count.
-const LABEL_BYTES: usize = 1;
-
-// A byte as a number to count and to index with.
-pub fn wide(x: u8) -> usize
-    ensures { λ r. ⌜ r ≡ x ⌝ }
-{
-    x as usize
-}
+use format::wide;
 
 // What a reader finds: the number of bytes that it read, or that the slice does not start with what it looks for.
 pub enum Read {

@@ -13,6 +13,7 @@ use Rattle.minimize.specs.declared.write.Made.{Made}
 use Rattle.minimize.specs.declared.write.Made.the-variants.{Table, TooBig}
 use Rattle.table.specs.Intake.{fitsTable}
 use Rattle.table.specs.Layout.{encode, transitionsIn}
+use Rattle.format.specs.Format.{byteValues}
 
 -- what minimising a run needs: states with classes, transitions in their order, and the marks of the pairs of
 -- states that some context tells apart
@@ -20,7 +21,7 @@ pub record Minimizable (classes run : List ℕ) (n count : ℕ) (m : List ℕ) :
   pub view : Viewed classes run n count
   pub rises : rising (transitionsIn run count) ≡ true
   pub marks : (p q : ℕ) → p ≤ n → q ≤ n →
-      marked m (256 * p + q) ≡ distinguishable (viewed classes run n count) p q
+      marked m (byteValues * p + q) ≡ distinguishable (viewed classes run n count) p q
 
 -- the numbers of states and of transitions, or that a table cannot hold so many (01, refusal 17)
 abbrev pub madeOf : Automaton → Made

@@ -9,7 +9,7 @@ use lib.ListN.{getD, length, replicate}
 use Rattle.automata.specs.Automaton.{Transition}
 use Rattle.automata.specs.Minimal.{first}
 use Rattle.automata.specs.Renumber.{renumberBy}
-use Rattle.format.specs.Format.{transitionBytes}
+use Rattle.format.specs.Format.{byteValues, transitionBytes}
 use Rattle.lists.specs.Positions.{upFrom}
 use Rattle.lists.specs.Tests.{filter}
 use Rattle.marking.specs.Marks.{marked}
@@ -25,7 +25,7 @@ nameIn names q = getD names q 0
 
 -- p and q are not marked
 abbrev pub unmarked : List ℕ → ℕ → ℕ → Bool
-unmarked m p q = not (marked m (256 * p + q))
+unmarked m p q = not (marked m (byteValues * p + q))
 
 -- the first of 0 to n that is not marked with p
 unfoldable pub chosen : List ℕ → ℕ → ℕ → ℕ
@@ -33,7 +33,7 @@ chosen m n p = first (unmarked m p) (upFrom 0 (suc n))
 
 -- the names of 0 to n are what f says
 pub record Named (names : List ℕ) (f : ℕ → ℕ) (n : ℕ) : Type 0 where
-  pub size : length names ≡ 256
+  pub size : length names ≡ byteValues
   pub named : (p : ℕ) → p ≤ n → nameIn names p ≡ f p
 
 -- the bytes of a transition

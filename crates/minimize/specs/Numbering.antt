@@ -9,7 +9,7 @@ use lib.ListN.{length, take}
 use Rattle.automata.specs.Automaton.{Transition}
 use Rattle.automata.specs.Order.{precedes}
 use Rattle.automata.specs.Renumber.{numberOf, numbering, ready, renumber}
-use Rattle.format.specs.Format.{transitionBytes}
+use Rattle.format.specs.Format.{byteValues, transitionBytes}
 use Rattle.lists.specs.Tests.{every}
 use Rattle.marking.specs.Marks.{marked}
 use Rattle.minimize.specs.Merged.{nameIn}
@@ -43,7 +43,7 @@ Outputs s n = (i : ℕ) → i < n → 1 ≤ outOf s (transitionBytes * i)
 
 -- the first k of an order are the states by their numbers, and a table has their numbers
 pub record Numbered (Q : List Transition) (order numbers : List ℕ) (k : ℕ) : Type 0 where
-  pub few : k < 256
-  pub size : length order ≡ 256
+  pub few : k < byteValues
+  pub size : length order ≡ byteValues
   pub states : take k order ≡ numbering Q
   pub numbered : NumbersOf numbers (numbering Q)

@@ -5,40 +5,34 @@ ghost use Prim.Native.Nat.{_*_, _+_, _<_, _≤_};
 ghost use lib.ListN.{length};
 ghost use Rattle.automata.specs.Renumber.{renumberBy};
 ghost use Rattle.fields.specs.Fields.{Readable, Runs, RunsOver};
-ghost use Rattle.format.specs.Format.{transitionBytes};
+ghost use Rattle.format.specs.Format.{byteValues, transitionBytes};
 ghost use Rattle.sorted.specs.Sorted.{Written};
 ghost use Rattle.table.specs.Layout.{transitionAt, transitionsIn};
 ghost use Rattle.minimize.specs.Merged.{Named, chosen, entryOf, mergedBy, nameIn, zeros};
-use fields::wide;
 use format::ARGS_AT;
+use format::ARITY_AT;
+use format::BYTE_PAIRS;
+use format::BYTE_VALUES;
 use format::OUT_AT;
 use format::TRANSITION_BYTES;
-
-// The arity stands right before the arguments.
-const ARITY_AT: usize = ARGS_AT - 1;
-
-// Names for states, one for each byte.
-pub const NAMES: usize = 256;
-
-// A mark for each pair of states.
-pub const PAIRS: usize = NAMES * NAMES;
+use format::wide;
 
 // No names. A function of its own, so that no other proof computes with so many bytes.
-pub fn no_names() -> [u8; NAMES]
-    ensures { λ r. ⌜ r ≡ zeros 256 ⌝ }
+pub fn no_names() -> [u8; BYTE_VALUES]
+    ensures { λ r. ⌜ r ≡ zeros byteValues ⌝ }
 {
-    [0u8; NAMES]
+    [0u8; BYTE_VALUES]
 }
 
 // The first of 0 to n that is not marked with p; 0 where each is.
-fn choose(marks: &[u8; PAIRS], n: usize, p: usize) -> u8
-    requires { ⌜ n < 256 ⌝ }
-    requires { ⌜ p < 256 ⌝ }
+fn choose(marks: &[u8; BYTE_PAIRS], n: usize, p: usize) -> u8
+    requires { ⌜ n < byteValues ⌝ }
+    requires { ⌜ p < byteValues ⌝ }
     ensures { λ r. ⌜ r ≡ chosen (now (marks .entry)) n p ⌝ }
 {
     let mut q = 0;
     while q <= n {
-        if marks[NAMES * p + q] == 0 {
+        if marks[BYTE_VALUES * p + q] == 0 {
             return q as u8;
         }
         q += 1;
@@ -47,9 +41,9 @@ fn choose(marks: &[u8; PAIRS], n: usize, p: usize) -> u8
 }
 
 // The representatives of 0 to n.
-pub fn representatives(marks: &[u8; PAIRS], n: usize, names: &mut [u8; NAMES])
-    requires { ⌜ n < 256 ⌝ }
-    requires { ⌜ length (now names) ≡ 256 ⌝ }
+pub fn representatives(marks: &[u8; BYTE_PAIRS], n: usize, names: &mut [u8; BYTE_VALUES])
+    requires { ⌜ n < byteValues ⌝ }
+    requires { ⌜ length (now names) ≡ byteValues ⌝ }
     ensures { λ _. ⌜ Named (now (names .exit)) (chosen (now (marks .entry)) n) n ⌝ }
 {
     let mut p = 0;
@@ -60,7 +54,7 @@ pub fn representatives(marks: &[u8; PAIRS], n: usize, names: &mut [u8; NAMES])
 }
 
 // The bytes of a transition whose states have other names.
-pub fn renamed(run: &[u8], at: usize, names: &[u8; NAMES]) -> [u8; TRANSITION_BYTES]
+pub fn renamed(run: &[u8], at: usize, names: &[u8; BYTE_VALUES]) -> [u8; TRANSITION_BYTES]
     requires { ⌜ Readable (now run) at ⌝ }
     ensures { λ r. ⌜ r ≡ entryOf (renumberBy (nameIn (now (names .entry))) (transitionAt (now (run .entry)) at)) ⌝ }
 {
@@ -92,7 +86,7 @@ pub fn put(run: &mut [u8], at: usize, entry: [u8; TRANSITION_BYTES])
 }
 
 // Renames the states of a run, and leaves out the transitions whose output is then 0: how many stay.
-pub fn merge(run: &mut [u8], count: usize, names: &[u8; NAMES]) -> usize
+pub fn merge(run: &mut [u8], count: usize, names: &[u8; BYTE_VALUES]) -> usize
     requires { ⌜ Runs (now run) count ⌝ }
     ensures { λ r. ⌜ Runs (now (run .exit)) r ⌝ }
     ensures { λ r. ⌜ transitionsIn (now (run .exit)) r ≡
@@ -113,9 +107,9 @@ pub fn merge(run: &mut [u8], count: usize, names: &[u8; NAMES]) -> usize
 }
 
 // Merges the equivalent states of a run over the states 1 to n: how many transitions stay.
-pub fn merge_equivalent(run: &mut [u8], count: usize, n: usize, marks: &[u8; PAIRS]) -> usize
+pub fn merge_equivalent(run: &mut [u8], count: usize, n: usize, marks: &[u8; BYTE_PAIRS]) -> usize
     requires { ⌜ RunsOver (now run) count n ⌝ }
-    requires { ⌜ n < 256 ⌝ }
+    requires { ⌜ n < byteValues ⌝ }
     ensures { λ r. ⌜ Runs (now (run .exit)) r ⌝ }
     ensures { λ r. ⌜ transitionsIn (now (run .exit)) r ≡
         mergedBy (chosen (now (marks .entry)) n) (transitionsIn (now (run .entry)) count) ⌝ }

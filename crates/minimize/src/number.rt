@@ -7,24 +7,22 @@ ghost use lib.ListN.{length};
 ghost use Rattle.automata.specs.Order.{lex, precedes};
 ghost use Rattle.automata.specs.Renumber.{best, renumberBy};
 ghost use Rattle.fields.specs.Fields.{Readable, Runs, firstArgs};
-ghost use Rattle.format.specs.Format.{maxArity};
+ghost use Rattle.format.specs.Format.{byteValues, maxArity};
 ghost use Rattle.lists.specs.Tests.{every};
 ghost use Rattle.marking.specs.Marks.{marked};
 ghost use Rattle.table.specs.Layout.{transitionAt, transitionsIn};
 ghost use Rattle.minimize.specs.Merged.{nameIn};
 ghost use Rattle.minimize.specs.Numbering.{Numbered, NumbersOf, Outputs, Unnumbered, improves, picked};
 ghost use Rattle.minimize.specs.Numbering.{readyBy};
-use crate::merge::NAMES;
-use fields::wide;
 use format::ARGS_AT;
+use format::ARITY_AT;
+use format::BYTE_VALUES;
 use format::OUT_AT;
 use format::TRANSITION_BYTES;
-
-// The arity stands right before the arguments.
-const ARITY_AT: usize = ARGS_AT - 1;
+use format::wide;
 
 // Whether every argument of a transition has a number.
-fn args_numbered(run: &[u8], at: usize, numbers: &[u8; NAMES]) -> bool
+fn args_numbered(run: &[u8], at: usize, numbers: &[u8; BYTE_VALUES]) -> bool
     requires { ⌜ Readable (now run) at ⌝ }
     ensures { λ r. ⌜ r ≡ every (marked (now (numbers .entry))) (transitionAt (now (run .entry)) at .args) ⌝ }
 {
@@ -41,7 +39,7 @@ fn args_numbered(run: &[u8], at: usize, numbers: &[u8; NAMES]) -> bool
 }
 
 // Whether a transition's arguments have numbers and its output has none.
-fn ready(run: &[u8], at: usize, numbers: &[u8; NAMES]) -> bool
+fn ready(run: &[u8], at: usize, numbers: &[u8; BYTE_VALUES]) -> bool
     requires { ⌜ Readable (now run) at ⌝ }
     ensures { λ r. ⌜ r ≡ readyBy (now (numbers .entry)) (transitionAt (now (run .entry)) at) ⌝ }
 {
@@ -53,7 +51,7 @@ fn ready(run: &[u8], at: usize, numbers: &[u8; NAMES]) -> bool
 }
 
 // Whether the first n arguments of one transition come before those of another, each as its number.
-fn args_precede(run: &[u8], a: usize, b: usize, n: usize, numbers: &[u8; NAMES]) -> bool
+fn args_precede(run: &[u8], a: usize, b: usize, n: usize, numbers: &[u8; BYTE_VALUES]) -> bool
     requires { ⌜ Readable (now run) a ⌝ }
     requires { ⌜ Readable (now run) b ⌝ }
     requires { ⌜ n ≤ maxArity ⌝ }
@@ -75,7 +73,7 @@ fn args_precede(run: &[u8], a: usize, b: usize, n: usize, numbers: &[u8; NAMES])
 }
 
 // Whether one transition comes before another, with the numbers for the states.
-fn precedes_by(run: &[u8], a: usize, b: usize, numbers: &[u8; NAMES]) -> bool
+fn precedes_by(run: &[u8], a: usize, b: usize, numbers: &[u8; BYTE_VALUES]) -> bool
     requires { ⌜ Readable (now run) a ⌝ }
     requires { ⌜ Readable (now run) b ⌝ }
     ensures { λ r. ⌜ r ≡ precedes (renumberBy (nameIn (now (numbers .entry))) (transitionAt (now (run .entry)) a))
@@ -95,7 +93,7 @@ fn precedes_by(run: &[u8], a: usize, b: usize, numbers: &[u8; NAMES]) -> bool
 }
 
 // Whether transition i is ready and comes before the first ready one so far; `best` is `count` where there is none.
-fn improves_on(run: &[u8], count: usize, best: usize, i: usize, numbers: &[u8; NAMES]) -> bool
+fn improves_on(run: &[u8], count: usize, best: usize, i: usize, numbers: &[u8; BYTE_VALUES]) -> bool
     requires { ⌜ Runs (now run) count ⌝ }
     requires { ⌜ best ≤ count ⌝ }
     requires { ⌜ i < count ⌝ }
@@ -112,7 +110,7 @@ fn improves_on(run: &[u8], count: usize, best: usize, i: usize, numbers: &[u8; N
 }
 
 // The first ready transition; `count` where none is ready.
-fn first_ready(run: &[u8], count: usize, numbers: &[u8; NAMES]) -> usize
+fn first_ready(run: &[u8], count: usize, numbers: &[u8; BYTE_VALUES]) -> usize
     requires { ⌜ Runs (now run) count ⌝ }
     ensures { λ r. ⌜ r ≤ count ⌝ }
     ensures { λ r. ⌜ ((o : List ℕ) → NumbersOf (now (numbers .entry)) o →
@@ -132,11 +130,16 @@ fn first_ready(run: &[u8], count: usize, numbers: &[u8; NAMES]) -> usize
 }
 
 // Numbers the states: `order` has them by their numbers, `numbers` the number of each. How many there are.
-pub fn number(run: &[u8], count: usize, order: &mut [u8; NAMES], numbers: &mut [u8; NAMES]) -> usize
+pub fn number(
+    run: &[u8],
+    count: usize,
+    order: &mut [u8; BYTE_VALUES],
+    numbers: &mut [u8; BYTE_VALUES],
+) -> usize
     requires { ⌜ Runs (now run) count ⌝ }
     requires { ⌜ Outputs (now run) count ⌝ }
-    requires { ⌜ length (now order) ≡ 256 ⌝ }
-    requires { ⌜ length (now numbers) ≡ 256 ⌝ }
+    requires { ⌜ length (now order) ≡ byteValues ⌝ }
+    requires { ⌜ length (now numbers) ≡ byteValues ⌝ }
     requires { ⌜ Unnumbered (now numbers) ⌝ }
     ensures { λ r. ⌜ Numbered (transitionsIn (now (run .entry)) count) (now (order .exit)) (now (numbers .exit)) r ⌝ }
 {

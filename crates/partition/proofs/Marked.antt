@@ -9,9 +9,9 @@ use lib.Dec.{eqb}
 use lib.ListN.{getD, length, length-set, set}
 use lib.Seq.{getD-set-other, getD-set-same}
 use borrow.Author.Tests.{eq-eqb, eqb-false, eqb-true, ne-eqb}
-use Rattle.distinguish.specs.Telling.{pairAt, pairCount, stepAt}
+use Rattle.distinguish.specs.Telling.{pairAt, stepAt}
 use Rattle.fingerprints.specs.Fingerprints.{differs}
-use Rattle.format.specs.Format.{transitionBytes}
+use Rattle.format.specs.Format.{bytePairs, transitionBytes}
 use Rattle.marking.specs.Marks.{bit, nonzero}
 use Rattle.partition.specs.Parts.{PartsMarked, RowMarked, SharedMarks, agreesAt, shared}
 use Rattle.table.specs.Layout.{argOf, outOf}
@@ -49,7 +49,7 @@ pub record RowBelow (h : List ℕ) (p k : ℕ) (m m' : List ℕ) : Type 0 where
 pub row-start : (h : List ℕ) (p : ℕ) (m : List ℕ) → RowBelow h p 0 m m
 row-start h p m = record { size = refl; row = λ q l. absurd (omega arith); others = λ x y a b. refl }
 
-pub row-next : {h : List ℕ} {p k : ℕ} {m m' : List ℕ} {r : ℕ} → RowBelow h p k m m' → length m ≡ pairCount →
+pub row-next : {h : List ℕ} {p k : ℕ} {m m' : List ℕ} {r : ℕ} → RowBelow h p k m m' → length m ≡ bytePairs →
     p ≤ 255 → k ≤ 255 → r ≡ bit (differs h p k) → RowBelow h p (k + 1) m (set m' (pairAt p k) r)
 row-next {h} {p} {k} {m} {m'} {r} b size a l e = record {
   size = length-set m' (pairAt p k) r ∙ b .size;
@@ -70,10 +70,10 @@ row-end b l = record { size = b .size; row = λ q d. b .row q (omega arith); oth
 -- ---- all rows
 
 pub record RowsBelow (h : List ℕ) (n k : ℕ) (m : List ℕ) : Type 0 where
-  pub size : length m ≡ pairCount
+  pub size : length m ≡ bytePairs
   pub each : (p q : ℕ) → p < k → q ≤ n → getD m (pairAt p q) 0 ≡ bit (differs h p q)
 
-pub rows-start : (h : List ℕ) (n : ℕ) (m : List ℕ) → length m ≡ pairCount → RowsBelow h n 0 m
+pub rows-start : (h : List ℕ) (n : ℕ) (m : List ℕ) → length m ≡ bytePairs → RowsBelow h n 0 m
 rows-start h n m e = record { size = e; each = λ p q l d. absurd (omega arith) }
 
 pub rows-next : {h : List ℕ} {n k : ℕ} {m m' : List ℕ} → RowsBelow h n k m → n ≤ 255 → RowMarked h n k m m' →

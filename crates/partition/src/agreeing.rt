@@ -8,11 +8,11 @@ ghost use Rattle.sorted.specs.Sorted.{Sorted};
 ghost use Rattle.table.specs.Layout.{arityOf};
 ghost use Rattle.partition.specs.Parts.{SharedMarks, agreesAt, agreesPlace, agreesTransition, allAgree};
 use distinguish::stepped;
-use fields::wide;
-use fingerprints::PRINT_COUNT;
 use format::ARGS_AT;
+use format::BYTE_VALUES;
 use format::OUT_AT;
 use format::TRANSITION_BYTES;
+use format::wide;
 
 // Transition i with q for its argument k.
 fn agrees(
@@ -22,7 +22,7 @@ fn agrees(
     i: usize,
     k: usize,
     q: usize,
-    prints: &[usize; PRINT_COUNT],
+    prints: &[usize; BYTE_VALUES],
 ) -> bool
     requires { ⌜ Sorted (now run) count ⌝ }
     requires { ⌜ RunsOver (now run) count n ⌝ }
@@ -36,7 +36,7 @@ fn agrees(
         return true;
     }
     let out = wide(run[TRANSITION_BYTES * i + OUT_AT]);
-    let to = wide(stepped(run, count, n, i, k, (q % 256) as u8));
+    let to = wide(stepped(run, count, n, i, k, (q % BYTE_VALUES) as u8));
     prints[to] == prints[out]
 }
 
@@ -47,7 +47,7 @@ fn all_agree_at(
     n: usize,
     i: usize,
     k: usize,
-    prints: &[usize; PRINT_COUNT],
+    prints: &[usize; BYTE_VALUES],
 ) -> bool
     requires { ⌜ Sorted (now run) count ⌝ }
     requires { ⌜ RunsOver (now run) count n ⌝ }
@@ -73,8 +73,8 @@ fn place_agrees(
     n: usize,
     i: usize,
     k: usize,
-    prints: &[usize; PRINT_COUNT],
-    shared: &[u8; PRINT_COUNT],
+    prints: &[usize; BYTE_VALUES],
+    shared: &[u8; BYTE_VALUES],
 ) -> bool
     requires { ⌜ Sorted (now run) count ⌝ }
     requires { ⌜ RunsOver (now run) count n ⌝ }
@@ -97,8 +97,8 @@ fn transition_agrees(
     count: usize,
     n: usize,
     i: usize,
-    prints: &[usize; PRINT_COUNT],
-    shared: &[u8; PRINT_COUNT],
+    prints: &[usize; BYTE_VALUES],
+    shared: &[u8; BYTE_VALUES],
 ) -> bool
     requires { ⌜ Sorted (now run) count ⌝ }
     requires { ⌜ RunsOver (now run) count n ⌝ }
@@ -123,8 +123,8 @@ pub fn all_agree(
     run: &[u8],
     count: usize,
     n: usize,
-    prints: &[usize; PRINT_COUNT],
-    shared: &[u8; PRINT_COUNT],
+    prints: &[usize; BYTE_VALUES],
+    shared: &[u8; BYTE_VALUES],
 ) -> bool
     requires { ⌜ Sorted (now run) count ⌝ }
     requires { ⌜ RunsOver (now run) count n ⌝ }

@@ -3,10 +3,10 @@ ghost use mathlib.Core.Path.{_≡_};
 ghost use Prim.Native.Nat.{_≤_};
 ghost use Rattle.marking.specs.Marks.{bit};
 ghost use Rattle.partition.specs.Parts.{SharedMarks, besides, shared};
-use fingerprints::PRINT_COUNT;
+use format::BYTE_VALUES;
 
 // Whether q is another state of p's part.
-fn is_besides(prints: &[usize; PRINT_COUNT], p: usize, q: usize) -> bool
+fn is_besides(prints: &[usize; BYTE_VALUES], p: usize, q: usize) -> bool
     requires { ⌜ p ≤ 255 ⌝ }
     requires { ⌜ q ≤ 255 ⌝ }
     ensures { λ r. ⌜ r ≡ besides (now (prints .entry)) p q ⌝ }
@@ -18,7 +18,7 @@ fn is_besides(prints: &[usize; PRINT_COUNT], p: usize, q: usize) -> bool
 }
 
 // 1 where p shares its part, else 0.
-fn shared_mark(prints: &[usize; PRINT_COUNT], n: usize, p: usize) -> u8
+fn shared_mark(prints: &[usize; BYTE_VALUES], n: usize, p: usize) -> u8
     requires { ⌜ n ≤ 255 ⌝ }
     requires { ⌜ p ≤ n ⌝ }
     ensures { λ r. ⌜ r ≡ bit (shared (now (prints .entry)) n p) ⌝ }
@@ -34,11 +34,11 @@ fn shared_mark(prints: &[usize; PRINT_COUNT], n: usize, p: usize) -> u8
 }
 
 // The states of 0 to n that share their part, marked.
-pub fn shared_marks(prints: &[usize; PRINT_COUNT], n: usize) -> [u8; PRINT_COUNT]
+pub fn shared_marks(prints: &[usize; BYTE_VALUES], n: usize) -> [u8; BYTE_VALUES]
     requires { ⌜ n ≤ 255 ⌝ }
     ensures { λ r. ⌜ SharedMarks (now (prints .entry)) n r ⌝ }
 {
-    let mut marks = [0u8; PRINT_COUNT];
+    let mut marks = [0u8; BYTE_VALUES];
     let mut p = 0;
     while p < n + 1 {
         marks[p] = shared_mark(prints, n, p);

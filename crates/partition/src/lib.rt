@@ -14,20 +14,21 @@ ghost use Rattle.automata.specs.Acyclic.{acyclic};
 ghost use Rattle.automata.specs.Coaccessible.{allCoaccessible};
 ghost use Rattle.automata.specs.Distinguishable.{allDistinguishable};
 ghost use Rattle.automata.specs.Order.{rising};
-ghost use Rattle.distinguish.specs.Telling.{MarksOf, pairCount, unmarked};
+ghost use Rattle.distinguish.specs.Telling.{MarksOf, unmarked};
 ghost use Rattle.fields.specs.Fields.{RunsOver};
 ghost use Rattle.fields.specs.View.{Viewed, viewed};
 ghost use Rattle.fingerprints.specs.Fingerprints.{Sound, UsefulMarks, printOf};
 ghost use Rattle.sorted.specs.Sorted.{Sorted};
 ghost use Rattle.table.specs.Layout.{transitionsIn};
 ghost use Rattle.partition.specs.Parts.{Fingerprinted, allAgree};
+ghost use Rattle.format.specs.Format.{bytePairs};
 use agreeing::all_agree;
 use alone::shared_marks;
-use distinguish::PAIRS;
 use distinguish::all_distinguishable;
-use fingerprints::PRINT_COUNT;
 use fingerprints::all_differ;
 use fingerprints::round;
+use format::BYTE_PAIRS;
+use format::BYTE_VALUES;
 use rows::mark_rows;
 use validity::useful;
 
@@ -35,11 +36,11 @@ use validity::useful;
 const WORK: usize = 262144;
 
 // The coaccessible states, marked.
-fn useful_marks(classes: &[u8], run: &[u8], count: usize, n: usize) -> [u8; PRINT_COUNT]
+fn useful_marks(classes: &[u8], run: &[u8], count: usize, n: usize) -> [u8; BYTE_VALUES]
     requires { ⌜ Viewed (now classes) (now run) n count ⌝ }
     ensures { λ r. ⌜ UsefulMarks (viewed (now (classes .entry)) (now (run .entry)) n count) r ⌝ }
 {
-    let mut marks = [0u8; PRINT_COUNT];
+    let mut marks = [0u8; BYTE_VALUES];
     useful(classes, run, count, n, &mut marks);
     marks
 }
@@ -50,10 +51,10 @@ fn rounds(
     run: &[u8],
     count: usize,
     n: usize,
-    marks: &[u8; PRINT_COUNT],
+    marks: &[u8; BYTE_VALUES],
     more: usize,
-    seen: &[usize; PRINT_COUNT],
-) -> [usize; PRINT_COUNT]
+    seen: &[usize; BYTE_VALUES],
+) -> [usize; BYTE_VALUES]
     requires { ⌜ Viewed (now classes) (now run) n count ⌝ }
     requires { ⌜ rising (transitionsIn (now run) count) ≡ true ⌝ }
     requires { ⌜ UsefulMarks (viewed (now classes) (now run) n count) (now marks) ⌝ }
@@ -70,7 +71,7 @@ fn rounds(
 }
 
 // Whether the parts pass the test.
-fn parts_agree(run: &[u8], count: usize, n: usize, prints: &[usize; PRINT_COUNT]) -> bool
+fn parts_agree(run: &[u8], count: usize, n: usize, prints: &[usize; BYTE_VALUES]) -> bool
     requires { ⌜ Sorted (now run) count ⌝ }
     requires { ⌜ RunsOver (now run) count n ⌝ }
     requires { ⌜ n ≤ 255 ⌝ }
@@ -86,17 +87,17 @@ fn told_by_parts(
     run: &[u8],
     count: usize,
     n: usize,
-    marks: &mut [u8; PAIRS],
+    marks: &mut [u8; BYTE_PAIRS],
 ) -> bool
     requires { ⌜ Viewed (now classes) (now run) n count ⌝ }
     requires { ⌜ rising (transitionsIn (now run) count) ≡ true ⌝ }
-    requires { ⌜ length (now marks) ≡ pairCount ⌝ }
+    requires { ⌜ length (now marks) ≡ bytePairs ⌝ }
     ensures { λ r. ⌜ (r ≡ true →
         MarksOf (now (marks .exit)) (viewed (now (classes .entry)) (now (run .entry)) n count)) ⌝ }
     ensures { λ r. ⌜ (r ≡ false → now (marks .exit) ≡ now (marks .entry)) ⌝ }
 {
     let useful = useful_marks(classes, run, count, n);
-    let mut prints = [0usize; PRINT_COUNT];
+    let mut prints = [0usize; BYTE_VALUES];
     let mut turns = 0;
     while turns < WORK / (count + 1) {
         prints = rounds(classes, run, count, n, &useful, turns, &prints);
@@ -110,7 +111,7 @@ fn told_by_parts(
 }
 
 // Marks the pairs of states that are told apart.
-pub fn distinguish(classes: &[u8], run: &[u8], count: usize, n: usize, marks: &mut [u8; PAIRS])
+pub fn distinguish(classes: &[u8], run: &[u8], count: usize, n: usize, marks: &mut [u8; BYTE_PAIRS])
     requires { ⌜ Viewed (now classes) (now run) n count ⌝ }
     requires { ⌜ rising (transitionsIn (now run) count) ≡ true ⌝ }
     requires { ⌜ now marks ≡ unmarked ⌝ }
@@ -123,10 +124,10 @@ pub fn distinguish(classes: &[u8], run: &[u8], count: usize, n: usize, marks: &m
 }
 
 // Each state with its own number. Any fingerprints will do, so this has no contract; these are the ones that differ.
-fn numbers() -> [usize; PRINT_COUNT] {
-    let mut prints = [0usize; PRINT_COUNT];
+fn numbers() -> [usize; BYTE_VALUES] {
+    let mut prints = [0usize; BYTE_VALUES];
     let mut q = 0;
-    while q < PRINT_COUNT {
+    while q < BYTE_VALUES {
         prints[q] = q;
         q += 1;
     }
@@ -142,12 +143,12 @@ pub fn all_distinguishable_useful(classes: &[u8], run: &[u8], count: usize, n: u
     requires { ⌜ acyclic (viewed (now classes) (now run) n count) ≡ true ⌝ }
     ensures { λ r. ⌜ r ≡ allDistinguishable (viewed (now (classes .entry)) (now (run .entry)) n count) ⌝ }
 {
-    let useful = [1u8; PRINT_COUNT];
+    let useful = [1u8; BYTE_VALUES];
     let first = round(classes, run, count, n, &useful, &numbers());
     if all_differ(&first, n) {
         return true;
     }
-    let mut prints = [0usize; PRINT_COUNT];
+    let mut prints = [0usize; BYTE_VALUES];
     let mut turns = 0;
     while turns < WORK / (count + 1) {
         prints = rounds(classes, run, count, n, &useful, turns, &prints);

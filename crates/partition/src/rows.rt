@@ -2,15 +2,15 @@
 ghost use mathlib.Core.Path.{_≡_};
 ghost use Prim.Native.Nat.{_≤_};
 ghost use lib.ListN.{length};
-ghost use Rattle.distinguish.specs.Telling.{pairCount};
 ghost use Rattle.fingerprints.specs.Fingerprints.{differs};
 ghost use Rattle.marking.specs.Marks.{bit};
 ghost use Rattle.partition.specs.Parts.{PartsMarked, RowMarked};
-use distinguish::PAIRS;
-use fingerprints::PRINT_COUNT;
+ghost use Rattle.format.specs.Format.{bytePairs};
+use format::BYTE_PAIRS;
+use format::BYTE_VALUES;
 
 // 1 where p and q are of different parts, else 0.
-fn pair_mark(prints: &[usize; PRINT_COUNT], p: usize, q: usize) -> u8
+fn pair_mark(prints: &[usize; BYTE_VALUES], p: usize, q: usize) -> u8
     requires { ⌜ p ≤ 255 ⌝ }
     requires { ⌜ q ≤ 255 ⌝ }
     ensures { λ r. ⌜ r ≡ bit (differs (now (prints .entry)) p q) ⌝ }
@@ -22,23 +22,23 @@ fn pair_mark(prints: &[usize; PRINT_COUNT], p: usize, q: usize) -> u8
 }
 
 // The pairs of p.
-fn mark_row(prints: &[usize; PRINT_COUNT], n: usize, p: usize, marks: &mut [u8; PAIRS])
+fn mark_row(prints: &[usize; BYTE_VALUES], n: usize, p: usize, marks: &mut [u8; BYTE_PAIRS])
     requires { ⌜ n ≤ 255 ⌝ }
     requires { ⌜ p ≤ n ⌝ }
-    requires { ⌜ length (now marks) ≡ pairCount ⌝ }
+    requires { ⌜ length (now marks) ≡ bytePairs ⌝ }
     ensures { λ _. ⌜ RowMarked (now (prints .entry)) n p (now (marks .entry)) (now (marks .exit)) ⌝ }
 {
     let mut q = 0;
     while q < n + 1 {
-        marks[256 * p + q] = pair_mark(prints, p, q);
+        marks[BYTE_VALUES * p + q] = pair_mark(prints, p, q);
         q += 1;
     }
 }
 
 // The pairs of the states 0 to n.
-pub fn mark_rows(prints: &[usize; PRINT_COUNT], n: usize, marks: &mut [u8; PAIRS])
+pub fn mark_rows(prints: &[usize; BYTE_VALUES], n: usize, marks: &mut [u8; BYTE_PAIRS])
     requires { ⌜ n ≤ 255 ⌝ }
-    requires { ⌜ length (now marks) ≡ pairCount ⌝ }
+    requires { ⌜ length (now marks) ≡ bytePairs ⌝ }
     ensures { λ _. ⌜ PartsMarked (now (prints .entry)) n (now (marks .exit)) ⌝ }
 {
     let mut p = 0;

@@ -9,10 +9,6 @@ use Rattle.marking.specs.Marks.{Swept, Within, marked}
 use Rattle.products.specs.Choices.{Reaches}
 use Rattle.table.specs.Layout.{nthTransition}
 
--- an entry for each value of a byte
-abbrev pub markCount : ℕ
-markCount = 256
-
 -- a set is closed under a step
 abbrev pub Rule : Type 1
 Rule = (ℕ → Bool) → Type 0

@@ -9,21 +9,19 @@ ghost use Rattle.marking.specs.Marks.{marked};
 ghost use Rattle.sorted.specs.Sorted.{Sorted};
 ghost use Rattle.table.specs.Layout.{arityOf, labelOf, transitionsIn};
 ghost use Rattle.products.specs.Choices.{ChosenFrom, ChosenWith, Escapes, candidate, offered, offers};
-use crate::nodes::ARITY_AT;
-use fields::wide;
 use format::ARGS_AT;
+use format::ARITY_AT;
+use format::BYTE_VALUES;
 use format::MAX_NODES;
 use format::TRANSITION_BYTES;
+use format::wide;
 use sorted::output;
-
-// A mark for each value of a byte.
-pub const MARK_COUNT: usize = 256;
 
 // Candidate x for the argument a: 0 is the state itself, x subtree x. Answers its number, or 0 where it is none.
 pub fn candidate(
     n: usize,
     states: &[u8; MAX_NODES],
-    marks: &[u8; MARK_COUNT],
+    marks: &[u8; BYTE_VALUES],
     a: u8,
     x: usize,
 ) -> u8
@@ -49,7 +47,7 @@ fn has_candidate(
     n: usize,
     m: usize,
     states: &[u8; MAX_NODES],
-    marks: &[u8; MARK_COUNT],
+    marks: &[u8; BYTE_VALUES],
     a: u8,
 ) -> bool
     requires { ⌜ n ≤ maxStates ⌝ }
@@ -72,7 +70,7 @@ pub fn ready(
     n: usize,
     m: usize,
     states: &[u8; MAX_NODES],
-    marks: &[u8; MARK_COUNT],
+    marks: &[u8; BYTE_VALUES],
     entry: [u8; TRANSITION_BYTES],
 ) -> bool
     requires { ⌜ n ≤ maxStates ⌝ }
@@ -99,7 +97,7 @@ pub fn escapes(
     states: &[u8; MAX_NODES],
     nodes: &[u8],
     found: usize,
-    marks: &[u8; MARK_COUNT],
+    marks: &[u8; BYTE_VALUES],
     entry: [u8; TRANSITION_BYTES],
     k: usize,
 ) -> bool
@@ -132,7 +130,7 @@ fn escapes_with(
     states: &[u8; MAX_NODES],
     nodes: &[u8],
     found: usize,
-    marks: &[u8; MARK_COUNT],
+    marks: &[u8; BYTE_VALUES],
     entry: [u8; TRANSITION_BYTES],
     k: usize,
     x: usize,

@@ -12,19 +12,19 @@ ghost use Rattle.products.specs.Choices.{ChosenFrom, ChosenWith, Entry, 
 ghost use Rattle.products.specs.Growth.{Is, Live, Outcome, UpTo};
 ghost use Rattle.products.specs.Pairs.{LostAt, Nodes};
 use crate::Produced;
-use crate::choices::MARK_COUNT;
 use crate::choices::candidate;
-use crate::nodes::ARITY_AT;
 use crate::nodes::CHILD_NUMBERS;
 use crate::nodes::node_entry;
 use crate::nodes::put;
 use crate::reaching::transition;
-use fields::wide;
 use format::ARGS_AT;
+use format::ARITY_AT;
+use format::BYTE_VALUES;
 use format::MAX_NODES;
 use format::MAX_PRODUCT;
 use format::OUT_AT;
 use format::TRANSITION_BYTES;
+use format::wide;
 use sorted::output;
 
 // Adds an entry to the scratch, where it has room for it.
@@ -76,7 +76,7 @@ fn expand(
     states: &[u8; MAX_NODES],
     nodes: &[u8],
     found: usize,
-    marks: &[u8; MARK_COUNT],
+    marks: &[u8; BYTE_VALUES],
     entry: [u8; TRANSITION_BYTES],
     k: usize,
     scratch: &mut [u8],
@@ -127,7 +127,7 @@ fn expand_with(
     states: &[u8; MAX_NODES],
     nodes: &[u8],
     found: usize,
-    marks: &[u8; MARK_COUNT],
+    marks: &[u8; BYTE_VALUES],
     entry: [u8; TRANSITION_BYTES],
     k: usize,
     x: usize,
@@ -175,7 +175,7 @@ pub fn expand_all(
     states: &[u8; MAX_NODES],
     nodes: &[u8],
     found: usize,
-    marks: &[u8; MARK_COUNT],
+    marks: &[u8; BYTE_VALUES],
     scratch: &mut [u8],
 ) -> Produced
     requires { ⌜ RunsOver (now run) count n ⌝ }

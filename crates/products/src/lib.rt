@@ -14,9 +14,9 @@ ghost use Rattle.format.specs.Format.{maxStates, scratchBytes};
 ghost use Rattle.trees.specs.Tree.{Tree};
 ghost use Rattle.products.specs.Pairs.{Nodes};
 ghost use Rattle.products.specs.Result.{Answers, Holds};
-use choices::MARK_COUNT;
 use expanding::expand_all;
 use expanding::expand_lost;
+use format::BYTE_VALUES;
 use nodes::NODE_RUN;
 use nodes::list_nodes;
 use reaching::reach;
@@ -44,7 +44,7 @@ pub fn product(run: &[u8], count: usize, n: usize, s: Subtrees, scratch: &mut [u
     let states = s.states;
     let mut nodes = [0u8; NODE_RUN];
     let found = list_nodes(n, m, &labels, &arities, &children, &mut nodes);
-    let mut marks = [0u8; MARK_COUNT];
+    let mut marks = [0u8; BYTE_VALUES];
     reach(run, count, n, m, &states, &nodes, found, &mut marks);
     let Produced::Transitions { count: made } = expand_all(
         run,

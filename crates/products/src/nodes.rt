@@ -7,16 +7,14 @@ ghost use Rattle.table.specs.Layout.{transitionAt};
 ghost use Rattle.products.specs.Choices.{Entry};
 ghost use Rattle.products.specs.Growth.{Added, Is, Live, UpTo};
 ghost use Rattle.products.specs.Pairs.{NodeAt, Nodes, nodeTransition};
-use fields::wide;
 use format::ARGS_AT;
+use format::ARITY_AT;
 use format::MAX_ARITY;
 use format::MAX_NODES;
 use format::OUT_AT;
 use format::TRANSITION_BYTES;
+use format::wide;
 use sorted::insert;
-
-// The arity stands right before the arguments.
-pub const ARITY_AT: usize = ARGS_AT - 1;
 
 pub const CHILD_NUMBERS: usize = MAX_NODES * MAX_ARITY;
 

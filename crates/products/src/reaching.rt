@@ -4,17 +4,17 @@ ghost use mathlib.Core.Path.{_≡_};
 ghost use Prim.Native.Nat.{_*_, _≤_};
 ghost use lib.ListN.{length};
 ghost use Rattle.fields.specs.Fields.{Readable, Runs};
-ghost use Rattle.format.specs.Format.{maxNodes, maxStates, transitionBytes};
+ghost use Rattle.format.specs.Format.{byteValues, maxNodes, maxStates, transitionBytes};
 ghost use Rattle.sorted.specs.Sorted.{Sorted};
 ghost use Rattle.table.specs.Layout.{transitionAt, transitionsIn};
-ghost use Rattle.products.specs.Reached.{Each, Reached, Spread, markCount, nthReaches};
-use crate::choices::MARK_COUNT;
+ghost use Rattle.products.specs.Reached.{Each, Reached, Spread, nthReaches};
 use crate::choices::escapes;
 use crate::choices::ready;
-use fields::wide;
+use format::BYTE_VALUES;
 use format::MAX_NODES;
 use format::OUT_AT;
 use format::TRANSITION_BYTES;
+use format::wide;
 
 // The bytes of a transition.
 pub fn transition(run: &[u8], at: usize) -> [u8; TRANSITION_BYTES]
@@ -39,13 +39,13 @@ fn mark(
     states: &[u8; MAX_NODES],
     nodes: &[u8],
     found: usize,
-    marks: &mut [u8; MARK_COUNT],
+    marks: &mut [u8; BYTE_VALUES],
 ) -> bool
     requires { ⌜ Readable (now run) (transitionBytes * i) ⌝ }
     requires { ⌜ n ≤ maxStates ⌝ }
     requires { ⌜ m ≤ maxNodes ⌝ }
     requires { ⌜ Sorted (now nodes) found ⌝ }
-    requires { ⌜ length (now marks) ≡ markCount ⌝ }
+    requires { ⌜ length (now marks) ≡ byteValues ⌝ }
     ensures { λ r. ⌜ Spread
         (nthReaches (now (run .entry)) (now (states .entry)) n m (transitionsIn (now (nodes .entry)) found) i)
         (now (marks .entry)) (now (marks .exit)) r ⌝ }
@@ -74,13 +74,13 @@ fn mark_all(
     states: &[u8; MAX_NODES],
     nodes: &[u8],
     found: usize,
-    marks: &mut [u8; MARK_COUNT],
+    marks: &mut [u8; BYTE_VALUES],
 ) -> bool
     requires { ⌜ Runs (now run) count ⌝ }
     requires { ⌜ n ≤ maxStates ⌝ }
     requires { ⌜ m ≤ maxNodes ⌝ }
     requires { ⌜ Sorted (now nodes) found ⌝ }
-    requires { ⌜ length (now marks) ≡ markCount ⌝ }
+    requires { ⌜ length (now marks) ≡ byteValues ⌝ }
     ensures { λ r. ⌜ Spread
         (Each (nthReaches (now (run .entry)) (now (states .entry)) n m (transitionsIn (now (nodes .entry)) found))
         count)
@@ -105,13 +105,13 @@ pub fn reach(
     states: &[u8; MAX_NODES],
     nodes: &[u8],
     found: usize,
-    marks: &mut [u8; MARK_COUNT],
+    marks: &mut [u8; BYTE_VALUES],
 )
     requires { ⌜ Runs (now run) count ⌝ }
     requires { ⌜ n ≤ maxStates ⌝ }
     requires { ⌜ m ≤ maxNodes ⌝ }
     requires { ⌜ Sorted (now nodes) found ⌝ }
-    requires { ⌜ length (now marks) ≡ markCount ⌝ }
+    requires { ⌜ length (now marks) ≡ byteValues ⌝ }
     ensures { λ _. ⌜ Reached
         (Each (nthReaches (now (run .entry)) (now (states .entry)) n m (transitionsIn (now (nodes .entry)) found))
         count)

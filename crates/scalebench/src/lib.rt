@@ -13,9 +13,9 @@ ghost use Rattle.scalebench.specs.Changes.{Counted, beforeChange, presen
 ghost use Rattle.scalebench.specs.Host.{askedAnswer, packed, packedCounts, takenAnswer};
 use change::Changed;
 use fields::transition_count;
-use fields::wide;
 use format::SCRATCH_BYTES;
 use format::TABLE_BYTES;
+use format::wide;
 use intake::content_refusal;
 use running::accepted;
 

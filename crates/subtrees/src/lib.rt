@@ -18,13 +18,11 @@ ghost use Rattle.subtrees.specs.Steps.{byteFrom, childState, sameChild, 
 ghost use Rattle.subtrees.specs.Store.{Lists, Stored, bottomUp, treesNumbered};
 use fields::Found;
 use fields::find;
-use fields::wide;
+use format::LABEL_BYTES;
 use format::MAX_ARITY;
 use format::MAX_NODES;
 use format::NODE_BYTES;
-
-// A node's label comes before its child count.
-const LABEL_BYTES: usize = NODE_BYTES - 1;
+use format::wide;
 
 const CHILD_NUMBERS: usize = MAX_NODES * MAX_ARITY;
 

@@ -11,6 +11,7 @@ use cursor::column_at;
 use format::LISTING_BYTES;
 use format::MAX_LINE;
 use format::NODE_BYTES;
+use format::wide;
 
 mod cursor; // cursor.rt: from the place of a byte to its column
 
@@ -49,12 +50,6 @@ enum Read {
 enum Found {
     Whole { len: usize },
     Broken { at: usize },
-}
-
-fn wide(x: u8) -> usize
-    ensures { λ r. ⌜ r ≡ x ⌝ }
-{
-    x as usize
 }
 
 fn is_digit(b: u8) -> bool

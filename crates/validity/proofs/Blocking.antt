@@ -8,21 +8,21 @@ use native.Mathlib.Omega.{arith}
 use lib.Dec.{eqb}
 use lib.ListN.{length-replicate, length-set, replicate, set}
 use borrow.Author.Tests.{eqb-false, eqb-true}
-use Rattle.format.specs.Format.{transitionBytes}
+use Rattle.format.specs.Format.{byteValues, transitionBytes}
 use Rattle.marking.specs.Marks.{marked}
 use Rattle.table.specs.Layout.{nthTransition, outOf}
 use Rattle.validity.specs.Rules.{Blocks, Clear, Ground, Unblocked, argsPass}
-use Rattle.validity.specs.Spread.{Spread, UpTo, markCount}
+use Rattle.validity.specs.Spread.{Spread, UpTo}
 use Rattle.marking.proofs.Sweeps.{marked-here, marked-set, set-marked}
 use Rattle.validity.proofs.Spreading.{spread-if, unmarked}
 use Rattle.validity.proofs.Sweeping.{every-implied}
 
 module _ (s m : List ℕ) where
-  pub blocks-none : Blocks s m 0 (replicate markCount 0)
+  pub blocks-none : Blocks s m 0 (replicate byteValues 0)
   blocks-none = record {
-    size = length-replicate {A = ℕ} markCount 0;
+    size = length-replicate {A = ℕ} byteValues 0;
     clear = λ q e i h. absurd (omega arith);
-    held = λ q e f. absurd (false≢true (sym (unmarked markCount q) ∙ e));
+    held = λ q e f. absurd (false≢true (sym (unmarked byteValues q) ∙ e));
   }
 
   module _ (i : ℕ) (b : List ℕ) (blocks : Blocks s m i b) where
@@ -40,7 +40,7 @@ module _ (s m : List ℕ) where
         go q f j h o false d = let ne = eqb-false j i d in blocks .clear q f j (omega arith) o
 
     -- else it blocks its output
-    pub blocks-more : outOf s (transitionBytes * i) < markCount → argsPass s (marked m) i ≡ false →
+    pub blocks-more : outOf s (transitionBytes * i) < byteValues → argsPass s (marked m) i ≡ false →
         Blocks s m (i + 1) (set b (outOf s (transitionBytes * i)) 1)
     blocks-more l e = record {
       size = length-set b out 1 ∙ blocks .size;

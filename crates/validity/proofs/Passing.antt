@@ -12,13 +12,12 @@ use Rattle.automata.specs.Automaton.{Transition}
 use Rattle.automata.specs.Numbered.{firstOpen, numbered}
 use Rattle.fields.specs.Fields.{RunsOver}
 use Rattle.fields.specs.View.{viewed}
-use Rattle.format.specs.Format.{transitionBytes}
+use Rattle.format.specs.Format.{byteValues, transitionBytes}
 use Rattle.lists.specs.Positions.{upFrom}
 use Rattle.lists.specs.Tests.{every}
 use Rattle.marking.specs.Marks.{marked}
 use Rattle.table.specs.Layout.{nthTransition, outOf, transitionsIn}
 use Rattle.validity.specs.Rules.{Read}
-use Rattle.validity.specs.Spread.{markCount}
 use Rattle.automata.proofs.NumberedPass.{Passed, broken-numbered, firstOpen-kept, passed-broken, passed-low}
 use Rattle.automata.proofs.NumberedPass.{passed-next, passed-none, passed-numbered, top}
 use Rattle.fields.proofs.Transitions.{transitionsIn-suc}
@@ -45,7 +44,7 @@ module _ (s : List ℕ) (i : ℕ) where
   one-more : transitionsIn s (i + 1) ≡ transitionsIn s i ++ (τ ∷ [])
   one-more = ap (transitionsIn s) (add-one i) ∙ transitionsIn-suc s i
 
-  module _ (m : List ℕ) (size : length m ≡ markCount) (passed : Passed (transitionsIn s i) (marked m)) where
+  module _ (m : List ℕ) (size : length m ≡ byteValues) (passed : Passed (transitionsIn s i) (marked m)) where
     -- a transition that gives no number
     pub read-low : τ .out ≤ top (τ .args) → Read s i m true
     read-low h = record {
@@ -55,7 +54,7 @@ module _ (s : List ℕ) (i : ℕ) where
     }
 
     -- its output gets a number: all between have theirs
-    pub read-next : top (τ .args) < τ .out → τ .out < markCount →
+    pub read-next : top (τ .args) < τ .out → τ .out < byteValues →
         every (marked m) (upFrom (top (τ .args) + 1) (τ .out - (top (τ .args) + 1))) ≡ true →
         Read s i (set m (τ .out) 1) true
     read-next h l e = record {
@@ -84,9 +83,9 @@ module _ (s : List ℕ) (i : ℕ) where
         go (suc k, h, l, f) =
             (k, omega arith, rw one-more (passed-broken passed τ k (omega arith) (omega arith) f))
 
-pub pass-start : (s : List ℕ) → Passed (transitionsIn s 0) (marked (replicate markCount 0))
+pub pass-start : (s : List ℕ) → Passed (transitionsIn s 0) (marked (replicate byteValues 0))
 unfolding transitionsIn
-pass-start s = passed-none (marked (replicate markCount 0)) (unmarked markCount)
+pass-start s = passed-none (marked (replicate byteValues 0)) (unmarked byteValues)
 
 -- a number that the first i transitions give, all give
 firstOpen-later : (s : List ℕ) (k j i c : ℕ) → i ≤ c → firstOpen k (transitionsIn s i) ≡ suc j →

@@ -7,10 +7,11 @@ use Prim.Native.Nat.{_+_, _-_, _<_, suc, zero, ℕ}
 use native.Mathlib.Omega.{arith}
 use lib.ListN.{length, length-replicate, replicate, set}
 use Rattle.marking.specs.Marks.{marked, marks}
-use Rattle.validity.specs.Spread.{Covers, Rule, Spread, UpTo, fromLast, markCount}
+use Rattle.validity.specs.Spread.{Covers, Rule, Spread, UpTo, fromLast}
 use Rattle.automata.proofs.Subtrees.{Closed}
 use Rattle.lists.proofs.Closure.{closed}
 use Rattle.marking.proofs.Sweeps.{swept-closed, swept-less, swept-mark, swept-next, swept-none}
+use Rattle.format.specs.Format.{byteValues}
 
 -- nothing to do: the rule holds of the marks
 pub spread-none : {C : Rule} {m : List ℕ} → C (marked m) → Spread C m m false
@@ -52,7 +53,7 @@ spread-back C n {m} s = spread-if (λ p w d j h. d (n - 1 - j) (omega arith)) tu
 
 -- marks that a closed set covers, and that grow until nothing changes
 pub record Growing (p : ℕ → Bool) (m : List ℕ) : Type 0 where
-  pub size : length m ≡ markCount
+  pub size : length m ≡ byteValues
   pub within : Covers p m
 
 pub unmarked : (k i : ℕ) → marked (replicate k 0) i ≡ false
@@ -60,10 +61,10 @@ unmarked zero i = refl
 unmarked (suc k) zero = refl
 unmarked (suc k) (suc i) = unmarked k i
 
-pub growing-none : {p : ℕ → Bool} → Growing p (replicate markCount 0)
+pub growing-none : {p : ℕ → Bool} → Growing p (replicate byteValues 0)
 growing-none = record {
-  size = length-replicate {A = ℕ} markCount 0;
-  within = λ i e. absurd (false≢true (sym (unmarked markCount i) ∙ e));
+  size = length-replicate {A = ℕ} byteValues 0;
+  within = λ i e. absurd (false≢true (sym (unmarked byteValues i) ∙ e));
 }
 
 module _ {C : Rule} {m m' : List ℕ} {r : Bool} where

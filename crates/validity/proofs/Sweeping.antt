@@ -12,9 +12,10 @@ use Rattle.lists.specs.Tests.{every}
 use Rattle.marking.specs.Marks.{bit, marked, nonzero}
 use Rattle.table.specs.Layout.{argOf, outOf, transitionAt}
 use Rattle.validity.specs.Rules.{DownTo, Has, Up}
-use Rattle.validity.specs.Spread.{Exactly, Spread, markCount}
+use Rattle.validity.specs.Spread.{Exactly, Spread}
 use Rattle.lists.proofs.Tests.{every-in, in-every}
 use Rattle.validity.proofs.Spreading.{spread-if, spread-mark}
+use Rattle.format.specs.Format.{byteValues}
 
 -- an implied test
 pub every-implied : {A : Type 0} (p q : A → Bool) (xs : List A) → ((x : A) → p x ≡ true → q x ≡ true) →
@@ -22,7 +23,7 @@ pub every-implied : {A : Type 0} (p q : A → Bool) (xs : List A) → ((x : A) �
 every-implied p q xs f e = in-every q xs (λ x i. f x (every-in p xs e x i))
 
 -- marks that cover the output's arguments give the output
-pub spread-up : (s : List ℕ) (at : ℕ) (m : List ℕ) → length m ≡ markCount → outOf s at < markCount →
+pub spread-up : (s : List ℕ) (at : ℕ) (m : List ℕ) → length m ≡ byteValues → outOf s at < byteValues →
     marked m (outOf s at) ≡ false → every (marked m) (transitionAt s at .args) ≡ true →
     Spread (Up s at) m (set m (outOf s at) 1) true
 spread-up s at m size h e f =
@@ -48,11 +49,11 @@ filled-next f m q v h e below j l = go (eqb j q) refl
     go false d = let ne = eqb-false j q d in
         ap nonzero (getD-set-other m q j v 0 ne) ∙ below j (omega arith)
 
-pub filled-all : {f : ℕ → Bool} {m : List ℕ} → length m ≡ markCount → ((j : ℕ) → j < markCount → marked m j ≡ f j) →
-    ((j : ℕ) → markCount ≤ j → f j ≡ false) → Exactly f m
-filled-all {f} {m} size below beyond = record { size = size; each = λ j. go j (ltb j markCount) refl }
+pub filled-all : {f : ℕ → Bool} {m : List ℕ} → length m ≡ byteValues → ((j : ℕ) → j < byteValues → marked m j ≡ f j) →
+    ((j : ℕ) → byteValues ≤ j → f j ≡ false) → Exactly f m
+filled-all {f} {m} size below beyond = record { size = size; each = λ j. go j (ltb j byteValues) refl }
   where
-    go : (j : ℕ) (b : Bool) → ltb j markCount ≡ b → marked m j ≡ f j
-    go j true d = below j (ltb-true j markCount d)
-    go j false d = let l = ltb-false j markCount d in
+    go : (j : ℕ) (b : Bool) → ltb j byteValues ≡ b → marked m j ≡ f j
+    go j true d = below j (ltb-true j byteValues d)
+    go j false d = let l = ltb-false j byteValues d in
         ap nonzero (List·getD-eq-default m 0 (omega arith)) ∙ sym (beyond j l)

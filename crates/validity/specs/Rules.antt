@@ -5,11 +5,11 @@ use mathlib.Core.Path.{_≡_}
 use Prim.Native.Nat.{_*_, _+_, _<_, suc, ℕ}
 use lib.ListN.{length}
 use Rattle.automata.specs.Numbered.{firstOpen}
-use Rattle.format.specs.Format.{transitionBytes}
+use Rattle.format.specs.Format.{byteValues, transitionBytes}
 use Rattle.lists.specs.Tests.{every}
 use Rattle.marking.specs.Marks.{marked}
 use Rattle.table.specs.Layout.{argOf, arityOf, nthTransition, outOf, transitionAt, transitionsIn}
-use Rattle.validity.specs.Spread.{Rule, UpTo, markCount}
+use Rattle.validity.specs.Spread.{Rule, UpTo}
 use Rattle.automata.proofs.NumberedPass.{Passed}
 
 -- the state passes
@@ -57,7 +57,7 @@ Unblocked b k p = marked b (k + 1) ≡ false → p (k + 1) ≡ true
 
 -- b blocks the outputs of those of the first c transitions that have an argument without a mark
 pub record Blocks (s m : List ℕ) (c : ℕ) (b : List ℕ) : Type 0 where
-  pub size : length b ≡ markCount
+  pub size : length b ≡ byteValues
   pub clear : (q : ℕ) → marked b q ≡ false → Clear s c (marked m) q
   pub held : (q : ℕ) → marked b q ≡ true → Clear s c (marked m) q → ⊥
 
@@ -65,7 +65,7 @@ pub record Blocks (s m : List ℕ) (c : ℕ) (b : List ℕ) : Type 0 where
 
 -- transition i was read: r says whether the states below its output, down to its arguments, have their numbers
 pub record Read (s : List ℕ) (i : ℕ) (m : List ℕ) (r : Bool) : Type 0 where
-  pub size : length m ≡ markCount
+  pub size : length m ≡ byteValues
   pub passed : r ≡ true → Passed (transitionsIn s (i + 1)) (marked m)
   pub broken : r ≡ false →
       (k : ℕ) × (suc k < outOf s (transitionBytes * i)) ×

@@ -6,10 +6,7 @@ use mathlib.Core.Path.{_≡_}
 use Prim.Native.Nat.{_-_, _<_, ℕ}
 use lib.ListN.{length}
 use Rattle.marking.specs.Marks.{Swept, Within, marked}
-
--- an entry for each value of a byte
-abbrev pub markCount : ℕ
-markCount = 256
+use Rattle.format.specs.Format.{byteValues}
 
 -- a set is closed under a step
 abbrev pub Rule : Type 1
@@ -21,7 +18,7 @@ Covers p m = Within (λ q. p q ≡ true) m
 
 -- the marks are the set
 pub record Exactly (p : ℕ → Bool) (m : List ℕ) : Type 0 where
-  pub size : length m ≡ markCount
+  pub size : length m ≡ byteValues
   pub each : (q : ℕ) → marked m q ≡ p q
 
 -- marks were added, r says whether any: each set that is closed and had the old marks has the new ones, and where

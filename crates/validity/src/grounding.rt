@@ -5,19 +5,19 @@ ghost use mathlib.Core.Path.{_≡_};
 ghost use Prim.Native.Nat.{_*_, _+_, _<_, _≤_, ℕ};
 ghost use lib.ListN.{length};
 ghost use Rattle.automata.specs.Acyclic.{acyclic};
-ghost use Rattle.format.specs.Format.{transitionBytes};
+ghost use Rattle.format.specs.Format.{byteValues, transitionBytes};
 ghost use Rattle.fields.specs.Fields.{Readable, Runs, RunsOver};
 ghost use Rattle.fields.specs.View.{viewed};
 ghost use Rattle.validity.specs.Rules.{Blocks, Ground, Unblocked};
-ghost use Rattle.validity.specs.Spread.{Spread, UpTo, markCount};
-use crate::marks::MARK_COUNT;
+ghost use Rattle.validity.specs.Spread.{Spread, UpTo};
 use crate::marks::all_marked;
 use crate::marks::args_marked;
 use crate::transitions::out_of;
+use format::BYTE_VALUES;
 use format::TRANSITION_BYTES;
 
 // Transition i blocks its output where some argument is not marked.
-fn block(run: &[u8], i: usize, marks: &[u8; MARK_COUNT], blocked: &mut [u8; MARK_COUNT])
+fn block(run: &[u8], i: usize, marks: &[u8; BYTE_VALUES], blocked: &mut [u8; BYTE_VALUES])
     requires { ⌜ Readable (now run) (transitionBytes * i) ⌝ }
     requires { ⌜ Blocks (now run) (now marks) i (now blocked) ⌝ }
     ensures { λ _. ⌜ Blocks (now (run .entry)) (now (marks .entry)) (i + 1) (now (blocked .exit)) ⌝ }
@@ -30,7 +30,7 @@ fn block(run: &[u8], i: usize, marks: &[u8; MARK_COUNT], blocked: &mut [u8; MARK
     blocked[out] = 1;
 }
 
-fn block_all(run: &[u8], count: usize, marks: &[u8; MARK_COUNT], blocked: &mut [u8; MARK_COUNT])
+fn block_all(run: &[u8], count: usize, marks: &[u8; BYTE_VALUES], blocked: &mut [u8; BYTE_VALUES])
     requires { ⌜ Runs (now run) count ⌝ }
     requires { ⌜ Blocks (now run) (now marks) 0 (now blocked) ⌝ }
     ensures { λ _. ⌜ Blocks (now (run .entry)) (now (marks .entry)) count (now (blocked .exit)) ⌝ }
@@ -43,9 +43,9 @@ fn block_all(run: &[u8], count: usize, marks: &[u8; MARK_COUNT], blocked: &mut [
 }
 
 // Marks state k + 1 where it is not blocked. Answers whether the mark is new.
-fn ground(blocked: &[u8; MARK_COUNT], k: usize, marks: &mut [u8; MARK_COUNT]) -> bool
-    requires { ⌜ k + 1 < markCount ⌝ }
-    requires { ⌜ length (now marks) ≡ markCount ⌝ }
+fn ground(blocked: &[u8; BYTE_VALUES], k: usize, marks: &mut [u8; BYTE_VALUES]) -> bool
+    requires { ⌜ k + 1 < byteValues ⌝ }
+    requires { ⌜ length (now marks) ≡ byteValues ⌝ }
     ensures { λ r. ⌜ Spread (Unblocked (now (blocked .entry)) k) (now (marks .entry)) (now (marks .exit)) r ⌝ }
 {
     let q = k + 1;
@@ -59,9 +59,9 @@ fn ground(blocked: &[u8; MARK_COUNT], k: usize, marks: &mut [u8; MARK_COUNT]) ->
     true
 }
 
-fn ground_unblocked(blocked: &[u8; MARK_COUNT], n: usize, marks: &mut [u8; MARK_COUNT]) -> bool
-    requires { ⌜ n < markCount ⌝ }
-    requires { ⌜ length (now marks) ≡ markCount ⌝ }
+fn ground_unblocked(blocked: &[u8; BYTE_VALUES], n: usize, marks: &mut [u8; BYTE_VALUES]) -> bool
+    requires { ⌜ n < byteValues ⌝ }
+    requires { ⌜ length (now marks) ≡ byteValues ⌝ }
     ensures { λ r. ⌜ Spread (UpTo (Unblocked (now (blocked .entry))) n) (now (marks .entry)) (now (marks .exit)) r ⌝ }
 {
     let mut changed = false;
@@ -74,13 +74,13 @@ fn ground_unblocked(blocked: &[u8; MARK_COUNT], n: usize, marks: &mut [u8; MARK_
     changed
 }
 
-fn ground_all(run: &[u8], count: usize, n: usize, marks: &mut [u8; MARK_COUNT]) -> bool
+fn ground_all(run: &[u8], count: usize, n: usize, marks: &mut [u8; BYTE_VALUES]) -> bool
     requires { ⌜ Runs (now run) count ⌝ }
-    requires { ⌜ n < markCount ⌝ }
-    requires { ⌜ length (now marks) ≡ markCount ⌝ }
+    requires { ⌜ n < byteValues ⌝ }
+    requires { ⌜ length (now marks) ≡ byteValues ⌝ }
     ensures { λ r. ⌜ Spread (UpTo (Ground (now (run .entry)) count) n) (now (marks .entry)) (now (marks .exit)) r ⌝ }
 {
-    let mut blocked = [0u8; MARK_COUNT];
+    let mut blocked = [0u8; BYTE_VALUES];
     block_all(run, count, marks, &mut blocked);
     ground_unblocked(&blocked, n, marks)
 }
@@ -91,7 +91,7 @@ pub fn acyclic(run: &[u8], count: usize, n: usize) -> bool
     requires { ⌜ n ≤ 255 ⌝ }
     ensures { λ r. ⌜ ((cl : List ℕ) → r ≡ acyclic (viewed cl (now (run .entry)) n count)) ⌝ }
 {
-    let mut marks = [0u8; MARK_COUNT];
+    let mut marks = [0u8; BYTE_VALUES];
     while ground_all(run, count, n, &mut marks) {}
     all_marked(&marks, 1, n + 1)
 }

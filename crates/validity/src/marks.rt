@@ -8,15 +8,15 @@ ghost use Rattle.marking.specs.Marks.{marked};
 ghost use Rattle.table.specs.Layout.{transitionAt};
 ghost use Rattle.fields.specs.Fields.{Readable};
 ghost use Rattle.validity.specs.Rules.{Has};
-ghost use Rattle.validity.specs.Spread.{Spread, markCount};
+ghost use Rattle.validity.specs.Spread.{Spread};
+ghost use Rattle.format.specs.Format.{byteValues};
 use crate::transitions::arg_of;
 use crate::transitions::arity_of;
-
-pub const MARK_COUNT: usize = 256;
+use format::BYTE_VALUES;
 
 // Whether the states from one up to, not including, another are all marked.
-pub fn all_marked(marks: &[u8; MARK_COUNT], from: usize, end: usize) -> bool
-    requires { ⌜ end ≤ markCount ⌝ }
+pub fn all_marked(marks: &[u8; BYTE_VALUES], from: usize, end: usize) -> bool
+    requires { ⌜ end ≤ byteValues ⌝ }
     ensures { λ r. ⌜ r ≡ every (marked (now (marks .entry))) (upFrom from (end - from)) ⌝ }
 {
     let mut q = from;
@@ -30,7 +30,7 @@ pub fn all_marked(marks: &[u8; MARK_COUNT], from: usize, end: usize) -> bool
 }
 
 // Whether the arguments of the transition that starts at a byte are all marked.
-pub fn args_marked(run: &[u8], at: usize, marks: &[u8; MARK_COUNT]) -> bool
+pub fn args_marked(run: &[u8], at: usize, marks: &[u8; BYTE_VALUES]) -> bool
     requires { ⌜ Readable (now run) at ⌝ }
     ensures { λ r. ⌜ r ≡ every (marked (now (marks .entry))) (transitionAt (now (run .entry)) at .args) ⌝ }
 {
@@ -47,9 +47,9 @@ pub fn args_marked(run: &[u8], at: usize, marks: &[u8; MARK_COUNT]) -> bool
 }
 
 // Marks a state. Answers whether the mark is new.
-pub fn mark(marks: &mut [u8; MARK_COUNT], q: usize) -> bool
-    requires { ⌜ length (now marks) ≡ markCount ⌝ }
-    requires { ⌜ q < markCount ⌝ }
+pub fn mark(marks: &mut [u8; BYTE_VALUES], q: usize) -> bool
+    requires { ⌜ length (now marks) ≡ byteValues ⌝ }
+    requires { ⌜ q < byteValues ⌝ }
     ensures { λ r. ⌜ Spread (Has q) (now (marks .entry)) (now (marks .exit)) r ⌝ }
 {
     if marks[q] != 0 {

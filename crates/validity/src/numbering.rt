@@ -6,18 +6,17 @@ ghost use Prim.Native.Nat.{_*_, _≤_, max, ℕ};
 ghost use lib.ListN.{length};
 ghost use Rattle.automata.specs.Numbered.{numbered};
 ghost use Rattle.automata.proofs.NumberedPass.{Passed, top};
-ghost use Rattle.format.specs.Format.{transitionBytes};
+ghost use Rattle.format.specs.Format.{byteValues, transitionBytes};
 ghost use Rattle.marking.specs.Marks.{marked};
 ghost use Rattle.table.specs.Layout.{transitionAt, transitionsIn};
 ghost use Rattle.fields.specs.Fields.{Readable, RunsOver};
 ghost use Rattle.fields.specs.View.{viewed};
 ghost use Rattle.validity.specs.Rules.{Read};
-ghost use Rattle.validity.specs.Spread.{markCount};
-use crate::marks::MARK_COUNT;
 use crate::marks::all_marked;
 use crate::transitions::arg_of;
 use crate::transitions::arity_of;
 use crate::transitions::out_of;
+use format::BYTE_VALUES;
 use format::TRANSITION_BYTES;
 
 fn greater(x: usize, y: usize) -> usize
@@ -47,9 +46,9 @@ fn top_argument(run: &[u8], at: usize) -> usize
 
 // Reads transition i: whether every state strictly between its arguments and its output has been seen. Then the
 // output is seen.
-fn read(run: &[u8], i: usize, seen: &mut [u8; MARK_COUNT]) -> bool
+fn read(run: &[u8], i: usize, seen: &mut [u8; BYTE_VALUES]) -> bool
     requires { ⌜ Readable (now run) (transitionBytes * i) ⌝ }
-    requires { ⌜ length (now seen) ≡ markCount ⌝ }
+    requires { ⌜ length (now seen) ≡ byteValues ⌝ }
     requires { ⌜ Passed (transitionsIn (now run) i) (marked (now seen)) ⌝ }
     ensures { λ r. ⌜ Read (now (run .entry)) i (now (seen .exit)) r ⌝ }
 {
@@ -72,7 +71,7 @@ pub fn numbered(run: &[u8], count: usize, n: usize) -> bool
     requires { ⌜ n ≤ 255 ⌝ }
     ensures { λ r. ⌜ ((cl : List ℕ) → r ≡ numbered (viewed cl (now (run .entry)) n count)) ⌝ }
 {
-    let mut seen = [0u8; MARK_COUNT];
+    let mut seen = [0u8; BYTE_VALUES];
     let mut i = 0;
     while i < count {
         if !read(run, i, &mut seen) {

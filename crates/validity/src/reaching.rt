@@ -7,17 +7,18 @@ ghost use Rattle.automata.specs.Accessible.{allAccessible};
 ghost use Rattle.fields.specs.Fields.{Readable, Runs, RunsOver};
 ghost use Rattle.fields.specs.View.{viewed};
 ghost use Rattle.validity.specs.Rules.{Up, nthUp};
-ghost use Rattle.validity.specs.Spread.{Spread, UpTo, markCount};
-use crate::marks::MARK_COUNT;
+ghost use Rattle.validity.specs.Spread.{Spread, UpTo};
+ghost use Rattle.format.specs.Format.{byteValues};
 use crate::marks::all_marked;
 use crate::marks::args_marked;
 use crate::transitions::out_of;
+use format::BYTE_VALUES;
 use format::TRANSITION_BYTES;
 
 // One transition: marks its output where its arguments are all marked. Answers whether the mark is new.
-fn reach(run: &[u8], at: usize, marks: &mut [u8; MARK_COUNT]) -> bool
+fn reach(run: &[u8], at: usize, marks: &mut [u8; BYTE_VALUES]) -> bool
     requires { ⌜ Readable (now run) at ⌝ }
-    requires { ⌜ length (now marks) ≡ markCount ⌝ }
+    requires { ⌜ length (now marks) ≡ byteValues ⌝ }
     ensures { λ r. ⌜ Spread (Up (now (run .entry)) at) (now (marks .entry)) (now (marks .exit)) r ⌝ }
 {
     let out = out_of(run, at);
@@ -31,9 +32,9 @@ fn reach(run: &[u8], at: usize, marks: &mut [u8; MARK_COUNT]) -> bool
     true
 }
 
-fn reach_all(run: &[u8], count: usize, marks: &mut [u8; MARK_COUNT]) -> bool
+fn reach_all(run: &[u8], count: usize, marks: &mut [u8; BYTE_VALUES]) -> bool
     requires { ⌜ Runs (now run) count ⌝ }
-    requires { ⌜ length (now marks) ≡ markCount ⌝ }
+    requires { ⌜ length (now marks) ≡ byteValues ⌝ }
     ensures { λ r. ⌜ Spread (UpTo (nthUp (now (run .entry))) count) (now (marks .entry)) (now (marks .exit)) r ⌝ }
 {
     let mut changed = false;
@@ -52,7 +53,7 @@ pub fn all_accessible(run: &[u8], count: usize, n: usize) -> bool
     requires { ⌜ n ≤ 255 ⌝ }
     ensures { λ r. ⌜ ((cl : List ℕ) → r ≡ allAccessible (viewed cl (now (run .entry)) n count)) ⌝ }
 {
-    let mut marks = [0u8; MARK_COUNT];
+    let mut marks = [0u8; BYTE_VALUES];
     while reach_all(run, count, &mut marks) {}
     all_marked(&marks, 1, n + 1)
 }

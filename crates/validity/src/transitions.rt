@@ -4,12 +4,10 @@ ghost use Prim.Native.Nat.{_<_};
 ghost use Rattle.format.specs.Format.{maxArity};
 ghost use Rattle.table.specs.Layout.{argOf, arityOf, outOf};
 ghost use Rattle.fields.specs.Fields.{Readable};
-use fields::wide;
 use format::ARGS_AT;
+use format::ARITY_AT;
 use format::OUT_AT;
-
-// The arity stands right before the arguments.
-const ARITY_AT: usize = ARGS_AT - 1;
+use format::wide;
 
 pub fn arity_of(run: &[u8], at: usize) -> usize
     requires { ⌜ Readable (now run) at ⌝ }

@@ -11,19 +11,20 @@ ghost use Rattle.fields.specs.View.{Viewed, viewed};
 ghost use Rattle.marking.specs.Marks.{bit, marked};
 ghost use Rattle.table.specs.Layout.{outOf};
 ghost use Rattle.validity.specs.Rules.{Down, nthDown};
-ghost use Rattle.validity.specs.Spread.{Exactly, Spread, UpTo, markCount};
-use crate::marks::MARK_COUNT;
+ghost use Rattle.validity.specs.Spread.{Exactly, Spread, UpTo};
+ghost use Rattle.format.specs.Format.{byteValues};
 use crate::marks::all_marked;
 use crate::marks::mark;
 use crate::transitions::arg_of;
 use crate::transitions::arity_of;
 use crate::transitions::out_of;
+use format::BYTE_VALUES;
 use format::TRANSITION_BYTES;
 
 // Marks the arguments of a transition whose output is marked. Answers whether a mark is new.
-fn use_args(run: &[u8], at: usize, marks: &mut [u8; MARK_COUNT]) -> bool
+fn use_args(run: &[u8], at: usize, marks: &mut [u8; BYTE_VALUES]) -> bool
     requires { ⌜ Readable (now run) at ⌝ }
-    requires { ⌜ length (now marks) ≡ markCount ⌝ }
+    requires { ⌜ length (now marks) ≡ byteValues ⌝ }
     requires { ⌜ marked (now marks) (outOf (now run) at) ≡ true ⌝ }
     ensures { λ r. ⌜ Spread (Down (now (run .entry)) at) (now (marks .entry)) (now (marks .exit)) r ⌝ }
 {
@@ -40,9 +41,9 @@ fn use_args(run: &[u8], at: usize, marks: &mut [u8; MARK_COUNT]) -> bool
 }
 
 // One transition: marks its arguments where its output is marked.
-fn use_transition(run: &[u8], at: usize, marks: &mut [u8; MARK_COUNT]) -> bool
+fn use_transition(run: &[u8], at: usize, marks: &mut [u8; BYTE_VALUES]) -> bool
     requires { ⌜ Readable (now run) at ⌝ }
-    requires { ⌜ length (now marks) ≡ markCount ⌝ }
+    requires { ⌜ length (now marks) ≡ byteValues ⌝ }
     ensures { λ r. ⌜ Spread (Down (now (run .entry)) at) (now (marks .entry)) (now (marks .exit)) r ⌝ }
 {
     let out = out_of(run, at);
@@ -53,9 +54,9 @@ fn use_transition(run: &[u8], at: usize, marks: &mut [u8; MARK_COUNT]) -> bool
 }
 
 // All transitions, the last first: most states are used by later transitions than those that give them.
-fn use_all(run: &[u8], count: usize, marks: &mut [u8; MARK_COUNT]) -> bool
+fn use_all(run: &[u8], count: usize, marks: &mut [u8; BYTE_VALUES]) -> bool
     requires { ⌜ Runs (now run) count ⌝ }
-    requires { ⌜ length (now marks) ≡ markCount ⌝ }
+    requires { ⌜ length (now marks) ≡ byteValues ⌝ }
     ensures { λ r. ⌜ Spread (UpTo (nthDown (now (run .entry))) count) (now (marks .entry)) (now (marks .exit)) r ⌝ }
 {
     let mut changed = false;
@@ -86,23 +87,23 @@ fn class_mark(classes: &[u8], n: usize, q: usize) -> u8
 }
 
 // Marks the accepting states and no others, whatever was marked before.
-fn mark_accepting(classes: &[u8], n: usize, marks: &mut [u8; MARK_COUNT])
+fn mark_accepting(classes: &[u8], n: usize, marks: &mut [u8; BYTE_VALUES])
     requires { ⌜ n < length (now classes) ⌝ }
-    requires { ⌜ n < markCount ⌝ }
-    requires { ⌜ length (now marks) ≡ markCount ⌝ }
+    requires { ⌜ n < byteValues ⌝ }
+    requires { ⌜ length (now marks) ≡ byteValues ⌝ }
     ensures { λ _. ⌜ Exactly (accepting (viewed (now (classes .entry)) [] n 0)) (now (marks .exit)) ⌝ }
 {
     let mut q = 0;
-    while q < MARK_COUNT {
+    while q < BYTE_VALUES {
         marks[q] = class_mark(classes, n, q);
         q += 1;
     }
 }
 
 // Marks the states that some subtree of an accepted tree runs to and no others, whatever was marked before.
-pub fn useful(classes: &[u8], run: &[u8], count: usize, n: usize, marks: &mut [u8; MARK_COUNT])
+pub fn useful(classes: &[u8], run: &[u8], count: usize, n: usize, marks: &mut [u8; BYTE_VALUES])
     requires { ⌜ Viewed (now classes) (now run) n count ⌝ }
-    requires { ⌜ length (now marks) ≡ markCount ⌝ }
+    requires { ⌜ length (now marks) ≡ byteValues ⌝ }
     ensures { λ _. ⌜ Exactly (coaccessible (viewed (now (classes .entry)) (now (run .entry)) n count)) (now (marks
         .exit)) ⌝ }
 {
@@ -115,7 +116,7 @@ pub fn all_coaccessible(classes: &[u8], run: &[u8], count: usize, n: usize) -> b
     requires { ⌜ Viewed (now classes) (now run) n count ⌝ }
     ensures { λ r. ⌜ r ≡ allCoaccessible (viewed (now (classes .entry)) (now (run .entry)) n count) ⌝ }
 {
-    let mut marks = [0u8; MARK_COUNT];
+    let mut marks = [0u8; BYTE_VALUES];
     useful(classes, run, count, n, &mut marks);
     all_marked(&marks, 1, n + 1)
 }

@@ -10,7 +10,7 @@ use Rattle.intake.proofs.content_refusal.Lts as lts
 use Rattle.fields.proofs.layout_fits.Reads as layout-fits-reads
 use Rattle.fields.proofs.rises.Reads as rises-reads
 use Rattle.fields.proofs.transition_count.Reads as transition-count-reads
-use Rattle.fields.proofs.wide.Reads as wide-reads
+use Rattle.format.proofs.wide.Reads as wide-reads
 use Rattle.intake.proofs.automaton_refusal.Reads as automaton-refusal-reads
 
 -- src/lib.rt:84:9

@@ -15,7 +15,7 @@ use Rattle.listing.proofs.+children+tree.Lts-children as children-lts
 use Rattle.listing.proofs.tree.Reads as tree
 use Rattle.listing.proofs.tree.Kinds as tree-kinds
 use Rattle.listing.proofs.+children+tree.Lts-tree as tree-lts
-use Rattle.listing.proofs.wide.Reads as wide-reads
+use Rattle.format.proofs.wide.Reads as wide-reads
 use Rattle.listing.proofs.+children+tree.{statement}
 use Rattle.listing.proofs.+children+tree.Tie.{close}
 

@@ -24,7 +24,7 @@ use Rattle.running.proofs.run_tree.Reads as run-tree
 use Rattle.running.proofs.run_tree.Kinds as run-tree-kinds
 use Rattle.running.proofs.+run_children+run_tree.Lts-run_tree as run-tree-lts
 use Rattle.fields.proofs.find.Reads as find-reads
-use Rattle.fields.proofs.wide.Reads as wide-reads
+use Rattle.format.proofs.wide.Reads as wide-reads
 
 abbrev μ-run-children : Measures 3 run-children-kinds.ps ℕ
 μ-run-children κs a = 2 * length (a .0 .now) + 1

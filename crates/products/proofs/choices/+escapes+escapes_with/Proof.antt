@@ -13,7 +13,7 @@ use Rattle.products.specs.Choices.{candidate}
 use Rattle.products.proofs.Choosing.{NoneTo, escapes-found, escapes-last, escapes-no, escapes-none}
 use Rattle.products.proofs.Choosing.{escapes-same, next-with, none-next, none-start, with-next}
 use Rattle.products.proofs.Entries.{put-arity, put-label}
-use Rattle.fields.proofs.wide.Reads as wide-reads
+use Rattle.format.proofs.wide.Reads as wide-reads
 use Rattle.products.proofs.choices.+escapes+escapes_with.Lts-escapes as escapes-lts
 use Rattle.products.proofs.choices.+escapes+escapes_with.Lts-escapes_with as escapes-with-lts
 use Rattle.products.proofs.choices.+escapes+escapes_with.Tie.{close}

@@ -14,7 +14,7 @@ use Rattle.products.specs.Growth.{Added, UpTo}
 use Rattle.products.proofs.Choosing.{over-all, over-last, over-many, over-next, over-no}
 use Rattle.products.proofs.Entries.{put-arity, put-entry}
 use Rattle.products.proofs.Growing.{added-begin, added-end, added-next, overflow-next, overflowed, returned}
-use Rattle.fields.proofs.wide.Reads as wide-reads
+use Rattle.format.proofs.wide.Reads as wide-reads
 use Rattle.products.proofs.choices.candidate.Reads as candidate-reads
 use Rattle.products.proofs.expanding.+expand+expand_with.Lts-expand as expand-lts
 use Rattle.products.proofs.expanding.+expand+expand_with.Lts-expand_with as expand-with-lts

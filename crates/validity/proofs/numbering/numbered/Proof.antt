@@ -9,22 +9,22 @@ use borrow.Author.Tests.{not-false, not-true}
 use Rattle.marking.specs.Marks.{marked}
 use Rattle.table.specs.Layout.{transitionsIn}
 use Rattle.validity.specs.Rules.{Read}
-use Rattle.validity.specs.Spread.{markCount}
 use Rattle.automata.proofs.NumberedPass.{Passed}
 use Rattle.fields.proofs.Transitions.{readable}
 use Rattle.validity.proofs.Passing.{pass-broken, pass-end, pass-start}
 use Rattle.validity.proofs.numbering.numbered.Statement.{statement}
 use Rattle.validity.proofs.numbering.numbered.Tie as tie
+use Rattle.format.specs.Format.{byteValues}
 
 abbrev Inv-loop : tie.InvT-loop
 Inv-loop run count n seen₀ i₀ seen i =
-    (i ≤ count) × (length seen ≡ markCount) × Passed (transitionsIn run i) (marked seen)
+    (i ≤ count) × (length seen ≡ byteValues) × Passed (transitionsIn run i) (marked seen)
 
 abbrev μ-loop : tie.MeasureT-loop
 μ-loop run count n seen₀ i₀ seen i = count - i
 
 loop-holds : tie.Need-loop-holds Inv-loop μ-loop
-loop-holds c = (omega arith, length-replicate {A = ℕ} markCount 0, pass-start (c .before .args .run .now))
+loop-holds c = (omega arith, length-replicate {A = ℕ} byteValues 0, pass-start (c .before .args .run .now))
 
 read-requires : tie.Need-read-requires Inv-loop μ-loop
 read-requires c κs =

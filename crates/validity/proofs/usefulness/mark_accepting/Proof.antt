@@ -8,19 +8,19 @@ use borrow.Author.Needs.{needs}
 use Rattle.automata.specs.Automaton.{accepting}
 use Rattle.fields.specs.View.{viewed}
 use Rattle.marking.specs.Marks.{marked}
-use Rattle.validity.specs.Spread.{markCount}
 use Rattle.validity.proofs.Sweeping.{filled-all, filled-next}
 use Rattle.validity.proofs.Views.{viewed-beyond}
 use Rattle.validity.proofs.usefulness.mark_accepting.Statement.{statement}
 use Rattle.validity.proofs.usefulness.mark_accepting.Tie as tie
+use Rattle.format.specs.Format.{byteValues}
 
 abbrev Inv-loop : tie.InvT-loop
 Inv-loop classes n marks₀ q₀ marks q =
-    (q ≤ markCount) × (length marks ≡ markCount) ×
+    (q ≤ byteValues) × (length marks ≡ byteValues) ×
     ((j : ℕ) → j < q → marked marks j ≡ accepting (viewed classes [] n 0) j)
 
 abbrev μ-loop : tie.MeasureT-loop
-μ-loop classes n marks₀ q₀ marks q = markCount - q
+μ-loop classes n marks₀ q₀ marks q = byteValues - q
 
 loop-holds : tie.Need-loop-holds Inv-loop μ-loop
 loop-holds c = (omega arith, c .before .pre .1 .1, λ j h. absurd (omega arith))
@@ -51,7 +51,7 @@ returns : tie.Need-returns Inv-loop μ-loop
 returns c =
     let start = c .before .before .before in
     let now = c .before .loop in
-    let e : now .q ≡ markCount = omega (arith, now .inv .0) in
+    let e : now .q ≡ byteValues = omega (arith, now .inv .0) in
     filled-all (now .inv .1) (λ j h. now .inv .2 j (omega arith))
     (λ j h. viewed-beyond (start .args .classes .now) [] (start .args .n) 0 j (omega (arith, start .pre .1 .0)))
 
