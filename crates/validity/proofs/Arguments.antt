@@ -1,4 +1,4 @@
--- Loops over the arguments of a transition: the answer of the whole is the answer of what is left.
+-- Loops over the arguments of a transition, and over transitions: the answer of the whole is the answer of what is left.
 use mathlib.Core.Bool.{Bool}
 use mathlib.Core.List.{List, [], _∷_, map}
 use mathlib.Core.Path.{_∙_, _≡_, refl, subst, sym}
@@ -7,8 +7,8 @@ use native.Mathlib.Nat.{sub-zero, zero-add}
 use native.Mathlib.Omega.{arith}
 use Rattle.lists.specs.Positions.{upFrom}
 use Rattle.lists.specs.Tests.{every}
-use Rattle.marking.specs.Marks.{marked}
-use Rattle.table.specs.Layout.{argOf, arityOf, transitionAt}
+use Rattle.automata.specs.Automaton.{Transition}
+use Rattle.table.specs.Layout.{argOf, arityOf, nthTransition, transitionAt, transitionsIn}
 use Rattle.automata.proofs.NumberedPass.{top}
 use Rattle.lists.proofs.Loops.{EveryFrom, every-start, upFrom-next, upFrom-none}
 
@@ -17,15 +17,23 @@ pub every-mapped : {A B : Type 0} (p : B → Bool) (f : A → B) (xs : List A) �
 every-mapped p f [] = refl
 every-mapped p f (x ∷ xs) = rw (every-mapped p f xs)
 
--- argument k of a transition is marked
-abbrev pub argMarked : List ℕ → List ℕ → ℕ → ℕ → Bool
-argMarked m s at k = marked m (argOf s at k)
+-- argument k of a transition passes
+abbrev pub argPasses : (ℕ → Bool) → List ℕ → ℕ → ℕ → Bool
+argPasses p s at k = p (argOf s at k)
 
-pub args-start : (m s : List ℕ) (at : ℕ) →
-    EveryFrom (every (marked m) (transitionAt s at .args)) (argMarked m s at) (arityOf s at) 0
-args-start m s at =
-    subst (λ (b : Bool). EveryFrom b (argMarked m s at) (arityOf s at) 0)
-    (sym (every-mapped (marked m) (argOf s at) (upFrom 0 (arityOf s at)))) (every-start (arityOf s at) (zero-add _))
+pub args-start : (p : ℕ → Bool) (s : List ℕ) (at : ℕ) →
+    EveryFrom (every p (transitionAt s at .args)) (argPasses p s at) (arityOf s at) 0
+args-start p s at =
+    subst (λ (b : Bool). EveryFrom b (argPasses p s at) (arityOf s at) 0)
+    (sym (every-mapped p (argOf s at) (upFrom 0 (arityOf s at)))) (every-start (arityOf s at) (zero-add _))
+
+-- the same for transitions
+pub transitions-start : (p : Transition → Bool) (s : List ℕ) (n : ℕ) →
+    EveryFrom (every p (transitionsIn s n)) (λ i. p (nthTransition s i)) n 0
+unfolding transitionsIn
+transitions-start p s n =
+    subst (λ (b : Bool). EveryFrom b (λ i. p (nthTransition s i)) n 0)
+    (sym (every-mapped p (nthTransition s) (upFrom 0 n))) (every-start n (zero-add _))
 
 -- a loop at k, with n its end: s is the greatest of t and the numbers left
 pub record TopFrom (s : ℕ) (f : ℕ → ℕ) (n t k : ℕ) : Type 0 where

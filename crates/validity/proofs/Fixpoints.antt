@@ -162,6 +162,13 @@ module _ (cl s : List ℕ) (n c : ℕ) (over : RunsOver s c n) where
   all-coaccessible-end x =
       every-same (upFrom 1 n) (x .each) ∙ ap (λ k. every (coaccessible A) (upFrom 1 k)) (sym (viewed-states cl s n c))
 
+  -- marks that are not closed are all there are where every state has one
+  pub all-coaccessible-early : {m : List ℕ} {r : Bool} → Using A m → r ≡ every (marked m) (upFrom 1 n) → r ≡ true →
+      true ≡ allCoaccessible A
+  all-coaccessible-early {m} u e h =
+      sym (ap (λ k. every (coaccessible A) (upFrom 1 k)) (viewed-states cl s n c)
+      ∙ every-implied (marked m) (coaccessible A) (upFrom 1 n) (u .growing .within) (sym e ∙ h))
+
   -- ---- acyclic
 
   -- the transitions of the automaton into q, by index

@@ -5,3 +5,4 @@ pub mod Passing
 pub mod Sweeping
 pub mod Blocking
 pub mod Fixpoints
+pub mod Rising

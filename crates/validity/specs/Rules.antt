@@ -2,8 +2,8 @@
 use mathlib.Core.Bool.{Bool, false, true}
 use mathlib.Core.List.{List}
 use mathlib.Core.Path.{_≡_}
-use Prim.Native.Nat.{_*_, _+_, _<_, suc, ℕ}
-use lib.ListN.{length}
+use Prim.Native.Nat.{_*_, _+_, _<_, _≤_, suc, ℕ}
+use lib.ListN.{getD, length}
 use Rattle.automata.specs.Numbered.{firstOpen}
 use Rattle.format.specs.Format.{byteValues, transitionBytes}
 use Rattle.lists.specs.Tests.{every}
@@ -62,6 +62,11 @@ pub record Blocks (s m : List ℕ) (c : ℕ) (b : List ℕ) : Type 0 where
   pub held : (q : ℕ) → marked b q ≡ true → Clear s c (marked m) q → ⊥
 
 -- ---- numbering
+
+-- the mark of a state is one from which on, up to the state, all are marked
+pub record Spans (m : List ℕ) : Type 0 where
+  pub down : (q : ℕ) → getD m q 0 ≤ q
+  pub each : (q p : ℕ) → marked m q ≡ true → getD m q 0 ≤ p → p ≤ q → marked m p ≡ true
 
 -- transition i was read: r says whether the states below its output, down to its arguments, have their numbers
 pub record Read (s : List ℕ) (i : ℕ) (m : List ℕ) (r : Bool) : Type 0 where

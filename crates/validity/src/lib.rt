@@ -5,6 +5,7 @@ mod marks; // a mark for each state
 mod numbering; // condition 13
 mod reaching; // condition 9
 mod usefulness; // condition 10
+mod ranks; // numbers that rise from arguments to outputs
 mod grounding; // condition 11
 
 pub use grounding::acyclic;

@@ -2,22 +2,25 @@
 // state strictly between has one already.
 ghost use mathlib.Core.Path.{_≡_};
 ghost use mathlib.Core.List.{List};
-ghost use Prim.Native.Nat.{_*_, _≤_, max, ℕ};
+ghost use Prim.Native.Nat.{_*_, _-_, _≤_, max, ℕ};
 ghost use lib.ListN.{length};
 ghost use Rattle.automata.specs.Numbered.{numbered};
 ghost use Rattle.automata.proofs.NumberedPass.{Passed, top};
 ghost use Rattle.format.specs.Format.{byteValues, transitionBytes};
+ghost use Rattle.lists.specs.Positions.{upFrom};
+ghost use Rattle.lists.specs.Tests.{every};
 ghost use Rattle.marking.specs.Marks.{marked};
 ghost use Rattle.table.specs.Layout.{transitionAt, transitionsIn};
 ghost use Rattle.fields.specs.Fields.{Readable, RunsOver};
 ghost use Rattle.fields.specs.View.{viewed};
-ghost use Rattle.validity.specs.Rules.{Read};
+ghost use Rattle.validity.specs.Rules.{Read, Spans};
 use crate::marks::all_marked;
 use crate::transitions::arg_of;
 use crate::transitions::arity_of;
 use crate::transitions::out_of;
 use format::BYTE_VALUES;
 use format::TRANSITION_BYTES;
+use format::wide;
 
 fn greater(x: usize, y: usize) -> usize
     ensures { λ r. ⌜ r ≡ max x y ⌝ }
@@ -44,13 +47,33 @@ fn top_argument(run: &[u8], at: usize) -> usize
     t
 }
 
+// Whether the states from one up to, not including, another have all been seen. A mark leads over all states that it
+// says have been seen.
+fn all_seen(seen: &[u8; BYTE_VALUES], from: usize, end: usize) -> bool
+    requires { ⌜ Spans (now seen) ⌝ }
+    requires { ⌜ end ≤ byteValues ⌝ }
+    ensures { λ r. ⌜ r ≡ every (marked (now (seen .entry))) (upFrom from (end - from)) ⌝ }
+{
+    let mut q = end;
+    while from < q {
+        let least = wide(seen[q - 1]);
+        if least == 0 {
+            return false;
+        }
+        q = least;
+    }
+    true
+}
+
 // Reads transition i: whether every state strictly between its arguments and its output has been seen. Then the
-// output is seen.
+// output is seen, and its mark says so of them all.
 fn read(run: &[u8], i: usize, seen: &mut [u8; BYTE_VALUES]) -> bool
     requires { ⌜ Readable (now run) (transitionBytes * i) ⌝ }
     requires { ⌜ length (now seen) ≡ byteValues ⌝ }
     requires { ⌜ Passed (transitionsIn (now run) i) (marked (now seen)) ⌝ }
+    requires { ⌜ Spans (now seen) ⌝ }
     ensures { λ r. ⌜ Read (now (run .entry)) i (now (seen .exit)) r ⌝ }
+    ensures { λ _. ⌜ Spans (now (seen .exit)) ⌝ }
 {
     let at = TRANSITION_BYTES * i;
     let t = top_argument(run, at);
@@ -58,10 +81,10 @@ fn read(run: &[u8], i: usize, seen: &mut [u8; BYTE_VALUES]) -> bool
     if out <= t {
         return true;
     }
-    if !all_marked(seen, t + 1, out) {
+    if !all_seen(seen, t + 1, out) {
         return false;
     }
-    seen[out] = 1;
+    seen[out] = (t + 1) as u8;
     true
 }
 

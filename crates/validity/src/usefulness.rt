@@ -111,12 +111,17 @@ pub fn useful(classes: &[u8], run: &[u8], count: usize, n: usize, marks: &mut [u
     while use_all(run, count, marks) {}
 }
 
-// Condition 10: some subtree of an accepted tree runs to each state.
+// Condition 10: some subtree of an accepted tree runs to each state. In most tables one pass marks them all.
 pub fn all_coaccessible(classes: &[u8], run: &[u8], count: usize, n: usize) -> bool
     requires { ⌜ Viewed (now classes) (now run) n count ⌝ }
     ensures { λ r. ⌜ r ≡ allCoaccessible (viewed (now (classes .entry)) (now (run .entry)) n count) ⌝ }
 {
     let mut marks = [0u8; BYTE_VALUES];
+    mark_accepting(classes, n, &mut marks);
+    use_all(run, count, &mut marks);
+    if all_marked(&marks, 1, n + 1) {
+        return true;
+    }
     useful(classes, run, count, n, &mut marks);
     all_marked(&marks, 1, n + 1)
 }

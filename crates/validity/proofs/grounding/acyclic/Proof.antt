@@ -1,67 +1,50 @@
--- `validity::grounding::acyclic` meets its contract: marks stay at states that do not come back to
--- themselves, and closed marks have all states of an acyclic automaton.
-use mathlib.Core.List.{List, []}
-use mathlib.Core.Path.{_∙_, _≡_}
-use Prim.Native.Nat.{_+_, _-_, ℕ}
-use native.Mathlib.Omega.{arith}
-use lib.ListN.{length}
+-- `validity::grounding::acyclic` meets its contract: ranks that rise show it, else the marks do.
 use borrow.Author.Needs.{needs}
-use Rattle.fields.specs.View.{viewed}
-use Rattle.marking.specs.Marks.{marks as marksOf}
-use Rattle.automata.proofs.Grounded.{returnless}
-use Rattle.validity.proofs.Fixpoints.{acyclic-end, returnless-ground}
-use Rattle.validity.proofs.Spreading.{Growing, growing-less, growing-more, growing-none}
+use Rattle.validity.proofs.Rising.{ranks-acyclic}
 use Rattle.validity.proofs.grounding.acyclic.Statement.{statement}
 use Rattle.validity.proofs.grounding.acyclic.Tie as tie
 
-abbrev Inv-loop : tie.InvT-loop
-Inv-loop run count n marks₀ marks = (cl : List ℕ) → Growing (returnless (viewed cl run n count)) marks
+numbers-requires : tie.Need-numbers-requires
+numbers-requires c κs = search needs
 
-abbrev μ-loop : tie.MeasureT-loop
-μ-loop run count n marks₀ marks = length marks - marksOf marks
+ranks-rise-requires : tie.Need-ranks-rise-requires
+ranks-rise-requires c κs = search needs
 
-loop-holds : tie.Need-loop-holds Inv-loop μ-loop
-loop-holds c = λ cl. growing-none
-
-ground-all-requires : tie.Need-ground-all-requires Inv-loop μ-loop
-ground-all-requires c κs =
-    let start = c .before .before .before in
-    (start .pre .0 .runs, (omega (arith, start .pre .1), c .before .loop .inv [] .size))
-
-loop-less : tie.Need-loop-less Inv-loop μ-loop
-loop-less c = growing-less (c .before .ground-all .ensures) (c .if1 .taken)
-
-loop-again : tie.Need-loop-again Inv-loop μ-loop
-loop-again c =
-    let start = c .before .before .before .before .before in
-    λ cl. growing-more
-    (returnless-ground cl (start .args .run .now) (start .args .n) (start .args .count) (start .pre .0))
-    (c .before .before .before .loop .inv cl) (c .before .ground-all .ensures)
-
-add-all-marked : tie.Need-add-all-marked Inv-loop μ-loop
-add-all-marked c = search needs
-
-all-marked-requires : tie.Need-all-marked-requires Inv-loop μ-loop
-all-marked-requires c κs = search needs
-
-returns : tie.Need-returns Inv-loop μ-loop
+returns : tie.Need-returns
 returns c =
-    let start = c .before .before .before .before .before .before .before in
-    let e : start .args .n + 1 - 1 ≡ start .args .n = omega arith in
-    λ cl. rw e at (c .all-marked .ensures) ∙ acyclic-end cl (start .args .run .now) (start .args .n)
-    (start .args .count) (start .pre .0) (c .before .before .before .before .before .loop .inv cl)
-    (c .before .before .before .ground-all .ensures) (c .before .before .if1 .left)
+    let start = c .before .before .before .before .before in
+    let at-numbers = c .before .before .before in
+    ranks-acyclic (start .args .run .now) (start .args .n) (start .args .count) (at-numbers .numbers .result)
+    (start .pre .0) (c .before .ranks-rise .ensures) (c .if1 .taken)
+
+depth-first-requires : tie.Need-depth-first-requires
+depth-first-requires c κs = search needs
+
+ranks-rise-requires-2 : tie.Need-ranks-rise-requires-2
+ranks-rise-requires-2 c κs = search needs
+
+returns-2 : tie.Need-returns-2
+returns-2 c =
+    let start = c .before .before .before .before .before .before .before .before .before in
+    let at-depth-first = c .before .before .before in
+    ranks-acyclic (start .args .run .now) (start .args .n) (start .args .count)
+    (at-depth-first .depth-first .result) (start .pre .0) (c .before .ranks-rise2 .ensures) (c .if2 .taken)
+
+all-grounded-requires : tie.Need-all-grounded-requires
+all-grounded-requires c κs = search needs
+
+returns-3 : tie.Need-returns-3
+returns-3 c = search needs
 
 pub acyclic-spec : {M : Type 1} → statement M
 acyclic-spec =
     tie.close
     (tie.spec
-    Inv-loop
-    μ-loop
-    loop-holds
-    ground-all-requires
-    loop-less
-    loop-again
-    add-all-marked
-    all-marked-requires
-    returns)
+    numbers-requires
+    ranks-rise-requires
+    returns
+    depth-first-requires
+    ranks-rise-requires-2
+    returns-2
+    all-grounded-requires
+    returns-3)

@@ -8,13 +8,13 @@ use Rattle.marking.specs.Marks.{marked}
 use Rattle.table.specs.Layout.{arityOf, transitionAt}
 use Rattle.lists.proofs.Loops.{EveryFrom, every-broken, every-end, every-next}
 use Rattle.marking.proofs.Sweeps.{nonzero-false, nonzero-true}
-use Rattle.validity.proofs.Arguments.{argMarked, args-start}
+use Rattle.validity.proofs.Arguments.{argPasses, args-start}
 use Rattle.validity.proofs.marks.args_marked.Statement.{statement}
 use Rattle.validity.proofs.marks.args_marked.Tie as tie
 
 abbrev Inv-loop : tie.InvT-loop
 Inv-loop run at marks arity k₀ k =
-    (arity ≡ arityOf run at) × EveryFrom (every (marked marks) (transitionAt run at .args)) (argMarked marks run at)
+    (arity ≡ arityOf run at) × EveryFrom (every (marked marks) (transitionAt run at .args)) (argPasses (marked marks) run at)
     (arityOf run at) k
 
 abbrev μ-loop : tie.MeasureT-loop
@@ -26,7 +26,7 @@ arity-of-requires c κs = search needs
 loop-holds : tie.Need-loop-holds Inv-loop μ-loop
 loop-holds c =
     let start = c .before .before in
-    (c .arity-of .ensures, args-start (start .args .marks .now) (start .args .run .now) (start .args .at))
+    (c .arity-of .ensures, args-start (marked (start .args .marks .now)) (start .args .run .now) (start .args .at))
 
 arg-of-requires : tie.Need-arg-of-requires Inv-loop μ-loop
 arg-of-requires c κs = search needs

@@ -8,29 +8,30 @@ use borrow.Author.Needs.{needs}
 use borrow.Author.Tests.{not-false, not-true}
 use Rattle.marking.specs.Marks.{marked}
 use Rattle.table.specs.Layout.{transitionsIn}
-use Rattle.validity.specs.Rules.{Read}
+use Rattle.validity.specs.Rules.{Read, Spans}
 use Rattle.automata.proofs.NumberedPass.{Passed}
 use Rattle.fields.proofs.Transitions.{readable}
-use Rattle.validity.proofs.Passing.{pass-broken, pass-end, pass-start}
+use Rattle.validity.proofs.Passing.{pass-broken, pass-end, pass-start, spans-none}
 use Rattle.validity.proofs.numbering.numbered.Statement.{statement}
 use Rattle.validity.proofs.numbering.numbered.Tie as tie
 use Rattle.format.specs.Format.{byteValues}
 
 abbrev Inv-loop : tie.InvT-loop
 Inv-loop run count n seen₀ i₀ seen i =
-    (i ≤ count) × (length seen ≡ byteValues) × Passed (transitionsIn run i) (marked seen)
+    (i ≤ count) × (length seen ≡ byteValues) × Passed (transitionsIn run i) (marked seen) × Spans seen
 
 abbrev μ-loop : tie.MeasureT-loop
 μ-loop run count n seen₀ i₀ seen i = count - i
 
 loop-holds : tie.Need-loop-holds Inv-loop μ-loop
-loop-holds c = (omega arith, length-replicate {A = ℕ} byteValues 0, pass-start (c .before .args .run .now))
+loop-holds c =
+    (omega arith, length-replicate {A = ℕ} byteValues 0, pass-start (c .before .args .run .now), spans-none)
 
 read-requires : tie.Need-read-requires Inv-loop μ-loop
 read-requires c κs =
     let start = c .before .before .before .before in
     let now = c .before .before .loop in
-    (readable (start .pre .0 .runs) (now .i) (omega arith), (now .inv .1, now .inv .2))
+    (readable (start .pre .0 .runs) (now .i) (omega arith), (now .inv .1, (now .inv .2, now .inv .3)))
 
 returns : tie.Need-returns Inv-loop μ-loop
 returns c =
@@ -39,7 +40,7 @@ returns c =
     let s = start .args .run .now in
     let e = not-true _ (c .if1 .taken) in
     λ cl. pass-broken cl s (start .args .n) (start .args .count) (start .pre .0) (now .i) (omega arith)
-    (subst (Read s (now .i) (c .before .read .last .1 .1 .0)) e (c .before .read .ensures))
+    (subst (Read s (now .i) (c .before .read .last .1 .1 .0)) e (c .before .read .ensures .0))
 
 add-i : tie.Need-add-i Inv-loop μ-loop
 add-i c = search needs
@@ -49,7 +50,8 @@ loop-less c = search needs
 
 loop-again : tie.Need-loop-again Inv-loop μ-loop
 loop-again c =
-    (omega arith, c .before .read .ensures .size, c .before .read .ensures .passed (not-false _ (c .if1 .left)))
+    let read = c .before .read .ensures in
+    (omega arith, read .0 .size, read .0 .passed (not-false _ (c .if1 .left)), read .1)
 
 add-all-marked : tie.Need-add-all-marked Inv-loop μ-loop
 add-all-marked c = search needs

@@ -3,7 +3,7 @@ use mathlib.Core.Path.{_∙_, sym}
 use native.Mathlib.Omega.{arith}
 use borrow.Author.Needs.{needs}
 use borrow.Author.Tests.{not-false, not-true}
-use Rattle.validity.proofs.Passing.{read-broken, read-low, read-next}
+use Rattle.validity.proofs.Passing.{read-broken, read-low, read-next, spans-next}
 use Rattle.validity.proofs.numbering.read.Statement.{statement}
 use Rattle.validity.proofs.numbering.read.Tie as tie
 
@@ -18,24 +18,34 @@ out-of-requires c κs = search needs
 
 returns : tie.Need-returns
 returns c =
-    let start = c .before .before .before .before in
-    read-low (start .args .run .now) (start .args .i) (start .args .seen .now) (start .pre .1 .0) (start .pre .1 .1)
-    (omega (arith, c .before .before .top-argument .ensures, c .before .out-of .ensures .0))
+    let start = c .before .before .before .before in (
+      read-low (start .args .run .now) (start .args .i) (start .args .seen .now) (start .pre .1 .0)
+          (start .pre .1 .1 .0) (omega (arith, c .before .before .top-argument .ensures, c .before .out-of .ensures .0)),
+      start .pre .1 .1 .1,
+    )
 
-add-all-marked : tie.Need-add-all-marked
-add-all-marked c = search needs
+add-all-seen : tie.Need-add-all-seen
+add-all-seen c = search needs
 
-all-marked-requires : tie.Need-all-marked-requires
-all-marked-requires c κs = search needs
+all-seen-requires : tie.Need-all-seen-requires
+all-seen-requires c κs = search needs
 
 returns-2 : tie.Need-returns-2
 returns-2 c =
     let start = c .before .before .before .before .before .before .before in
     let t = c .before .before .before .before .before .top-argument .ensures in
     let o = c .before .before .before .before .out-of .ensures .0 in
-    let e = sym (c .before .all-marked .ensures) ∙ not-true _ (c .if2 .taken) in
-    read-broken (start .args .run .now) (start .args .i) (start .args .seen .now) (start .pre .1 .0)
-    (start .pre .1 .1) (rw (t, o) at e)
+    let e = sym (c .before .all-seen .ensures) ∙ not-true _ (c .if2 .taken) in (
+      read-broken (start .args .run .now) (start .args .i) (start .args .seen .now) (start .pre .1 .0)
+          (start .pre .1 .1 .0) (rw (t, o) at e),
+      start .pre .1 .1 .1,
+    )
+
+add-seen : tie.Need-add-seen
+add-seen c = search needs
+
+cast-seen : tie.Need-cast-seen
+cast-seen c = search needs
 
 element-write-seen : tie.Need-element-write-seen
 element-write-seen c = search needs
@@ -45,10 +55,13 @@ returns-3 c =
     let start = c .before .before .before .before .before .before .before in
     let t = c .before .before .before .before .before .top-argument .ensures in
     let o = c .before .before .before .before .out-of .ensures .0 in
-    let e = sym (c .before .all-marked .ensures) ∙ not-false _ (c .if2 .left) in
-    rw o
-    (read-next (start .args .run .now) (start .args .i) (start .args .seen .now) (start .pre .1 .0) (start .pre .1 .1)
-    (omega (arith, t, o)) (omega (arith, o)) (rw (t, o) at e))
+    let e = sym (c .before .all-seen .ensures) ∙ not-false _ (c .if2 .left) in (
+      rw (t, o) (read-next (start .args .run .now) (start .args .i) (start .args .seen .now) (start .pre .1 .0)
+          (start .pre .1 .1 .0) (omega (arith, t, o)) (omega (arith, o)) (rw (t, o) at e)),
+      spans-next (start .args .seen .now) (c .before .before .before .before .before .top-argument .result)
+          (c .before .before .before .before .out-of .result) (start .pre .1 .0) (omega arith) (omega arith) e
+          (start .pre .1 .1 .1),
+    )
 
 pub read-spec : {M : Type 1} → statement M
 read-spec =
@@ -58,8 +71,10 @@ read-spec =
     top-argument-requires
     out-of-requires
     returns
-    add-all-marked
-    all-marked-requires
+    add-all-seen
+    all-seen-requires
     returns-2
+    add-seen
+    cast-seen
     element-write-seen
     returns-3)
