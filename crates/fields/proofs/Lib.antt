@@ -1,3 +1,4 @@
 pub mod Transitions
 pub mod Laws
 pub mod Returns
+pub mod Bounds

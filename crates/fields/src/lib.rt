@@ -2,7 +2,6 @@
 // `&table[203..]` of a table, or a scratch. Layout and order are conditions 7 and 8.
 ghost use mathlib.Core.Path.{_≡_};
 ghost use Prim.Native.Nat.{_*_, _+_, _-_, _<_, _≤_};
-ghost use lib.Dec.{eqb};
 ghost use lib.ListN.{length, take};
 ghost use Rattle.automata.specs.Automaton.{lookup, matches};
 ghost use Rattle.automata.specs.Order.{lex, precedes, rising};
@@ -11,8 +10,8 @@ ghost use Rattle.format.specs.Format.{maxArity, maxStates, tableBytes, transiti
 ghost use Rattle.lists.specs.Positions.{upFrom};
 ghost use Rattle.lists.specs.Tests.{any, every};
 ghost use Rattle.table.specs.Layout.{argFits, classFits, layoutFits, nthFits, transitionAt, transitionCount};
-ghost use Rattle.table.specs.Layout.{transitionFits, transitionsIn, zeroAt};
-ghost use Rattle.fields.specs.Fields.{Readable, Runs, firstArgs, foundState, isFound};
+ghost use Rattle.table.specs.Layout.{stateCount, transitionFits, transitionsIn, zeroAt};
+ghost use Rattle.fields.specs.Fields.{Readable, Runs, atMost, firstArgs, foundState, isFound};
 use format::ARGS_AT;
 use format::ARITY_AT;
 use format::COUNT_AT;
@@ -41,30 +40,33 @@ pub fn transition_count(table: &[u8]) -> usize
     256 * high + low
 }
 
-// Whether the class of state q is 0 or 1, and 0 beyond the number of states.
-fn class_fits(table: &[u8], q: usize) -> bool
-    requires { ⌜ length (now table) ≡ tableBytes ⌝ }
-    requires { ⌜ q ≤ maxStates ⌝ }
-    ensures { λ r. ⌜ r ≡ classFits (now (table .entry)) q ⌝ }
+// Whether the bytes from one up to, not including, another are at most a bound. No byte ends the loop, so that a machine
+// may look at many at once: on small tables these are nearly all bytes that there are.
+fn at_most(run: &[u8], from: usize, end: usize, bound: u8) -> bool
+    requires { ⌜ end ≤ length (now run) ⌝ }
+    ensures { λ r. ⌜ r ≡ every (atMost (now (run .entry)) bound) (upFrom from (end - from)) ⌝ }
 {
-    if q <= wide(table[0]) {
-        return table[q] <= 1;
+    let mut all = true;
+    let mut j = from;
+    while j < end {
+        let small = run[j] <= bound;
+        all = all & small;
+        j += 1;
     }
-    table[q] == 0
+    all
 }
 
-fn classes_fit(table: &[u8]) -> bool
+// Whether the classes of the states are 0 or 1, and 0 beyond the number of states.
+fn classes_fit(table: &[u8], states: usize) -> bool
     requires { ⌜ length (now table) ≡ tableBytes ⌝ }
+    requires { ⌜ states ≡ stateCount (now table) ⌝ }
+    requires { ⌜ states ≤ maxStates ⌝ }
     ensures { λ r. ⌜ r ≡ every (classFits (now (table .entry))) (upFrom 1 maxStates) ⌝ }
 {
-    let mut q = 1;
-    while q <= MAX_STATES {
-        if !class_fits(table, q) {
-            return false;
-        }
-        q += 1;
+    if !at_most(table, 1, states + 1, 1) {
+        return false;
     }
-    true
+    at_most(table, states + 1, COUNT_AT, 0)
 }
 
 // Whether q is one of the states 1 to `states`.
@@ -136,24 +138,11 @@ fn transitions_fit(run: &[u8], states: usize, count: usize) -> bool
     true
 }
 
-fn is_zero(byte: u8) -> bool
-    ensures { λ r. ⌜ r ≡ eqb byte 0 ⌝ }
-{
-    byte == 0
-}
-
-// Whether the bytes of a run from one on are all 0. No byte ends the loop, so that a machine may look at many at once.
+// Whether the bytes of a run from one on are all 0.
 fn zeros_from(run: &[u8], start: usize) -> bool
     ensures { λ r. ⌜ r ≡ every (zeroAt (now (run .entry))) (upFrom start (length (now (run .entry)) - start)) ⌝ }
 {
-    let mut clean = true;
-    let mut j = start;
-    while j < run.len() {
-        let zero = is_zero(run[j]);
-        clean = clean & zero;
-        j += 1;
-    }
-    clean
+    at_most(run, start, run.len(), 0)
 }
 
 // Condition 7: every field of a table is in its range, and every byte that must be 0 is.
@@ -165,7 +154,7 @@ pub fn layout_fits(table: &[u8]) -> bool
     if states > MAX_STATES {
         return false;
     }
-    if !classes_fit(table) {
+    if !classes_fit(table, states) {
         return false;
     }
     let count = transition_count(table);

@@ -40,9 +40,7 @@ fn useful_marks(classes: &[u8], run: &[u8], count: usize, n: usize) -> [u8; BYTE
     requires { ⌜ Viewed (now classes) (now run) n count ⌝ }
     ensures { λ r. ⌜ UsefulMarks (viewed (now (classes .entry)) (now (run .entry)) n count) r ⌝ }
 {
-    let mut marks = [0u8; BYTE_VALUES];
-    useful(classes, run, count, n, &mut marks);
-    marks
+    useful(classes, run, count, n)
 }
 
 // One round and some more.

@@ -2,12 +2,13 @@
 use mathlib.Core.Bool.{Bool, false, true}
 use mathlib.Core.List.{List}
 use mathlib.Core.Path.{_∙_, _≡_, ap, refl, sym}
-use Prim.Native.Nat.{_+_, _<_, _≤_, ℕ}
+use Prim.Native.Nat.{_+_, _<_, _≤_, suc, zero, ℕ}
 use native.Mathlib.Omega.{arith}
 use lib.Dec.{eqb, ltb}
-use lib.ListN.{List·getD-eq-default, length, set}
+use lib.ListN.{length, set}
 use lib.Seq.{getD-set-other, getD-set-same}
 use borrow.Author.Tests.{eqb-false, eqb-true, ltb-false, ltb-true}
+use Rattle.automata.specs.Automaton.{Automaton, accepting}
 use Rattle.lists.specs.Tests.{every}
 use Rattle.marking.specs.Marks.{bit, marked, nonzero}
 use Rattle.table.specs.Layout.{argOf, outOf, transitionAt}
@@ -49,11 +50,23 @@ filled-next f m q v h e below j l = go (eqb j q) refl
     go false d = let ne = eqb-false j q d in
         ap nonzero (getD-set-other m q j v 0 ne) ∙ below j (omega arith)
 
-pub filled-all : {f : ℕ → Bool} {m : List ℕ} → length m ≡ byteValues → ((j : ℕ) → j < byteValues → marked m j ≡ f j) →
-    ((j : ℕ) → byteValues ≤ j → f j ≡ false) → Exactly f m
-filled-all {f} {m} size below beyond = record { size = size; each = λ j. go j (ltb j byteValues) refl }
+-- the entry of no state, which is not accepting
+pub filled-start : (A : Automaton) (m : List ℕ) → marked m 0 ≡ false → (j : ℕ) → j < 1 → marked m j ≡ accepting A j
+filled-start A m e zero h = e
+filled-start A m e (suc j) h = absurd (omega arith)
+
+-- and none from there on, as the test says
+pub filled-all : {f : ℕ → Bool} {m : List ℕ} → length m ≡ byteValues → (k : ℕ) →
+    ((j : ℕ) → j < k → marked m j ≡ f j) → ((j : ℕ) → k ≤ j → marked m j ≡ false) →
+    ((j : ℕ) → k ≤ j → f j ≡ false) → Exactly f m
+filled-all {f} {m} size k below above beyond = record { size = size; each = λ j. go j (ltb j k) refl }
   where
-    go : (j : ℕ) (b : Bool) → ltb j byteValues ≡ b → marked m j ≡ f j
-    go j true d = below j (ltb-true j byteValues d)
-    go j false d = let l = ltb-false j byteValues d in
-        ap nonzero (List·getD-eq-default m 0 (omega arith)) ∙ sym (beyond j l)
+    go : (j : ℕ) (b : Bool) → ltb j k ≡ b → marked m j ≡ f j
+    go j true d = below j (ltb-true j k d)
+    go j false d = let l = ltb-false j k d in above j l ∙ sym (beyond j l)
+
+-- an entry leaves those above it as they are
+pub filled-above : (m : List ℕ) (q v : ℕ) → ((j : ℕ) → q ≤ j → marked m j ≡ false) → (j : ℕ) → q + 1 ≤ j →
+    marked (set m q v) j ≡ false
+filled-above m q v above j l =
+    ap nonzero (getD-set-other m q j v 0 (λ e. omega arith)) ∙ above j (omega arith)

@@ -2,7 +2,7 @@
 ghost use mathlib.Core.Bool.{true};
 ghost use mathlib.Core.List.{[]};
 ghost use mathlib.Core.Path.{_≡_};
-ghost use Prim.Native.Nat.{_<_};
+ghost use Prim.Native.Nat.{_<_, _≤_};
 ghost use lib.ListN.{length};
 ghost use Rattle.automata.specs.Automaton.{accepting};
 ghost use Rattle.automata.specs.Coaccessible.{allCoaccessible, coaccessible};
@@ -69,46 +69,42 @@ fn use_all(run: &[u8], count: usize, marks: &mut [u8; BYTE_VALUES]) -> bool
     changed
 }
 
-// 1 where q is an accepting state of 1 to n, else 0.
+// 1 where state q is accepting, else 0.
 fn class_mark(classes: &[u8], n: usize, q: usize) -> u8
     requires { ⌜ n < length (now classes) ⌝ }
+    requires { ⌜ 1 ≤ q ⌝ }
+    requires { ⌜ q ≤ n ⌝ }
     ensures { λ r. ⌜ r ≡ bit (accepting (viewed (now (classes .entry)) [] n 0) q) ⌝ }
 {
-    if q == 0 {
-        return 0;
-    }
-    if q > n {
-        return 0;
-    }
     if classes[q] == 1 {
         return 1;
     }
     0
 }
 
-// Marks the accepting states and no others, whatever was marked before.
-fn mark_accepting(classes: &[u8], n: usize, marks: &mut [u8; BYTE_VALUES])
+// The accepting states, marked.
+fn accepting_marks(classes: &[u8], n: usize) -> [u8; BYTE_VALUES]
     requires { ⌜ n < length (now classes) ⌝ }
     requires { ⌜ n < byteValues ⌝ }
-    requires { ⌜ length (now marks) ≡ byteValues ⌝ }
-    ensures { λ _. ⌜ Exactly (accepting (viewed (now (classes .entry)) [] n 0)) (now (marks .exit)) ⌝ }
+    ensures { λ r. ⌜ Exactly (accepting (viewed (now (classes .entry)) [] n 0)) r ⌝ }
 {
-    let mut q = 0;
-    while q < BYTE_VALUES {
+    let mut marks = [0u8; BYTE_VALUES];
+    let mut q = 1;
+    while q <= n {
         marks[q] = class_mark(classes, n, q);
         q += 1;
     }
+    marks
 }
 
-// Marks the states that some subtree of an accepted tree runs to and no others, whatever was marked before.
-pub fn useful(classes: &[u8], run: &[u8], count: usize, n: usize, marks: &mut [u8; BYTE_VALUES])
+// The states that some subtree of an accepted tree runs to, marked.
+pub fn useful(classes: &[u8], run: &[u8], count: usize, n: usize) -> [u8; BYTE_VALUES]
     requires { ⌜ Viewed (now classes) (now run) n count ⌝ }
-    requires { ⌜ length (now marks) ≡ byteValues ⌝ }
-    ensures { λ _. ⌜ Exactly (coaccessible (viewed (now (classes .entry)) (now (run .entry)) n count)) (now (marks
-        .exit)) ⌝ }
+    ensures { λ r. ⌜ Exactly (coaccessible (viewed (now (classes .entry)) (now (run .entry)) n count)) r ⌝ }
 {
-    mark_accepting(classes, n, marks);
-    while use_all(run, count, marks) {}
+    let mut marks = accepting_marks(classes, n);
+    while use_all(run, count, &mut marks) {}
+    marks
 }
 
 // Condition 10: some subtree of an accepted tree runs to each state. In most tables one pass marks them all.
@@ -116,12 +112,10 @@ pub fn all_coaccessible(classes: &[u8], run: &[u8], count: usize, n: usize) -> b
     requires { ⌜ Viewed (now classes) (now run) n count ⌝ }
     ensures { λ r. ⌜ r ≡ allCoaccessible (viewed (now (classes .entry)) (now (run .entry)) n count) ⌝ }
 {
-    let mut marks = [0u8; BYTE_VALUES];
-    mark_accepting(classes, n, &mut marks);
+    let mut marks = accepting_marks(classes, n);
     use_all(run, count, &mut marks);
     if all_marked(&marks, 1, n + 1) {
         return true;
     }
-    useful(classes, run, count, n, &mut marks);
-    all_marked(&marks, 1, n + 1)
+    all_marked(&useful(classes, run, count, n), 1, n + 1)
 }

@@ -1,58 +1,36 @@
--- `fields::classes_fit` meets its contract: the answer is that of the classes left.
-use mathlib.Core.Path.{_∙_, refl, sym}
-use Prim.Native.Nat.{_-_}
-use native.Mathlib.Omega.{arith}
-use borrow.Author.Needs.{needs}
+-- `fields::classes_fit` meets its contract: the classes of the states, then the bytes beyond them.
 use borrow.Author.Tests.{not-false, not-true}
-use Rattle.format.specs.Format.{countAt, maxStates}
-use Rattle.lists.specs.Positions.{upFrom}
-use Rattle.lists.specs.Tests.{every}
-use Rattle.table.specs.Layout.{classFits}
-use Rattle.lists.proofs.Loops.{EveryFrom, every-broken, every-end, every-next, every-start}
+use borrow.Author.Needs.{needs}
+use Rattle.fields.proofs.Bounds.{class-broken, classes-decide}
 use Rattle.fields.proofs.classes_fit.Statement.{statement}
 use Rattle.fields.proofs.classes_fit.Tie as tie
 
-abbrev Inv-loop : tie.InvT-loop
-Inv-loop table q₀ q = EveryFrom (every (classFits table) (upFrom 1 maxStates)) (classFits table) countAt q
+add-at-most : tie.Need-add-at-most
+add-at-most c = search needs
 
-abbrev μ-loop : tie.MeasureT-loop
-μ-loop table q₀ q = countAt - q
+at-most-requires : tie.Need-at-most-requires
+at-most-requires c κs = search needs
 
-loop-holds : tie.Need-loop-holds Inv-loop μ-loop
-loop-holds c = every-start maxStates refl
-
-class-fits-requires : tie.Need-class-fits-requires Inv-loop μ-loop
-class-fits-requires c κs = search needs
-
-returns : tie.Need-returns Inv-loop μ-loop
+returns : tie.Need-returns
 returns c =
-    every-broken (c .before .before .before .loop .inv) (omega arith)
-    (sym (c .before .class-fits .ensures) ∙ not-true _ (c .if1 .taken))
+    let start = c .before .before .before in
+    class-broken (start .args .table .now) ((rw (start .pre .1 .0) at (start .pre .1 .1)))
+    (rw (start .pre .1 .0) at (c .before .at-most .ensures)) (not-true _ (c .if1 .taken))
 
-add-q : tie.Need-add-q Inv-loop μ-loop
-add-q c = search needs
+add-at-most-2 : tie.Need-add-at-most-2
+add-at-most-2 c = search needs
 
-loop-less : tie.Need-loop-less Inv-loop μ-loop
-loop-less c = search needs
+at-most-requires-2 : tie.Need-at-most-requires-2
+at-most-requires-2 c κs = search needs
 
-loop-again : tie.Need-loop-again Inv-loop μ-loop
-loop-again c =
-    every-next (c .before .before .before .loop .inv) (omega arith)
-    (sym (c .before .class-fits .ensures) ∙ not-false _ (c .if1 .left))
-
-returns-2 : tie.Need-returns-2 Inv-loop μ-loop
-returns-2 c = every-end (c .before .loop .inv) (omega arith)
+returns-2 : tie.Need-returns-2
+returns-2 c =
+    let start = c .before .before .before .before in
+    classes-decide (start .args .table .now) ((rw (start .pre .1 .0) at (start .pre .1 .1)))
+    (rw (start .pre .1 .0) at (c .before .before .at-most .ensures)) (not-false _ (c .before .if1 .left))
+    (rw (start .pre .1 .0) at (c .at-most2 .ensures))
 
 pub classes-fit-spec : {M : Type 1} → statement M
 classes-fit-spec =
     tie.close
-    (tie.spec
-    Inv-loop
-    μ-loop
-    loop-holds
-    class-fits-requires
-    returns
-    add-q
-    loop-less
-    loop-again
-    returns-2)
+    (tie.spec add-at-most at-most-requires returns add-at-most-2 at-most-requires-2 returns-2)

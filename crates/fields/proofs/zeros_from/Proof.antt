@@ -1,55 +1,21 @@
-use native.Mathlib.Omega.{arith}
-use mathlib.Core.Path.{refl}
-use Prim.Native.Nat.{_+_, _-_, _≤_}
+-- `fields::zeros_from` meets its contract: a byte that is at most 0 is 0.
+use mathlib.Core.Path.{_∙_}
+use Prim.Native.Nat.{_-_}
 use lib.ListN.{length}
-use Rattle.lists.specs.Positions.{upFrom}
-use Rattle.lists.specs.Tests.{every}
-use Rattle.table.specs.Layout.{zeroAt}
-use Rattle.lists.proofs.Loops.{CleanFrom, clean-end, clean-next, clean-start}
 use borrow.Author.Needs.{needs}
+use Rattle.lists.specs.Positions.{upFrom}
+use Rattle.fields.proofs.Bounds.{zeros-at-most}
 use Rattle.fields.proofs.zeros_from.Statement.{statement}
 use Rattle.fields.proofs.zeros_from.Tie as tie
 
-abbrev Inv-loop : tie.InvT-loop
-Inv-loop run start clean₀ j₀ clean j =
-    (start ≤ j) × CleanFrom (every (zeroAt run) (upFrom start (length run - start))) clean (zeroAt run) (start +
-    (length run - start)) j
+at-most-requires : tie.Need-at-most-requires
+at-most-requires c κs = search needs
 
-abbrev μ-loop : tie.MeasureT-loop
-μ-loop run start clean₀ j₀ clean j = length run - j
-
-loop-holds : tie.Need-loop-holds Inv-loop μ-loop
-loop-holds c = (omega arith, clean-start (length (c .before .args .run .now) - (c .before .args) .start) refl)
-
-shared-slice-read-is-zero : tie.Need-shared-slice-read-is-zero Inv-loop μ-loop
-shared-slice-read-is-zero c = search needs
-
-is-zero-requires : tie.Need-is-zero-requires Inv-loop μ-loop
-is-zero-requires c κs = search needs
-
-add-j : tie.Need-add-j Inv-loop μ-loop
-add-j c = search needs
-
-loop-less : tie.Need-loop-less Inv-loop μ-loop
-loop-less c = omega arith
-
-loop-again : tie.Need-loop-again Inv-loop μ-loop
-loop-again c =
-    (omega arith, clean-next (c .before .before .before .loop .inv .1) (omega arith) (c .is-zero .ensures))
-
-returns : tie.Need-returns Inv-loop μ-loop
-returns c = clean-end (c .before .loop .inv .1) (omega arith)
+returns : tie.Need-returns
+returns c =
+    let start = c .before .before in
+    c .at-most .ensures ∙ zeros-at-most (start .args .run .now)
+    (upFrom (start .args .start) (length (start .args .run .now) - (start .args) .start))
 
 pub zeros-from-spec : {M : Type 1} → statement M
-zeros-from-spec =
-    tie.close
-    (tie.spec
-    Inv-loop
-    μ-loop
-    loop-holds
-    shared-slice-read-is-zero
-    is-zero-requires
-    add-j
-    loop-less
-    loop-again
-    returns)
+zeros-from-spec = tie.close (tie.spec at-most-requires returns)

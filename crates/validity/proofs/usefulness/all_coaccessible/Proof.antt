@@ -1,4 +1,5 @@
--- `validity::usefulness::all_coaccessible` meets its contract: marks that are coaccessible states, all of them at the end.
+-- `validity::usefulness::all_coaccessible` meets its contract: marks that are coaccessible states, all of them at
+-- the end.
 use mathlib.Core.Path.{_∙_, _≡_}
 use Prim.Native.Nat.{_+_, _-_}
 use native.Mathlib.Omega.{arith}
@@ -7,8 +8,8 @@ use Rattle.validity.proofs.Fixpoints.{all-coaccessible-early, all-coacc
 use Rattle.validity.proofs.usefulness.all_coaccessible.Statement.{statement}
 use Rattle.validity.proofs.usefulness.all_coaccessible.Tie as tie
 
-mark-accepting-requires : tie.Need-mark-accepting-requires
-mark-accepting-requires c κs = search needs
+accepting-marks-requires : tie.Need-accepting-marks-requires
+accepting-marks-requires c κs = search needs
 
 use-all-requires : tie.Need-use-all-requires
 use-all-requires c κs = search needs
@@ -21,14 +22,14 @@ all-marked-requires c κs = search needs
 
 returns : tie.Need-returns
 returns c =
-    let start = c .before .before .before .before .before .before .before .before .before in
-    let at-mark-accepting = c .before .before .before .before .before in
+    let start = c .before .before .before .before .before .before .before .before in
+    let at-accepting-marks = c .before .before .before .before .before in
     let at-use-all = c .before .before .before in
     let e : (start .args .n) + 1 - 1 ≡ (start .args .n) = omega arith in all-coaccessible-early
     (start .args .classes .now) (start .args .run .now) (start .args .n) (start .args .count) (start .pre .over)
     (using-more (start .args .classes .now) (start .args .run .now) (start .args .n) (start .args .count)
     (start .pre .over) (using-start (start .args .classes .now) (start .args .run .now) (start .args .n)
-    (start .args .count) (start .pre .over) (at-mark-accepting .mark-accepting .ensures))
+    (start .args .count) (start .pre .over) (at-accepting-marks .accepting-marks .ensures))
     (at-use-all .use-all .ensures)) (rw e at (c .before .all-marked .ensures)) (c .if1 .taken)
 
 useful-requires : tie.Need-useful-requires
@@ -42,7 +43,7 @@ all-marked-requires-2 c κs = search needs
 
 returns-2 : tie.Need-returns-2
 returns-2 c =
-    let start = c .before .before .before .before .before .before .before .before .before .before .before .before .before in
+    let start = c .before .before .before .before .before .before .before .before .before .before .before in
     let e : (start .args .n) + 1 - 1 ≡ (start .args .n) = omega arith in rw e at (c .all-marked2 .ensures) ∙
     all-coaccessible-end (start .args .classes .now) (start .args .run .now) (start .args .n) (start .args .count)
     (start .pre .over) (c .before .before .useful .ensures)
@@ -51,7 +52,7 @@ pub all-coaccessible-spec : {M : Type 1} → statement M
 all-coaccessible-spec =
     tie.close
     (tie.spec
-    mark-accepting-requires
+    accepting-marks-requires
     use-all-requires
     add-all-marked
     all-marked-requires

@@ -16,36 +16,38 @@ Inv-loop classes run count n marks₀ marks = Using (viewed classes run n count)
 abbrev μ-loop : tie.MeasureT-loop
 μ-loop classes run count n marks₀ marks = length marks - marksOf marks
 
-mark-accepting-requires : tie.Need-mark-accepting-requires Inv-loop μ-loop
-mark-accepting-requires c κs =
-    let start = c .before .before .before in
-    (start .pre .0 .classes, (omega (arith, start .pre .0 .states), start .pre .1))
+accepting-marks-requires : tie.Need-accepting-marks-requires Inv-loop μ-loop
+accepting-marks-requires c κs =
+    let start = c .before .before in
+    (start .pre .classes, omega (arith, start .pre .states))
 
 loop-holds : tie.Need-loop-holds Inv-loop μ-loop
 loop-holds c =
-    let start = c .before .before .before .before in
+    let start = c .before .before .before in
     using-start (start .args .classes .now) (start .args .run .now) (start .args .n) (start .args .count)
-    (start .pre .0 .over) (c .mark-accepting .ensures)
+    (start .pre .over) (c .accepting-marks .ensures)
 
 use-all-requires : tie.Need-use-all-requires Inv-loop μ-loop
 use-all-requires c κs =
-    let start = c .before .before .before .before .before .before in
-    (start .pre .0 .over .runs, c .before .loop .inv .growing .size)
+    let start = c .before .before .before .before .before in
+    (start .pre .over .runs, c .before .loop .inv .growing .size)
 
 loop-less : tie.Need-loop-less Inv-loop μ-loop
 loop-less c = growing-less (c .before .use-all .ensures) (c .if1 .taken)
 
 loop-again : tie.Need-loop-again Inv-loop μ-loop
 loop-again c =
-    let start = c .before .before .before .before .before .before .before .before in
+    let start = c .before .before .before .before .before .before .before in
+    let now = c .before .before .before in
     using-more (start .args .classes .now) (start .args .run .now) (start .args .n) (start .args .count)
-    (start .pre .0 .over) (c .before .before .before .loop .inv) (c .before .use-all .ensures)
+    (start .pre .over) (now .loop .inv) (c .before .use-all .ensures)
 
 returns : tie.Need-returns Inv-loop μ-loop
 returns c =
-    let start = c .before .before .before .before .before .before .before .before in
+    let start = c .before .before .before .before .before .before .before in
+    let now = c .before .before .before in
     using-end (start .args .classes .now) (start .args .run .now) (start .args .n) (start .args .count)
-    (start .pre .0 .over) (c .before .before .before .loop .inv) (c .before .use-all .ensures) (c .if1 .left)
+    (start .pre .over) (now .loop .inv) (c .before .use-all .ensures) (c .if1 .left)
 
 pub useful-spec : {M : Type 1} → statement M
 useful-spec =
@@ -53,7 +55,7 @@ useful-spec =
     (tie.spec
     Inv-loop
     μ-loop
-    mark-accepting-requires
+    accepting-marks-requires
     loop-holds
     use-all-requires
     loop-less
