@@ -1,5 +1,6 @@
 pub mod Names
 pub mod Entries
+pub mod Groups
 pub mod Arguments
 pub mod Ready
 pub mod Merging

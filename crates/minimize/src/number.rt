@@ -1,5 +1,7 @@
 // States numbered by the rule: of all transitions whose arguments have numbers and whose output has none, the
-// first by the order of the new numbers gives its output the next number. A number 0 is none.
+// first by the order of the new numbers gives its output the next number. A number 0 is none. The run stands by
+// child count, then label, which the order compares first too: a search need not look beyond the ready ones.
+ghost use mathlib.Core.Bool.{true};
 ghost use mathlib.Core.Path.{_≡_};
 ghost use mathlib.Core.List.{List, map};
 ghost use Prim.Native.Nat.{_<_, _≤_, ℕ};
@@ -12,8 +14,8 @@ ghost use Rattle.lists.specs.Tests.{every};
 ghost use Rattle.marking.specs.Marks.{marked};
 ghost use Rattle.table.specs.Layout.{transitionAt, transitionsIn};
 ghost use Rattle.minimize.specs.Merged.{nameIn};
-ghost use Rattle.minimize.specs.Numbering.{Numbered, NumbersOf, Outputs, Unnumbered, improves, picked};
-ghost use Rattle.minimize.specs.Numbering.{readyBy};
+ghost use Rattle.minimize.specs.Numbering.{Grouped, Numbered, NumbersOf, OtherGroup, Outputs, Settled};
+ghost use Rattle.minimize.specs.Numbering.{Unnumbered, improves, picked, readyBy};
 use format::ARGS_AT;
 use format::ARITY_AT;
 use format::BYTE_VALUES;
@@ -109,24 +111,65 @@ fn improves_on(run: &[u8], count: usize, best: usize, i: usize, numbers: &[u8; B
     precedes_by(run, TRANSITION_BYTES * i, TRANSITION_BYTES * best, numbers)
 }
 
-// The first ready transition; `count` where none is ready.
-fn first_ready(run: &[u8], count: usize, numbers: &[u8; BYTE_VALUES]) -> usize
+// Whether there is a first ready one so far and transition i has another child count or label.
+fn other_group(run: &[u8], count: usize, best: usize, i: usize) -> bool
     requires { ⌜ Runs (now run) count ⌝ }
+    requires { ⌜ best ≤ count ⌝ }
+    requires { ⌜ i < count ⌝ }
+    ensures { λ r. ⌜ (r ≡ true → OtherGroup (now (run .entry)) count best i) ⌝ }
+{
+    if best == count {
+        return false;
+    }
+    if run[TRANSITION_BYTES * i + ARITY_AT] != run[TRANSITION_BYTES * best + ARITY_AT] {
+        return true;
+    }
+    run[TRANSITION_BYTES * i] != run[TRANSITION_BYTES * best]
+}
+
+// The first ready transition; `count` where none is ready. Those before `start` are not.
+fn first_ready(run: &[u8], start: usize, count: usize, numbers: &[u8; BYTE_VALUES]) -> usize
+    requires { ⌜ Runs (now run) count ⌝ }
+    requires { ⌜ Grouped (now run) count ⌝ }
+    requires { ⌜ start ≤ count ⌝ }
+    requires { ⌜ Settled (now run) start (now numbers) ⌝ }
     ensures { λ r. ⌜ r ≤ count ⌝ }
     ensures { λ r. ⌜ ((o : List ℕ) → NumbersOf (now (numbers .entry)) o →
         picked (now (run .entry)) count r ≡ best o (transitionsIn (now (run .entry)) count)) ⌝ }
 {
     let mut best = count;
-    let mut i = 0;
+    let mut i = start;
     while i < count {
         let at = i;
         i += 1;
+        if other_group(run, count, best, at) {
+            return best;
+        }
         if !improves_on(run, count, best, at, numbers) {
             continue;
         }
         best = at;
     }
     best
+}
+
+// The first transition from `start` on whose output has no number; `count` where there is none.
+fn first_unsettled(run: &[u8], start: usize, count: usize, numbers: &[u8; BYTE_VALUES]) -> usize
+    requires { ⌜ Runs (now run) count ⌝ }
+    requires { ⌜ start ≤ count ⌝ }
+    requires { ⌜ Settled (now run) start (now numbers) ⌝ }
+    ensures { λ r. ⌜ r ≤ count ⌝ }
+    ensures { λ r. ⌜ Settled (now (run .entry)) r (now (numbers .entry)) ⌝ }
+{
+    let mut i = start;
+    while i < count {
+        let out = wide(run[TRANSITION_BYTES * i + OUT_AT]);
+        if numbers[out] == 0 {
+            return i;
+        }
+        i += 1;
+    }
+    i
 }
 
 // Numbers the states: `order` has them by their numbers, `numbers` the number of each. How many there are.
@@ -137,6 +180,7 @@ pub fn number(
     numbers: &mut [u8; BYTE_VALUES],
 ) -> usize
     requires { ⌜ Runs (now run) count ⌝ }
+    requires { ⌜ Grouped (now run) count ⌝ }
     requires { ⌜ Outputs (now run) count ⌝ }
     requires { ⌜ length (now order) ≡ byteValues ⌝ }
     requires { ⌜ length (now numbers) ≡ byteValues ⌝ }
@@ -144,13 +188,15 @@ pub fn number(
     ensures { λ r. ⌜ Numbered (transitionsIn (now (run .entry)) count) (now (order .exit)) (now (numbers .exit)) r ⌝ }
 {
     let mut k = 0;
-    let mut best = first_ready(run, count, numbers);
+    let mut start = 0;
+    let mut best = first_ready(run, start, count, numbers);
     while best < count {
         let q = run[TRANSITION_BYTES * best + OUT_AT];
         order[k] = q;
         k += 1;
         numbers[wide(q)] = k as u8;
-        best = first_ready(run, count, numbers);
+        start = first_unsettled(run, start, count, numbers);
+        best = first_ready(run, start, count, numbers);
     }
     k
 }
