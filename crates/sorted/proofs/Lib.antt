@@ -3,4 +3,5 @@ pub mod Searched
 pub mod Moved
 pub mod Placed
 pub mod Inserted
+pub mod Overwritten
 pub mod States
