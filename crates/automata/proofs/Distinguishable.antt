@@ -19,7 +19,8 @@ use Rattle.trees.specs.Tree.{Tree, node}
 use Rattle.automata.proofs.Accessible.{forest}
 use Rattle.automata.proofs.Steps.{ArgsAccessible, Fits, Taken, step-view}
 use Rattle.lists.proofs.Closure.{closed, closure-all}
-use Rattle.lists.proofs.Positions.{eqPair-same, eqPair-true, in-grid, in-upFrom}
+use Rattle.lists.proofs.Distinct.{grid-in}
+use Rattle.lists.proofs.Positions.{eqPair-same, eqPair-true, in-grid, in-upFrom, upFrom-in}
 use Rattle.lists.proofs.Tests.{any-in, append-in, every-in, in-any, in-append-left, in-append-right, in-map, map-in}
 use Rattle.lists.proofs.Tests.{or-cases, or-left, or-right}
 
@@ -65,17 +66,24 @@ slots-in (l ∷ ls) s m = go (append-in (slotsOf (l .label) (l .args)) (slots ls
     go (inl i) ih = let r = slotsOf-in (l .label) (l .args) s i in (l, inl refl, r .0, r .1)
     go (inr i) ih = let r = ih i in (r .0, inr (r .1), r .2, r .3)
 
-differ : (a b : Bool) → not (Bool·beq a b) ≡ true → a ≢ b
+pub differ : (a b : Bool) → not (Bool·beq a b) ≡ true → a ≢ b
 differ true true e q = false≢true e
 differ true false e q = true≢false q
 differ false true e q = false≢true q
 differ false false e q = false≢true e
 
-differs : (a b : Bool) → a ≢ b → not (Bool·beq a b) ≡ true
+pub differs : (a b : Bool) → a ≢ b → not (Bool·beq a b) ≡ true
 differs true true h = absurd (h refl)
 differs true false h = refl
 differs false true h = refl
 differs false false h = absurd (h refl)
+
+-- the two of a pair are states, or 0
+pub pairs-in : (A : Automaton) (k : Pair) → k ∈ pairs A → (k .0 ≤ states A) × (k .1 ≤ states A)
+pairs-in A k i = let g = grid-in (upFrom 0 (suc (states A))) (upFrom 0 (suc (states A))) k i in (
+  omega (arith, upFrom-in 0 (suc (states A)) (k .0) (g .0)),
+  omega (arith, upFrom-in 0 (suc (states A)) (k .1) (g .1)),
+)
 
 module _ (A : Automaton) where
   abbrev pub Separated : Pair → Type 0

@@ -11,9 +11,9 @@ use Rattle.automata.specs.Valid.{statesInRange}
 use Rattle.lists.specs.Positions.{upFrom}
 use Rattle.lists.specs.Tests.{_∈_, every}
 use Rattle.automata.proofs.Bounded.{rank, rank-less}
-use Rattle.automata.proofs.Leads.{Feeds, Leads, leads-iff, more, once}
+use Rattle.automata.proofs.Leads.{Leads, leads-before, leads-iff, more, once}
 use Rattle.automata.proofs.Valid.{ranged-transition}
-use Rattle.lists.proofs.Loops.{at-every, every-at}
+use Rattle.lists.proofs.Intervals.{at-every, every-at}
 use Rattle.lists.proofs.Tests.{every-in, in-every}
 
 -- every argument of every transition into q passes the test
@@ -23,11 +23,6 @@ Grounded A m q = (τ : Transition) → τ ∈ A .transitions → τ .out ≡ q �
 -- q does not come back to itself
 abbrev pub returnless : Automaton → ℕ → Bool
 returnless A q = not (leads A q q)
-
--- one step more at the start
-leads-before : {A : Automaton} {p q r : ℕ} → Feeds A p q → Leads A q r → Leads A p r
-leads-before f (once g) = more (once f) g
-leads-before f (more l g) = more (leads-before f l) g
 
 module _ (A : Automaton) (ranged : statesInRange A ≡ true) where
   returnless-no : (q : ℕ) → returnless A q ≡ true → Leads A q q → ⊥

@@ -27,6 +27,11 @@ pub data Leads (A : Automaton) : ℕ → ℕ → Type 0 where
   once : {p q : ℕ} → Feeds A p q → Leads A p q
   more : {p x q : ℕ} → Leads A p x → Feeds A x q → Leads A p q
 
+-- one step more at the start
+pub leads-before : {A : Automaton} {p q r : ℕ} → Feeds A p q → Leads A q r → Leads A p r
+leads-before f (once g) = more (once f) g
+leads-before f (more l g) = more (leads-before f l) g
+
 pub feeds-iff : (A : Automaton) (p q : ℕ) → (feeds A p q ≡ true) ↔ Feeds A p q
 unfolding feeds
 feeds-iff A p q = (to, from)

@@ -4,6 +4,7 @@ pub mod Order
 pub mod Accessible
 pub mod Coaccessible
 pub mod Distinguishable
+pub mod Symmetry
 pub mod Unique
 pub mod Numbers
 pub mod Numbering

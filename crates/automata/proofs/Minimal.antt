@@ -37,7 +37,7 @@ first-pass p (y ∷ xs) x i e = go (λ j. first-pass p xs x j e) (p y) refl i
     go ih false h (inl z) = absurd (true≢false (sym e ∙ ap p z ∙ h))
     go ih false h (inr j) = let r = ih j in (r .0, inr (r .1))
 
-first-same : (p q : ℕ → Bool) (xs : List ℕ) → ((x : ℕ) → x ∈ xs → p x ≡ q x) → first p xs ≡ first q xs
+pub first-same : (p q : ℕ → Bool) (xs : List ℕ) → ((x : ℕ) → x ∈ xs → p x ≡ q x) → first p xs ≡ first q xs
 first-same p q [] h = refl
 first-same p q (x ∷ xs) h = cc (h x (inl refl), first-same p q xs (λ y j. h y (inr j)))
 

@@ -16,7 +16,7 @@ use Rattle.lists.specs.Positions.{upFrom}
 use Rattle.lists.specs.Tests.{_∈_, every}
 use Rattle.automata.proofs.Valid.{ranged-transition}
 use Rattle.lists.proofs.Closure.{closed}
-use Rattle.lists.proofs.Loops.{at-every, every-at}
+use Rattle.lists.proofs.Intervals.{at-every, every-at}
 use Rattle.lists.proofs.Positions.{in-upFrom}
 use Rattle.lists.proofs.Tests.{and-both, and-left, and-right, eqb-same, every-in, in-any, in-every}
 

@@ -16,7 +16,6 @@ use Rattle.automata.specs.Renumber.{best, choose, maybe, numbering, numb
 use Rattle.lists.specs.Closure.{elem}
 use Rattle.lists.specs.Tests.{_∈_, every, filter}
 use Rattle.automata.proofs.Order.{lex-asym, lex-below, lex-self}
-use Rattle.lists.proofs.Intervals.{getD-in, in-getD}
 use Rattle.lists.proofs.Tests.{and-right, filter-in, filter-length, filter-weaker, in-filter, or-left, or-right}
 
 -- l is ready, and no ready transition of the list comes before it
@@ -178,31 +177,3 @@ module _ (Q : List Transition) where
   pub numbering-opened : Opened-each (numbering Q) × Exhausted (numbering Q)
   unfolding numbering left
   numbering-opened = settle (length Q) [] opened-none (filter-length (λ l. true) Q)
-
--- what these say depends on the members of the list alone
-module _ (Q R : List Transition) (there : (τ : Transition) → τ ∈ Q → τ ∈ R)
-    (back : (τ : Transition) → τ ∈ R → τ ∈ Q) where
-  pub best-same : (o : List ℕ) (l : Transition) → Best o Q l → Best o R l
-  best-same o l (i, r, least) = (there l i, r, λ m j e. least m (back m j) e)
-
-  pub opened-same : (o : List ℕ) → Opened-each Q o → Opened-each R o
-  unfolding Opened
-  opened-same o h k i = let (l, e, b) = h k i in (l, e, best-same (take k o) l b)
-
-  pub exhausted-same : (o : List ℕ) → Exhausted Q o → Exhausted R o
-  exhausted-same o h m j = h m (back m j)
-
--- the same by index
-module _ (Q : List Transition) (o : List ℕ) (d : Transition) where
-  pub best-at : (i : ℕ) → i < length Q → ready o (getD Q i d) ≡ true →
-      ((j : ℕ) → j < length Q → ready o (getD Q j d) ≡ true →
-      precedes (renumber o (getD Q j d)) (renumber o (getD Q i d)) ≡ false) → Best o Q (getD Q i d)
-  best-at i h r least = (getD-in Q i d h, r, first)
-    where
-      first : (m : Transition) → m ∈ Q → ready o m ≡ true →
-          precedes (renumber o m) (renumber o (getD Q i d)) ≡ false
-      first m n e = let (j, l, x) = in-getD Q m d n in
-          rw x (least j l (rw x at e))
-
-  pub exhausted-at : ((j : ℕ) → j < length Q → ready o (getD Q j d) ≡ false) → Exhausted Q o
-  exhausted-at h m n = let (j, l, x) = in-getD Q m d n in rw x (h j l)

@@ -10,6 +10,7 @@ use borrow.Author.Tests.{eq-eqb, eqb-true}
 use Rattle.automata.specs.Renumber.{numberOf}
 use Rattle.lists.specs.Closure.{elem}
 use Rattle.lists.specs.Positions.{shift}
+use Rattle.lists.proofs.Positions.{shift-pos}
 
 shift-le : (k m : ℕ) → k ≤ m → shift k ≤ suc m
 shift-le zero m h = omega arith
@@ -18,10 +19,6 @@ shift-le (suc k) m h = omega arith
 shift-back : (k m : ℕ) → 1 ≤ shift k → shift k ≤ suc m → (1 ≤ k) × (k ≤ m)
 shift-back zero m h l = omega arith
 shift-back (suc k) m h l = omega arith
-
-shift-pos : (k : ℕ) → 1 ≤ k → 1 ≤ shift k
-shift-pos zero h = omega arith
-shift-pos (suc k) h = omega arith
 
 -- what is among the first k has the same number there, at most k
 pub number-prefix : (k : ℕ) (o : List ℕ) (q : ℕ) → elem eqb q (take k o) ≡ true →

@@ -23,8 +23,7 @@ use Rattle.automata.proofs.Steps.{Fits}
 use Rattle.automata.proofs.Subtrees.{numbered-subtree}
 use Rattle.lists.proofs.Distinct.{Distinct, closure-distinct, distinct-length, filter-distinct, grid-distinct}
 use Rattle.lists.proofs.Distinct.{map-distinct, upFrom-distinct}
-use Rattle.lists.proofs.Positions.{eqPair-same, eqPair-true, in-upFrom, position-inj, position-length}
-use Rattle.lists.proofs.Positions.{upFrom-length}
+use Rattle.lists.proofs.Positions.{eqPair-same, eqPair-true, in-upFrom, position-inj, position-length, upFrom-length}
 use Rattle.lists.proofs.Tests.{map-in}
 use Rattle.trees.proofs.Trees.{eqTree-same, eqTree-true}
 

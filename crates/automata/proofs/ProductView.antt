@@ -5,9 +5,7 @@ use mathlib.Core.List.{List, [], _∷_, map}
 use mathlib.Core.Logic.{_⊎_, inl, inr}
 use mathlib.Core.Path.{_∙_, _≡_, ap, fun-ext, refl, subst, sym}
 use Prim.Native.Nat.{_≤_, ℕ}
-use native.Mathlib.Omega.{arith}
 use lib.Dec.{eqb}
-use borrow.Author.Tests.{ne-eqb}
 use Rattle.automata.specs.Automaton.{Automaton, Transition, accepting, accepts, run, states}
 use Rattle.automata.specs.Canonical.{Canonical}
 use Rattle.automata.specs.Change.{deleteTree, insertTree, productWith, subtreeAutomaton, subtreeNumber}
@@ -19,13 +17,13 @@ use Rattle.automata.specs.Valid.{inRange, statesInRange}
 use Rattle.lists.specs.Positions.{Pair}
 use Rattle.lists.specs.Tests.{_∈_, every}
 use Rattle.trees.specs.Tree.{Tree}
-use Rattle.automata.proofs.Change.{own-subtree, subtrees-closed, subtrees-fit}
+use Rattle.automata.proofs.Change.{own-not-zero, subtrees-closed, subtrees-fit}
 use Rattle.automata.proofs.Minimal.{minimal-canonical}
 use Rattle.automata.proofs.PairRuns.{EachNumber, Follows, NumberOrNone, follows-run}
 use Rattle.automata.proofs.Product.{accepts-product, product-accessible, product-fits}
 use Rattle.automata.proofs.ProductLaws.{pairs-exact, pairsWith}
 use Rattle.automata.proofs.Steps.{ArgsAccessible, Fits}
-use Rattle.automata.proofs.Subtrees.{run-subtree, subtree-numbered}
+use Rattle.automata.proofs.Subtrees.{run-subtree}
 use Rattle.automata.proofs.Unique.{unique}
 use Rattle.automata.proofs.Valid.{range-in, ranged-fits}
 use Rattle.lists.proofs.Tests.{and-both, every-in, in-every}
@@ -159,11 +157,7 @@ module _ (A : Automaton) (fit : Fits A) (t : Tree) (δ : ℕ → Pair) (acc : �
       accepting P p ≡ (accepting A (δ p .0) || eqb (δ p .1) (subtreeNumber (subtrees t) t))) →
       (C : Automaton) → Canonical (accepts P) C → C ≡ insertTree t A
   unfolding insertTree
-  view-insert = view-minimal (λ k. accepting A (k .0) || eqb (k .1) (subtreeNumber (subtrees t) t)) own
-    where
-      own : eqb 0 (subtreeNumber (subtrees t) t) ≡ false
-      own = ne-eqb 0 (subtreeNumber (subtrees t) t)
-          (λ e. omega (arith, subtree-numbered (subtrees t) (subtrees-closed t) t (own-subtree t)))
+  view-insert = view-minimal (λ k. accepting A (k .0) || eqb (k .1) (subtreeNumber (subtrees t) t)) (own-not-zero t)
 
   pub view-delete : ((p : ℕ) → acc p ≡ true →
       accepting P p ≡ (accepting A (δ p .0) && not (eqb (δ p .1) (subtreeNumber (subtrees t) t)))) →

@@ -10,8 +10,7 @@ use lib.ListN.{length, length-map}
 use borrow.Author.Tests.{le-leb, ne-eqb}
 use Rattle.automata.specs.Automaton.{Transition, lookup, run, runs, states, step}
 use Rattle.automata.specs.Canonical.{eachTree, transitionOf}
-use Rattle.automata.specs.Change.{addNew, collect, collects, subtreeAutomaton, subtreeNumber}
-use Rattle.automata.specs.Change.{subtreeTransition}
+use Rattle.automata.specs.Change.{addNew, collect, collects, subtreeAutomaton, subtreeNumber, subtreeTransition}
 use Rattle.lists.specs.Closure.{elem}
 use Rattle.lists.specs.Tests.{_∈_, any}
 use Rattle.trees.specs.Tree.{Forest, Tree, cons, eqTree, nil, node}
@@ -19,7 +18,7 @@ use Rattle.automata.proofs.Steps.{Fits, Has, lookup-in, lookup-view}
 use Rattle.lists.proofs.Closure.{elem-in}
 use Rattle.lists.proofs.Positions.{position-in, position-inj, position-length, position-none, position-pos}
 use Rattle.lists.proofs.Tests.{in-every, in-map, map-in}
-use Rattle.trees.proofs.Trees.{AllTrees, eqTree-same, eqTree-true}
+use Rattle.trees.proofs.Trees.{AllTrees, eqTree-same, eqTree-true, node-children}
 
 -- a list of trees that holds the children of what it holds
 abbrev pub Closed : List Tree → Type 0
@@ -40,9 +39,6 @@ add-new t P = go (elem eqTree t P) refl
     go true e = (λ u i. i, elem-in eqTree eqTree-true eqTree-same t P e)
     go false e = (λ u i. inr i, inl refl)
 
-node-inj : (a b : ℕ) (f g : Forest) → node a f ≡ node b g → f ≡ g
-node-inj a b f g e = cc
-
 add-closed : (a : ℕ) (f : Forest) (P : List Tree) → Closed P → AllTrees (λ t. t ∈ P) f →
     Closed (addNew (node a f) P)
 add-closed a f P c h = go (elem eqTree (node a f) P)
@@ -53,7 +49,7 @@ add-closed a f P c h = go (elem eqTree (node a f) P)
       where
         new : Closed (node a f ∷ P)
         new b g (inl e) =
-            subst (λ (x : Forest). AllTrees (λ t. t ∈ (node a f ∷ P)) x) (sym (node-inj b a g f e))
+            subst (λ (x : Forest). AllTrees (λ t. t ∈ (node a f ∷ P)) x) (sym (node-children b a g f e))
             (all-within P (node a f ∷ P) (λ u i. inr i) f h)
         new b g (inr i) = all-within P (node a f ∷ P) (λ u i. inr i) g (c b g i)
 

@@ -16,12 +16,7 @@ use Rattle.trees.specs.Tree.{Tree}
 use Rattle.automata.proofs.Coaccessible.{coaccessible-useful, useful-coaccessible}
 use Rattle.automata.proofs.Distinguishable.{distinguishable-separated, separated-distinguishable}
 use Rattle.automata.proofs.Steps.{Fits, runContext-zero}
-
--- tests that follow from each other are equal
-same-test : (a b : Bool) → (a ≡ true → b ≡ true) → (b ≡ true → a ≡ true) → a ≡ b
-same-test true b f g = sym (f refl)
-same-test false true f g = g refl
-same-test false false f g = refl
+use Rattle.lists.proofs.Tests.{same-test}
 
 -- "no state" is not accepted in any context, so what differs from it is
 apart-true : (a b : Bool) → b ≡ false → a ≢ b → a ≡ true

@@ -3,7 +3,7 @@ use mathlib.Core.List.{List, [], _++_}
 use mathlib.Core.Path.{_∙_, _≡_, ap, refl, sym}
 use Prim.Native.Nat.{_*_, _+_, _-_, _<_, _^_, _≤_, ℕ}
 use native.Mathlib.Omega.{arith}
-use lib.ListN.{drop, length, length-drop, length-take, take}
+use lib.ListN.{length, take}
 use lib.Seq.{take-add, take-all}
 use Rattle.console.specs.Buffers.{FedTo, Ready, Room, emptyScratch, emptyTable, outBytes, console}
 use Rattle.console.specs.Console.{Console, fed, heldBytes, start, written}
@@ -11,9 +11,10 @@ use Rattle.console.specs.declared.Fed.{Fed}
 use Rattle.console.specs.declared.Progress.{Progress}
 use Rattle.console.proofs.Feeding.{fed-append}
 use Rattle.console.proofs.Parts.{fed-written}
-use Rattle.bench.specs.Turns.{Came, Idle, Met, MetAll, Rested, Stayed, Takes, Took, Turned, chunkBytes}
+use Rattle.bench.specs.Turns.{Idle, Met, MetAll, Takes, Took, Turned, chunkBytes}
 use Rattle.bench.specs.declared.Turn.{Turn}
 use Rattle.bench.specs.declared.Turn.the-variants.{Ended, Failed, More}
+use Rattle.lists.proofs.Parts.{part, part-drop, part-length}
 
 -- the first bytes of s, up to a place, were taken
 pub record Taking (p : Progress) (x : Console) (s : List ℕ) (at : ℕ) (q : Progress) (l b w o : List ℕ) : Type 0 where
@@ -36,31 +37,25 @@ taking-start p l b w o s R I = record {
 
 module _ {p : Progress} {x : Console} {s : List ℕ} {at : ℕ} {q : Progress} {l b w o : List ℕ}
     (T : Taking p x s at q l b w o) where
-  part-whole : take (length s - at) (drop at s) ≡ drop at s
-  part-whole = take-all (length s - at) (drop at s) (simp length-drop (omega arith))
-
-  part-length : length (take (length s - at) (drop at s)) ≡ length s - at
-  part-length = simp (length-take, length-drop) (omega arith)
-
   -- there is room for the next piece
-  pub taking-room : Idle p (length s) → Room q (length (take (length s - at) (drop at s))) 1
+  pub taking-room : Idle p (length s) → Room q (length (part s at)) 1
   taking-room I = record {
-    lines = omega (arith, part-length, T .lines, T .within, I .lines);
+    lines = omega (arith, part-length s at, T .lines, T .within, I .lines);
     printed = omega (arith, T .printed);
   }
 
   module _ (f : Fed) (l' b' w' o' : List ℕ)
-      (F : FedTo q (console q l b w o) (take (length s - at) (drop at s)) f l' b' w' o') where
+      (F : FedTo q (console q l b w o) (part s at) f l' b' w' o') where
     pub taken-within : at + f .taken ≤ length s
-    taken-within = omega (arith, part-length, F .within, T .within)
+    taken-within = omega (arith, part-length s at, F .within, T .within)
 
     pub taken-some : at < length s → 0 < f .taken
-    taken-some h = F .some (omega (arith, part-length))
+    taken-some h = F .some (omega (arith, part-length s at))
 
     pub taking-next :
         Taking p x s (at + f .taken) (record { held = f .progress .held; lines = f .progress .lines; printed = 0 })
         l' b' w' o'
-    taking-next = let piece = take (f .taken) (take (length s - at) (drop at s)) in record {
+    taking-next = let piece = take (f .taken) (part s at) in record {
       ready = record { line = F .ready .line; out = F .ready .out; held = F .ready .held };
       printed = refl;
       within = taken-within;
@@ -71,9 +66,9 @@ module _ {p : Progress} {x : Console} {s : List ℕ} {at : ℕ} {q : Progress} {
           ap written (sym (fed-append (take at s) piece x) ∙ ap (fed x) bytes));
     }
       where
-        bytes : take at s ++ take (f .taken) (take (length s - at) (drop at s)) ≡ take (at + f .taken) s
+        bytes : take at s ++ take (f .taken) (part s at) ≡ take (at + f .taken) s
         bytes =
-            ap (λ (r : List ℕ). take at s ++ take (f .taken) r) part-whole ∙ sym (take-add at (f .taken) s)
+            ap (λ (r : List ℕ). take at s ++ take (f .taken) r) (part-drop s at) ∙ sym (take-add at (f .taken) s)
 
   pub taking-all : length s ≤ at → Takes p x s q l b w o
   taking-all h = record {

@@ -1,25 +1,19 @@
 -- Samples P1 to P11 of document 01, as rows of one table with one test.
-use mathlib.Core.Bool.{Bool, _&&_, true}
-use mathlib.Core.List.{List, [], _++_, _∷_}
+use mathlib.Core.Bool.{Bool, _&&_}
+use mathlib.Core.List.{List, [], _∷_}
 use Prim.Native.Nat.{suc, zero, ℕ}
 use lib.Dec.{eqb}
 use lib.ListN.{length, replicate}
 use Rattle.automata.specs.Automaton.{Automaton, accepting, emptyAutomaton, states}
 use Rattle.automata.specs.Change.{productPairs, productTransitions}
+use Rattle.automata.specs.Example.{fork, leaf}
 use Rattle.calls.specs.Calls.{Change, delete, insert}
 use Rattle.calls.specs.Series.{canonicalAfter}
 use Rattle.format.specs.Format.{tableBytes}
-use Rattle.lists.specs.Tests.{every, sameList}
+use Rattle.lists.specs.Tests.{sameList}
 use Rattle.table.specs.Layout.{encode}
 use Rattle.trees.specs.Listing.{listing, listingRefusal}
 use Rattle.trees.specs.Tree.{Tree, cons, nil, node}
-
--- (a), and (a (b) (c))
-abbrev pub leaf : ℕ → Tree
-leaf a = node a nil
-
-abbrev pub fork : ℕ → ℕ → ℕ → Tree
-fork a b c = node a (cons (leaf b) (cons (leaf c) nil))
 
 -- the chain of n + 1 nodes with label 1
 abbrev pub chain : ℕ → Tree

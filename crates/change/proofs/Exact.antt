@@ -28,7 +28,7 @@ use Rattle.automata.proofs.Distinguishable.{run-fits}
 use Rattle.automata.proofs.Minimal.{minimal-canonical}
 use Rattle.automata.proofs.ProductView.{ProductView, view-args, view-delete, view-fits, view-insert}
 use Rattle.automata.proofs.Steps.{Fits}
-use Rattle.minimize.proofs.Quotient.{viewed-class, viewed-states}
+use Rattle.fields.proofs.Views.{viewed-class, viewed-states}
 use Rattle.subtrees.proofs.Listed.{number-position, number-state}
 use Rattle.table.proofs.Decoded.{decoded-class, decoded-states}
 

@@ -3,7 +3,7 @@ use mathlib.Core.List.{List}
 use mathlib.Core.Path.{_∙_, _≡_, ap₂, subst, subst₂, sym}
 use Prim.Native.Nat.{_-_, _≤_, ℕ}
 use native.Mathlib.Omega.{arith}
-use lib.ListN.{drop, length, take}
+use lib.ListN.{length}
 use Rattle.automata.specs.Automaton.{Automaton}
 use Rattle.fields.specs.Fields.{InTable, RunsOver}
 use Rattle.format.specs.Format.{AllBytes, headBytes, maxStates, tableBytes}
@@ -17,21 +17,18 @@ use Rattle.automata.proofs.Steps.{Fits}
 use Rattle.automata.proofs.Valid.{ranged-fits}
 use Rattle.fields.proofs.Transitions.{layout-in-table, part-body}
 use Rattle.lists.proofs.Conditions.{unbroken-hold}
+use Rattle.lists.proofs.Parts.{part}
 use Rattle.table.proofs.Decoded.{decoded-states, decoded-transitions}
 use Rattle.table.proofs.Intake.{Passes, unrefused-passes}
 use Rattle.trees.proofs.ListingRefusal.{listing-from-one, passed-legal}
-
--- the part of a table that holds transitions, as code passes it on
-abbrev pub Part : List ℕ → List ℕ
-Part b = take (length b - headBytes) (drop headBytes b)
 
 -- the table b with k transitions over n states
 pub record Table (b : List ℕ) (k n : ℕ) : Type 0 where
   pub size : length b ≡ tableBytes
   pub states : n ≡ stateCount b
   pub few : n ≤ maxStates
-  pub over : RunsOver (Part b) k n
-  pub transitions : decode b .transitions ≡ transitionsIn (Part b) k
+  pub over : RunsOver (part b headBytes) k n
+  pub transitions : decode b .transitions ≡ transitionsIn (part b headBytes) k
   pub fits : Fits (decode b)
 
 pub passed-size : (b : List ℕ) → tableRefusal b ≡ 0 → length b ≡ tableBytes
@@ -58,11 +55,11 @@ given-table b e k n c m = record {
 -- the table, and the tree that s lists with its subtrees r
 pub record Given (s b : List ℕ) (k n : ℕ) (r : Subtrees) : Type 0 where
   pub table : Table b k n
-  pub holds : Holds (decode b) (readTree s) (Part b) k n r
+  pub holds : Holds (decode b) (readTree s) (part b headBytes) k n r
 
 pub given : (s b : List ℕ) → listingRefusal s ≡ 0 → tableRefusal b ≡ 0 → AllBytes s → (k n : ℕ) →
     k ≡ transitionCount b → n ≡ stateCount b → (r : Subtrees) → ((A : Automaton) →
-    A .transitions ≡ transitionsIn (Part b) k → Lists A (readTree s) (bottomUp (readTree s)) r) → Given s b k n r
+    A .transitions ≡ transitionsIn (part b headBytes) k → Lists A (readTree s) (bottomUp (readTree s)) r) → Given s b k n r
 unfolding listingRefusal
 given s b e passed bytes k n c m r lists =
     let table = given-table b passed k n c m in

@@ -1,18 +1,18 @@
 -- The classes of the pairs of a product, one after another.
-use mathlib.Core.Bool.{Bool, false, true}
+use mathlib.Core.Bool.{Bool, false}
 use mathlib.Core.List.{List}
 use mathlib.Core.Logic.{_≢_}
-use mathlib.Core.Path.{_∙_, _≡_, ap, refl, sym}
+use mathlib.Core.Path.{_∙_, _≡_}
 use Prim.Native.Nat.{_+_, _-_, _<_, _≤_, ℕ}
 use native.Mathlib.Omega.{arith}
 use lib.Dec.{eqb}
 use lib.ListN.{getD, length, length-replicate, length-set, replicate, set}
-use lib.Seq.{getD-set-other, getD-set-same}
-use borrow.Author.Tests.{eq-eqb, eqb-false, eqb-true, le-leb, lt-leb, ne-eqb}
+use borrow.Author.Tests.{eq-eqb, le-leb, lt-leb, ne-eqb}
 use Rattle.change.specs.Classes.{Classed, pairClass}
 use Rattle.products.specs.Pairs.{stateOf}
 use Rattle.table.specs.Layout.{classAt}
 use Rattle.format.specs.Format.{byteValues}
+use Rattle.lists.proofs.Filling.{set-next-from}
 
 -- ---- the state and the class of a number
 
@@ -53,17 +53,8 @@ module _ {f : ℕ → Bool} where
       ClassedBelow f (set cl p x) (p + 1)
   classed-next {cl} {p} inv h x e = record {
     size = length-set cl p x ∙ inv .size;
-    class = λ i l m. go i l m (eqb i p) refl;
+    class = set-next-from (λ y. eqb y 1) f 1 cl p x (omega (arith, inv .size)) e (inv .class);
   }
-    where
-      go : (i : ℕ) → 1 ≤ i → i < p + 1 → (c : Bool) → eqb i p ≡ c → classAt (set cl p x) i ≡ f i
-      go i l m true z =
-          let d = eqb-true i p z in
-          ap (λ j. classAt (set cl p x) j) d ∙
-          ap (λ y. eqb y 1) (getD-set-same cl p x 0 (omega (arith, inv .size))) ∙ e ∙ ap f (sym d)
-      go i l m false z =
-          let d = eqb-false i p z in
-          ap (λ y. eqb y 1) (getD-set-other cl p i x 0 d) ∙ inv .class i l (omega arith)
 
   pub classed-end : {cl : List ℕ} {p k : ℕ} → ClassedBelow f cl p → k < p → Classed f k cl
   classed-end inv h = record { size = inv .size; class = λ i l m. inv .class i l (omega arith) }

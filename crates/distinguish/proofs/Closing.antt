@@ -22,20 +22,18 @@ use Rattle.lists.specs.Positions.{Pair, eqPair, upFrom}
 use Rattle.lists.specs.Tests.{_∈_, any, every}
 use Rattle.marking.specs.Marks.{marked, marks}
 use Rattle.table.specs.Layout.{argOf, arityOf, labelOf, nthTransition, outOf, transitionsIn}
-use Rattle.validity.specs.Spread.{Covers, UpTo}
-use Rattle.automata.proofs.Distinguishable.{in-slots, step-fits}
+use Rattle.marking.specs.Spread.{Covers, UpTo}
+use Rattle.automata.proofs.Distinguishable.{in-slots, pairs-in, step-fits}
 use Rattle.automata.proofs.Order.{lookup-transition}
 use Rattle.automata.proofs.Steps.{Fits, Taken, step-view}
+use Rattle.automata.proofs.Symmetry.{told-sym, zero-not-told}
 use Rattle.automata.proofs.Valid.{ranged-fits}
 use Rattle.distinguish.proofs.Slots.{args-around, slot-is}
-use Rattle.distinguish.proofs.Symmetry.{told-sym, zero-not-told}
-use Rattle.fields.proofs.Transitions.{in-transitionsIn, transitionsIn-nth}
 use Rattle.lists.proofs.Closure.{closed, closure-all}
-use Rattle.lists.proofs.Distinct.{grid-in}
 use Rattle.lists.proofs.Positions.{eqPair-same, eqPair-true, in-grid, in-upFrom, upFrom-in}
-use Rattle.lists.proofs.Tests.{any-in, every-same-in, in-any, none-zero, or-cases, or-left, or-right}
-use Rattle.validity.proofs.Fixpoints.{same-test}
-use Rattle.validity.proofs.Views.{viewed-arg, viewed-classes, viewed-ranged, viewed-states}
+use Rattle.lists.proofs.Tests.{any-in, every-same-in, in-any, none-zero, or-cases, or-left, or-right, same-test}
+use Rattle.fields.proofs.Views.{viewed-arg, viewed-classes, viewed-ranged, viewed-states}
+use Rattle.table.proofs.Decoded.{in-transitionsIn, transitionsIn-in}
 
 module _ (cl s : List ℕ) (n c : ℕ) (view : Viewed cl s n c) (rises : rising (transitionsIn s c) ≡ true) where
   abbrev A : Automaton
@@ -87,7 +85,7 @@ module _ (cl s : List ℕ) (n c : ℕ) (view : Viewed cl s n c) (rises : rising 
       let e = args-around s (transitionBytes * i) k l in
       let z = none-zero (nthTransition s i .args) (λ q j. viewed-arg cl s n c (view .over) i h q j .0) in
       ap (λ (qs : List ℕ). step A (labelOf s (transitionBytes * i)) qs) (sym e)
-      ∙ rw z (lookup-transition (transitionsIn s c) rises (nthTransition s i) (transitionsIn-nth s c i h))
+      ∙ rw z (lookup-transition (transitionsIn s c) rises (nthTransition s i) (in-transitionsIn s c i h))
 
   -- a rule's step, one way or the other
   told-tell : (i k q : ℕ) → i < c → k < arityOf s (transitionBytes * i) → q < n + 1 → Tell s c (transitionBytes * i)
@@ -129,7 +127,7 @@ module _ (cl s : List ℕ) (n c : ℕ) (view : Viewed cl s n c) (rises : rising 
           (in-any (λ z. distinguishable A (stepSlot A z a) (stepSlot A z q)) (slots (transitionsIn s c))
           (slotAt s (transitionBytes * i) k)
           (in-slots (transitionsIn s c) (nthTransition s i) (slotAt s (transitionBytes * i) k .before) a
-          (slotAt s (transitionBytes * i) k .after) (transitionsIn-nth s c i h) (args-around s (transitionBytes * i)
+          (slotAt s (transitionBytes * i) k .after) (in-transitionsIn s c i h) (args-around s (transitionBytes * i)
           k l))
           (subst (λ (z : ℕ). distinguishable A z y ≡ true) (sym (own-step i k h l)) apart)))
 
@@ -148,7 +146,7 @@ module _ (cl s : List ℕ) (n c : ℕ) (view : Viewed cl s n c) (rises : rising 
 
   pub taken-through : (z : Slot) (p : ℕ) → Taken A (z .label) (z .before ++ (p ∷ z .after)) → Through z p
   taken-through z p (y, (τ, j, l, a, o)) =
-      let (i, h, e) = in-transitionsIn s c τ j in
+      let (i, h, e) = transitionsIn-in s c τ j in
       let x = slot-is s (transitionBytes * i) p z (ap (λ (υ : Transition). υ .label) (sym e) ∙ l)
       (ap (λ (υ : Transition). υ .args) (sym e) ∙ a) in
       (i, h, length (z .before), x .0, x .1, x .2, ap (λ (υ : Transition). υ .out) (sym e) ∙ o)
@@ -196,11 +194,7 @@ module _ (cl s : List ℕ) (n c : ℕ) (view : Viewed cl s n c) (rises : rising 
         made r ih k i e = go (or-cases (not (Bool·beq (accepting A (k .0)) (accepting A (k .1)))) _ e)
           where
             small : (k .0 ≤ n) × (k .1 ≤ n)
-            small =
-                let g = grid-in (upFrom 0 (suc (states A))) (upFrom 0 (suc (states A))) k i in (
-                  omega (arith, many, upFrom-in 0 (suc (states A)) (k .0) (g .0)),
-                  omega (arith, many, upFrom-in 0 (suc (states A)) (k .1) (g .1)),
-                )
+            small = let g = pairs-in A k i in (omega (arith, many, g .0), omega (arith, many, g .1))
 
             go : (not (Bool·beq (accepting A (k .0)) (accepting A (k .1))) ≡ true) ⊎
                 (any (λ z. r (stepSlot A z (k .0), stepSlot A z (k .1))) (slots (transitionsIn s c)) ≡ true) → Marked k
@@ -220,16 +214,10 @@ module _ (cl s : List ℕ) (n c : ℕ) (view : Viewed cl s n c) (rises : rising 
   abbrev D : ℕ → Bool
   D = told cl s n c view rises
 
-  class-any : (p : ℕ) → accepting (viewed cl [] n 0) p ≡ accepting (viewed cl s n c) p
-  class-any p = viewed-classes cl s n c p
-
   pub told-seeds : UpTo (SeedRow (viewed cl [] n 0) n) (n + 1) (told cl s n c view rises)
   told-seeds p h q l e =
       told-seed cl s n c view rises p q (omega arith) (omega arith)
-      (subst₂ (λ (a b : Bool). not (Bool·beq a b) ≡ true) (class-any p) (class-any q) e)
-
-  pub seeded : (m : List ℕ) → UpTo (SeedRow (viewed cl [] n 0) n) (n + 1) (marked m) → Seeded cl n m
-  seeded m u p q h l e = u p (omega arith) q (omega arith) e
+      (subst₂ (λ (a b : Bool). not (Bool·beq a b) ≡ true) (viewed-classes cl s n c p) (viewed-classes cl s n c q) e)
 
   pub marks-of : {m : List ℕ} → Covers (told cl s n c view rises) m → Seeded cl n m → UpTo (nthTell s c n) c (marked
       m) →
@@ -244,8 +232,8 @@ module _ (cl s : List ℕ) (n c : ℕ) (view : Viewed cl s n c) (rises : rising 
           0 0) e)
 
       own : (p q : ℕ) → p ≤ n → q ≤ n → Seed (viewed cl s n c) p q (marked m)
-      own p q h l e = seeds p q h l (subst₂ (λ (a b : Bool). not (Bool·beq a b) ≡ true) (sym (class-any p)) (sym
-          (class-any q)) e)
+      own p q h l e = seeds p q h l (subst₂ (λ (a b : Bool). not (Bool·beq a b) ≡ true) (sym (viewed-classes cl s n c p)) (sym
+          (viewed-classes cl s n c q)) e)
 
       exact : (p q : ℕ) → p ≤ n → q ≤ n → marked m (pairAt p q) ≡ distinguishable (viewed cl s n c) p q
       exact p q h l =

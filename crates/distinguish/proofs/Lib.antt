@@ -1,4 +1,3 @@
 pub mod Slots
-pub mod Symmetry
 pub mod Closing
 pub mod Marking

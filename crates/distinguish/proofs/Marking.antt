@@ -6,12 +6,12 @@ use mathlib.Core.Path.{_∙_, _≡_, ap, ap₂, refl, subst, subst₂, sym}
 use Prim.Native.Nat.{_*_, _+_, _-_, _<_, _≤_, suc, zero, ℕ}
 use native.Mathlib.Omega.{arith}
 use lib.Dec.{eqb}
-use lib.ListN.{getD, length, length-replicate, replicate, set}
+use lib.ListN.{getD, length, set}
 use lib.Seq.{getD-set-other, getD-set-same}
-use borrow.Author.Tests.{eq-eqb, eqb-false, eqb-true, ne-eqb, not-false, not-true}
+use borrow.Author.Tests.{eq-eqb, ne-eqb, not-false, not-true}
 use Rattle.automata.specs.Automaton.{Automaton, accepting, lookup}
-use Rattle.distinguish.specs.Telling.{Led, Copied, Seed, Tell, eitherWay, pairAt, slotAt, stepAt}
-use Rattle.distinguish.specs.Telling.{Led, toldApart, unmarked}
+use Rattle.distinguish.specs.Telling.{Copied, Seed, Tell, eitherWay, pairAt, slotAt, stepAt}
+use Rattle.distinguish.specs.Telling.{toldApart, unmarked}
 use Rattle.fields.specs.Fields.{RunsOver}
 use Rattle.fields.specs.View.{viewed}
 use Rattle.format.specs.Format.{argsAt, bytePairs, maxArity, transitionBytes}
@@ -19,15 +19,14 @@ use Rattle.lists.specs.Positions.{upFrom}
 use Rattle.lists.specs.Tests.{_∈_, any}
 use Rattle.marking.specs.Marks.{marked, nonzero}
 use Rattle.table.specs.Layout.{argOf, arityOf, labelOf, outOf, transitionAt, transitionsIn}
-use Rattle.validity.specs.Rules.{Has}
-use Rattle.validity.specs.Spread.{Covers, Rule, Spread}
+use Rattle.marking.specs.Spread.{Covers, Has, Spread}
 use Rattle.automata.proofs.Steps.{step-zero}
 use Rattle.distinguish.proofs.Slots.{args-around}
 use Rattle.lists.proofs.Tests.{and-left, and-right, append-in, in-append-left, in-append-right, none-zero, or-cases}
 use Rattle.lists.proofs.Tests.{or-left, or-right}
 use Rattle.marking.proofs.Sweeps.{nonzero-false, nonzero-true, swept-closed, swept-then}
-use Rattle.validity.proofs.Spreading.{spread-if, spread-mark, spread-none}
-use Rattle.validity.proofs.Views.{viewed-arg}
+use Rattle.marking.proofs.Spreading.{Growing, growing-none, spread-if, spread-mark, spread-none}
+use Rattle.fields.proofs.Views.{viewed-arg}
 
 pub unequal-marked : (x : ℕ) → not (eqb x 0) ≡ nonzero x
 unequal-marked zero = refl
@@ -105,42 +104,13 @@ tell-new s c at k q {m} e t u = record {
       u .sound p (z .back) (t .sound p (z .there) w);
 }
 
--- ---- marks that grow within the pairs that are told apart
+-- ---- no pair is marked
 
-pub record Grown (p : ℕ → Bool) (m : List ℕ) : Type 0 where
-  pub size : length m ≡ bytePairs
-  pub within : Covers p m
-
-pub grown-none : {p : ℕ → Bool} (m : List ℕ) → m ≡ unmarked → Grown p m
+pub growing-unmarked : {p : ℕ → Bool} (m : List ℕ) → m ≡ unmarked → Growing bytePairs p m
 unfolding unmarked
-grown-none m e = record {
-  size = ap length e ∙ length-replicate {A = ℕ} bytePairs 0;
-  within = λ i d. absurd (false≢true (sym (replicate-unmarked bytePairs i) ∙ sym (ap (λ (k : List ℕ). marked k i) e)
-      ∙ d));
-}
-  where
-    replicate-unmarked : (k i : ℕ) → marked (replicate k 0) i ≡ false
-    replicate-unmarked zero i = refl
-    replicate-unmarked (suc k) zero = refl
-    replicate-unmarked (suc k) (suc i) = replicate-unmarked k i
-
-pub grown-more : {C : Rule} {m m' : List ℕ} {r : Bool} {p : ℕ → Bool} → C p → Grown p m → Spread C m m' r → Grown p m'
-grown-more {p = p} c g s = record { size = s .swept .size ∙ g .size; within = s .sound p c (g .within) }
+growing-unmarked {p} m e = subst (Growing bytePairs p) (sym e) growing-none
 
 -- ---- a transition's bytes
-
-pub copied-start : (s : List ℕ) (at : ℕ) (r : List ℕ) → (j : ℕ) → j < 0 → getD r j 0 ≡ getD s (at + j) 0
-copied-start s at r j h = absurd (omega arith)
-
-pub copied-next : (s : List ℕ) (at : ℕ) (r : List ℕ) (k : ℕ) → k < length r →
-    ((j : ℕ) → j < k → getD r j 0 ≡ getD s (at + j) 0) → (j : ℕ) → j < k + 1 →
-    getD (set r k (getD s (at + k) 0)) j 0 ≡ getD s (at + j) 0
-copied-next s at r k h e j l = go (eqb j k) refl
-  where
-    go : (b : Bool) → eqb j k ≡ b → getD (set r k (getD s (at + k) 0)) j 0 ≡ getD s (at + j) 0
-    go true d = rw (eqb-true j k d) (getD-set-same r k (getD s (at + k) 0) 0 h)
-    go false d = let ne = eqb-false j k d in
-        getD-set-other r k j (getD s (at + k) 0) 0 ne ∙ e j (omega arith)
 
 -- an entry with the bytes of a transition and another argument k is that transition with the argument replaced
 module _ (s : List ℕ) (at k q : ℕ) (r : List ℕ) (c : Copied s at r) (h : k < arityOf s at)
@@ -258,25 +228,3 @@ module _ (s : List ℕ) (c at k q : ℕ) (m : List ℕ) {a b : ℕ} (arg : a ≡
         (subst₂ (λ (u v : ℕ). eitherWay (marked m) u v ≡ true) out to (sym e ∙ not-false r d))
         (subst₂ (λ (i j : ℕ). Spread (Has (pairAt i j)) m m' f) arg other t)
         (subst₂ (λ (i j : ℕ). Spread (Has (pairAt j i)) m' m'' g) arg other u)
-
--- ---- a pass with no claim to be complete
-
-pub led-none : (C : Rule) (m : List ℕ) → Led C m m
-led-none C m = record { size = refl; kept = λ i d. d; sound = λ p c h. h }
-
-pub led-then : {C : Rule} {m m' m'' : List ℕ} → Led C m m' → Led C m' m'' → Led C m m''
-led-then f g = record {
-  size = g .size ∙ f .size;
-  kept = λ i d. g .kept i (f .kept i d);
-  sound = λ p c h. g .sound p c (f .sound p c h);
-}
-
-pub led-spread : {C : Rule} {m m' : List ℕ} {r : Bool} → Spread C m m' r → Led C m m'
-led-spread s = record { size = s .swept .size; kept = s .swept .kept; sound = s .sound }
-
--- a part of the rule was led
-pub led-part : {C D : Rule} {m m' : List ℕ} → ((p : ℕ → Bool) → D p → C p) → Led C m m' → Led D m m'
-led-part f s = record { size = s .size; kept = s .kept; sound = λ p d h. s .sound p (f p d) h }
-
-pub grown-led : {C : Rule} {m m' : List ℕ} {p : ℕ → Bool} → C p → Grown p m → Led C m m' → Grown p m'
-grown-led {p = p} c g s = record { size = s .size ∙ g .size; within = s .sound p c (g .within) }

@@ -1,5 +1,5 @@
 -- Pairs of states that are told apart, as marks. The pair of p and q has entry 256 p + q, 0 among the states. A rule
--- is what a closed set of entries satisfies (crate validity, Spread).
+-- is what a closed set of entries satisfies (crate marking, Spread).
 use mathlib.Core.Bool.{Bool, Bool·beq, _||_, not, true}
 use mathlib.Core.List.{List, [], map}
 use mathlib.Core.Path.{_≡_}
@@ -14,7 +14,7 @@ use Rattle.lists.specs.Positions.{upFrom}
 use Rattle.lists.specs.Tests.{every}
 use Rattle.marking.specs.Marks.{marked, marks}
 use Rattle.table.specs.Layout.{argOf, arityOf, labelOf, outOf}
-use Rattle.validity.specs.Spread.{Covers, Rule, UpTo}
+use Rattle.marking.specs.Spread.{Rule, UpTo}
 
 abbrev pub pairAt : ℕ → ℕ → ℕ
 pairAt p q = byteValues * p + q
@@ -83,9 +83,3 @@ SeedRow A n p = UpTo (Seed A p) (n + 1)
 pub record Copied (s : List ℕ) (at : ℕ) (r : List ℕ) : Type 0 where
   pub size : length r ≡ transitionBytes
   pub bytes : (j : ℕ) → j < transitionBytes → getD r j 0 ≡ getD s (at + j) 0
-
--- marks were added, none that a closed set with the old marks lacks
-pub record Led (C : Rule) (m m' : List ℕ) : Type 0 where
-  pub size : length m' ≡ length m
-  pub kept : (i : ℕ) → marked m i ≡ true → marked m' i ≡ true
-  pub sound : (p : ℕ → Bool) → C p → Covers p m → Covers p m'

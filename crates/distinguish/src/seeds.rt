@@ -5,7 +5,7 @@ ghost use Prim.Native.Nat.{_+_, _<_, _≤_};
 ghost use lib.ListN.{length};
 ghost use Rattle.automata.specs.Automaton.{accepting};
 ghost use Rattle.fields.specs.View.{viewed};
-ghost use Rattle.validity.specs.Spread.{Spread, UpTo};
+ghost use Rattle.marking.specs.Spread.{Spread, UpTo};
 ghost use Rattle.distinguish.specs.Telling.{Seed, SeedRow};
 ghost use Rattle.format.specs.Format.{bytePairs};
 use crate::marks::mark;

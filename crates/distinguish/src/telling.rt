@@ -6,7 +6,7 @@ ghost use Rattle.fields.specs.Fields.{RunsOver};
 ghost use Rattle.format.specs.Format.{bytePairs, transitionBytes};
 ghost use Rattle.sorted.specs.Sorted.{Sorted};
 ghost use Rattle.table.specs.Layout.{arityOf};
-ghost use Rattle.validity.specs.Spread.{Spread, UpTo};
+ghost use Rattle.marking.specs.Spread.{Spread, UpTo};
 ghost use Rattle.distinguish.specs.Telling.{Tell, TellArg, TellAt, nthTell};
 use crate::marks::both_marked;
 use crate::marks::either_marked;

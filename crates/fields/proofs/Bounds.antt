@@ -12,7 +12,7 @@ use Rattle.format.specs.Format.{countAt, maxStates}
 use Rattle.lists.specs.Positions.{upFrom}
 use Rattle.lists.specs.Tests.{every}
 use Rattle.table.specs.Layout.{classFits, stateCount, zeroAt}
-use Rattle.lists.proofs.Loops.{at-every, every-at}
+use Rattle.lists.proofs.Intervals.{at-every, every-at}
 
 -- a byte that is at most 0 is 0
 at-most-zero : (x : ℕ) → leb x 0 ≡ eqb x 0

@@ -1,8 +1,7 @@
 -- Loops over a run of transitions: two lists of arguments compared, neighbours compared, a transition
 -- searched. The answer of the whole is the answer of what is left.
-use mathlib.Core.Bool.{Bool, _&&_, _||_, and-false, cond, false, false≢true, or-false, true, true≢false}
-use mathlib.Core.List.{List, [], _∷_, map}
-use mathlib.Core.Logic.{_↔_, inl, inr}
+use mathlib.Core.Bool.{Bool, _&&_, and-false, false, or-false, true}
+use mathlib.Core.List.{List, _∷_, map}
 use mathlib.Core.Path.{_∙_, _≡_, ap, ap₂, refl, sym}
 use Prim.Native.Nat.{_*_, _+_, _-_, _<_, _≤_, suc, zero, ℕ}
 use native.Mathlib.Nat.{sub-zero}
@@ -13,16 +12,14 @@ use lib.ListN.{getD, length, take}
 use lib.Seq.{ext-getD, getD-take, length-take-le}
 use borrow.Author.Count.{below-more}
 use borrow.Author.Tests.{eq-eqb, le-ltb, ne-eqb}
-use Rattle.automata.specs.Automaton.{Transition, lookup, matches}
+use Rattle.automata.specs.Automaton.{lookup, matches}
 use Rattle.automata.specs.Order.{lex, precedes, rising, risingFrom}
-use Rattle.fields.specs.Fields.{RunsOver, firstArgs, foundState, isFound}
-use Rattle.fields.specs.declared.Found.{Found}
-use Rattle.fields.specs.declared.Found.the-variants.{Nothing, State}
+use Rattle.fields.specs.Fields.{firstArgs}
 use Rattle.format.specs.Format.{transitionBytes}
 use Rattle.lists.specs.Positions.{upFrom}
-use Rattle.lists.specs.Tests.{_∈_, any, every, sameList}
+use Rattle.lists.specs.Tests.{any, every, sameList}
 use Rattle.table.specs.Layout.{argOf, arityOf, labelOf, nthTransition, outOf, transitionAt, transitionsIn}
-use Rattle.fields.proofs.Transitions.{arg-at, args-length, in-transitionsIn, transitionsFrom}
+use Rattle.fields.proofs.Transitions.{arg-at, args-length, transitionsFrom}
 use Rattle.lists.proofs.Loops.{upFrom-next, upFrom-none}
 use Rattle.lists.proofs.Tests.{and-both, sameList-refl, sameList-true}
 
@@ -191,40 +188,3 @@ module _ (s : List ℕ) (at a m : ℕ) (args : List ℕ) (enough : m ≤ length 
           (λ k l.
           let i : k < m = omega (arith, length-take-le m args enough) in
           getD-take m args k 0 i ∙ sym (h k i) ∙ sym (arg-at s at k (omega arith)))
-
--- ---- the answer of a search, for callers
-
--- where no output is 0, a match gives a state
-lookup-some : (a : ℕ) (qs : List ℕ) (τs : List Transition) → ((τ : Transition) → τ ∈ τs → 1 ≤ τ .out) →
-    any (matches a qs) τs ≡ true → 1 ≤ lookup a qs τs
-lookup-some a qs [] h e = absurd (false≢true e)
-lookup-some a qs (τ ∷ τs) h e = go (lookup-some a qs τs (λ υ i. h υ (inr i))) (matches a qs τ) e
-  where
-    go : (any (matches a qs) τs ≡ true → 1 ≤ lookup a qs τs) → (b : Bool) → (b || any (matches a qs) τs) ≡ true →
-        1 ≤ cond b (τ .out) (lookup a qs τs)
-    go ih true e = h τ (inl refl)
-    go ih false e = ih e
-
-pub outs-some : (s : List ℕ) (n m : ℕ) → RunsOver s n m → (τ : Transition) → τ ∈ transitionsIn s n → 1 ≤ τ .out
-outs-some s n m over τ i = let r = in-transitionsIn s n τ i in rw (r .2) (over .out-some (r .0) (r .1))
-
-pub isFound-false : (r : Found) → isFound r ≡ false → r ≡ Nothing
-isFound-false (State q) e = absurd (true≢false e)
-isFound-false Nothing e = refl
-
--- a search finds nothing exactly where no transition matches
-pub nothing-unmatched : {f : Bool} (r : Found) → isFound r ≡ f → (r ≡ Nothing) ↔ (f ≡ false)
-nothing-unmatched r e = (λ h. sym e ∙ ap isFound h, λ h. isFound-false r (e ∙ h))
-
-pub state-found : {q : ℕ} (r : Found) → foundState r ≡ q → 1 ≤ q → r ≡ State q
-state-found (State p) e h = ap State e
-state-found Nothing e h = absurd (omega arith)
-
--- where no output is 0, it finds nothing where the definition gives no state
-pub nothing-found : (s : List ℕ) (n m : ℕ) → RunsOver s n m → (a : ℕ) (qs : List ℕ) (r : Found) →
-    isFound r ≡ any (matches a qs) (transitionsIn s n) → lookup a qs (transitionsIn s n) ≡ 0 → r ≡ Nothing
-nothing-found s n m over a qs r e h = go (any (matches a qs) (transitionsIn s n)) refl
-  where
-    go : (b : Bool) → any (matches a qs) (transitionsIn s n) ≡ b → r ≡ Nothing
-    go true d = absurd (omega (arith, lookup-some a qs (transitionsIn s n) (outs-some s n m over) d))
-    go false d = isFound-false r (e ∙ d)

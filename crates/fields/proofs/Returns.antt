@@ -5,7 +5,7 @@ use mathlib.Core.List.{List}
 use mathlib.Core.Path.{_∙_, _≡_, ap, sym}
 use Prim.Native.Nat.{_*_, _-_, _<_, _≤_, ℕ}
 use native.Mathlib.Omega.{arith}
-use lib.ListN.{drop, length, take}
+use lib.ListN.{length}
 use borrow.Author.Tests.{le-leb, lt-leb}
 use Rattle.automata.specs.Valid.{inRange}
 use Rattle.format.specs.Format.{headBytes, maxArity, maxStates, maxTransitions, tableBytes, transitionBytes}
@@ -15,6 +15,7 @@ use Rattle.table.specs.Layout.{argFits, arityOf, body, classFits, labelOf, layo
 use Rattle.table.specs.Layout.{transitionCount, transitionFits, zeroAt}
 use Rattle.trees.specs.Tree.{count}
 use Rattle.fields.proofs.Transitions.{body-length, part-body}
+use Rattle.lists.proofs.Parts.{part}
 
 module _ (s : List ℕ) (n at : ℕ) where
   pub no-label : labelOf s at < 1 → false ≡ transitionFits s n at
@@ -39,7 +40,7 @@ module _ (s : List ℕ) (n at : ℕ) where
 
 -- what is read of the part of a table that code hands on is said of its body
 pub part-fits : (b : List ℕ) {r : Bool} {states count : ℕ} → states ≡ stateCount b → count ≡ transitionCount b →
-    r ≡ every (nthFits (take (length b - headBytes) (drop headBytes b)) states) (upFrom 0 count) →
+    r ≡ every (nthFits (part b headBytes) states) (upFrom 0 count) →
     r ≡ every (nthFits (body b) (stateCount b)) (upFrom 0 (transitionCount b))
 part-fits b p q e = rw (part-body b, p, q) at e
 
@@ -48,9 +49,9 @@ zeros-length : (b : List ℕ) → length b ≡ tableBytes →
 zeros-length b size = omega (arith, body-length b size)
 
 pub part-zeros : (b : List ℕ) {r : Bool} {count : ℕ} → length b ≡ tableBytes → count ≡ transitionCount b →
-    r ≡ every (zeroAt (take (length b - headBytes) (drop headBytes b)))
+    r ≡ every (zeroAt (part b headBytes))
     (upFrom (transitionBytes * count)
-    (length (take (length b - headBytes) (drop headBytes b)) - transitionBytes * count)) →
+    (length (part b headBytes) - transitionBytes * count)) →
     r ≡ every (zeroAt (body b))
     (upFrom (transitionBytes * transitionCount b) (transitionBytes * (maxTransitions - transitionCount b)))
 part-zeros b size q e =

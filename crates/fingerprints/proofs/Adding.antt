@@ -20,12 +20,14 @@ use Rattle.fingerprints.specs.Fingerprints.{gains, mixed, only, packed, 
 use Rattle.fingerprints.specs.Fingerprints.{salted, slotValue, total, valueAt}
 use Rattle.format.specs.Format.{byteValues, transitionBytes}
 use Rattle.lists.specs.Positions.{upFrom}
-use Rattle.lists.specs.Tests.{_∈_}
-use Rattle.marking.specs.Marks.{bit, marked}
+use Rattle.lists.specs.Tests.{_∈_, bit}
+use Rattle.marking.specs.Marks.{marked}
 use Rattle.table.specs.Layout.{argOf, arityOf, classAt, labelOf, nthTransition, outOf, transitionAt, transitionsIn}
-use Rattle.fields.proofs.Transitions.{in-transitionsIn}
-use Rattle.lists.proofs.Loops.{tabulated-suc, upFrom-next, upFrom-none}
-use Rattle.validity.proofs.Views.{viewed-class, viewed-states}
+use Rattle.lists.proofs.Intervals.{getD-zeros, tabulated-suc}
+use Rattle.lists.proofs.Loops.{upFrom-next, upFrom-none}
+use Rattle.fields.proofs.Views.{viewed-class, viewed-states}
+use Rattle.table.proofs.Decoded.{transitionsIn-in}
+use Rattle.lists.proofs.Filling.{set-next-from}
 
 -- ---- one table of fingerprints from another
 
@@ -238,15 +240,10 @@ pub record ClassBelow (cl : List ℕ) (q : ℕ) (m : List ℕ) : Type 0 where
 
 pub class-start : (cl : List ℕ) → ClassBelow cl 1 (replicate byteValues 0)
 class-start cl = record {
-  prints = record { size = length-replicate {A = ℕ} byteValues 0; small = λ q. zeros byteValues q };
+  prints = record { size = length-replicate {A = ℕ} byteValues 0; small = λ q. omega (arith, getD-zeros byteValues q) };
   none = refl;
   each = λ p h l. absurd (omega arith);
 }
-  where
-    zeros : (k q : ℕ) → getD (replicate k 0) q 0 < 2 ^ 64
-    zeros zero q = omega arith
-    zeros (suc k) zero = omega arith
-    zeros (suc k) (suc q) = zeros k q
 
 class-small : (b : Bool) → bit b < 2 ^ 64
 class-small true = omega arith
@@ -257,13 +254,8 @@ pub class-next : {cl : List ℕ} {q : ℕ} {m : List ℕ} {r : ℕ} → ClassBel
 class-next {cl} {q} {m} {r} c a h e = record {
   prints = set-small m q r (c .prints) h (subst (λ (x : ℕ). x < 2 ^ 64) (sym e) (class-small (classAt cl q)));
   none = getD-set-other m q 0 r 0 (λ z. omega arith) ∙ c .none;
-  each = λ p b l. go p b l (eqb p q) refl;
+  each = set-next-from (λ x. x) (λ p. bit (classAt cl p)) 1 m q r (omega (arith, c .prints .size)) e (c .each);
 }
-  where
-    go : (p : ℕ) → 1 ≤ p → p < q + 1 → (b : Bool) → eqb p q ≡ b → getD (set m q r) p 0 ≡ bit (classAt cl p)
-    go p b l true d = rw (eqb-true p q d) (getD-set-same m q r 0 (omega (arith, c .prints .size)) ∙ e)
-    go p b l false d = let ne = eqb-false p q d in
-        getD-set-other m q p r 0 ne ∙ c .each p b (omega arith)
 
 pub class-end : {cl : List ℕ} {q n : ℕ} {m : List ℕ} → ClassBelow cl q m → n < q → ClassPrints cl n m
 class-end c h = record { prints = c .prints; none = c .none; each = λ p a b. c .each p a (omega arith) }
@@ -277,7 +269,7 @@ unfolding fingerprint
 round-is cl s n c u h {m} over useful k g = record {
   each = λ q b. g .each q ∙ ap₂ (λ (x y : ℕ). (x + y) % 2 ^ 64) (class q (omega (arith, viewed-states cl s n c)))
       (gains-same (marked u) (coaccessible (viewed cl s n c)) h q (transitionsIn s c)
-      (λ τ i. agree τ (in-transitionsIn s c τ i)));
+      (λ τ i. agree τ (transitionsIn-in s c τ i)));
 }
   where
     class : (q : ℕ) → q ≤ n → printOf m q ≡ bit (accepting (viewed cl s n c) q)

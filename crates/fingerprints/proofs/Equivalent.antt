@@ -14,27 +14,23 @@ use Rattle.automata.specs.Distinguishable.{Slot, distinguishable, distinguishab
 use Rattle.automata.specs.Distinguishable.{distinguishableRule, pairs, slots, stepSlot}
 use Rattle.automata.specs.Order.{rising}
 use Rattle.automata.specs.Valid.{statesInRange}
-use Rattle.fingerprints.specs.Fingerprints.{Round, Sound}
-use Rattle.fingerprints.specs.Fingerprints.{fingerprint, gain}
+use Rattle.fingerprints.specs.Fingerprints.{Round, Sound, fingerprint, gain}
 use Rattle.fingerprints.specs.Fingerprints.{gains, places, printOf, slotValue, total, valueAt}
 use Rattle.lists.specs.Closure.{closure, elem}
 use Rattle.lists.specs.Positions.{eqPair, upFrom}
-use Rattle.lists.specs.Tests.{_∈_, any, filter}
-use Rattle.marking.specs.Marks.{bit}
+use Rattle.lists.specs.Tests.{_∈_, any, bit, filter}
 use Rattle.automata.proofs.Distinguishable.{in-slots, step-fits}
 use Rattle.automata.proofs.Order.{lookup-transition}
 use Rattle.automata.proofs.Steps.{Fits, Taken, step-view}
 use Rattle.automata.proofs.Valid.{ranged-fits, ranged-transition}
-use Rattle.distinguish.proofs.Symmetry.{told-sym}
+use Rattle.automata.proofs.Symmetry.{told-sym}
 use Rattle.fingerprints.proofs.Uses.{Used, in-uses, places-in, total-append, total-filter, total-members}
-use Rattle.fingerprints.proofs.Uses.{total-same, total-zero, uses}
-use Rattle.fingerprints.proofs.Uses.{uses-distinct, uses-in}
+use Rattle.fingerprints.proofs.Uses.{total-same, total-zero, uses, uses-distinct, uses-in}
 use Rattle.lists.proofs.Closure.{closed, closure-all, closure-fixed, elem-in, in-elem}
 use Rattle.lists.proofs.Distinct.{filter-distinct}
 use Rattle.lists.proofs.Positions.{eqPair-same, eqPair-true, in-grid, in-upFrom, upFrom-in}
 use Rattle.lists.proofs.Tests.{and-both, and-left, and-right, any-in, eqb-same, filter-in, in-any, in-append-right}
-use Rattle.lists.proofs.Tests.{in-filter, in-split, none-zero, or-cases, or-left}
-use Rattle.lists.proofs.Tests.{or-right}
+use Rattle.lists.proofs.Tests.{in-filter, in-split, none-zero, or-cases, or-left, or-right}
 
 same-class : (a b : Bool) → (not (Bool·beq a b) ≡ true → ⊥) → a ≡ b
 same-class true true d = refl

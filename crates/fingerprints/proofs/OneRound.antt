@@ -18,20 +18,16 @@ use Rattle.automata.specs.Valid.{statesInRange}
 use Rattle.fingerprints.specs.Fingerprints.{Round, allDiffer, printOf}
 use Rattle.lists.specs.Positions.{upFrom}
 use Rattle.lists.specs.Tests.{_∈_, filter}
-use Rattle.automata.proofs.Leads.{Feeds, Leads, acyclic-iff, leads-iff, more, once}
+use Rattle.automata.proofs.Leads.{Feeds, acyclic-iff, leads-before, leads-iff, once}
 use Rattle.automata.proofs.Valid.{ranged-transition}
-use Rattle.distinguish.proofs.Symmetry.{told-sym}
+use Rattle.automata.proofs.Symmetry.{told-sym}
 use Rattle.fingerprints.proofs.Equivalent.{by-use, equal-fingerprint, leadsOn, use-too, used-step}
 use Rattle.fingerprints.proofs.Equivalent.{useful-told, usefulUses, useless-zero}
 use Rattle.fingerprints.proofs.Told.{all-differ-told, differ-apart}
 use Rattle.fingerprints.proofs.Uses.{uses, uses-in}
-use Rattle.lists.proofs.Intervals.{every-upFrom}
+use Rattle.lists.proofs.Intervals.{every-at}
 use Rattle.lists.proofs.Positions.{in-upFrom}
 use Rattle.lists.proofs.Tests.{filter-in, filter-weaker, in-append-right, in-filter}
-
-leads-before : {A : Automaton} {p q r : ℕ} → Feeds A p q → Leads A q r → Leads A p r
-leads-before f (once g) = more (once f) g
-leads-before f (more l g) = more (leads-before f l) g
 
 module _ (A : Automaton) (ranged : statesInRange A ≡ true) (rises : rising (A .transitions) ≡ true)
     (ac : acyclic A ≡ true) where
@@ -96,7 +92,7 @@ module _ (A : Automaton) (ranged : statesInRange A ≡ true) (rises : rising (A 
       where
         zero-told : (p : ℕ) → 1 ≤ p → p ≤ states A → distinguishable A p 0 ≡ true
         zero-told p a b =
-            useful-told A ranged rises p (every-upFrom (coaccessible A) 1 (states A) useful p a (omega arith)) 0
+            useful-told A ranged rises p (every-at (coaccessible A) 1 (states A) useful p a (omega arith)) 0
             (omega arith) (useless-zero A ranged rises)
 
         same : (p q : ℕ) → p ≤ states A → q ≤ states A → (distinguishable A p q ≡ true → ⊥) → printOf m p ≡ printOf m q

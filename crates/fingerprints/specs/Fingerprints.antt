@@ -12,8 +12,8 @@ use Rattle.automata.specs.Automaton.{Automaton, Transition, accepting, states}
 use Rattle.automata.specs.Coaccessible.{coaccessible}
 use Rattle.automata.specs.Distinguishable.{Slot, distinguishable}
 use Rattle.lists.specs.Positions.{upFrom}
-use Rattle.lists.specs.Tests.{every}
-use Rattle.marking.specs.Marks.{bit, marked}
+use Rattle.lists.specs.Tests.{bit, every}
+use Rattle.marking.specs.Marks.{marked}
 use Rattle.table.specs.Layout.{classAt}
 use Rattle.format.specs.Format.{byteValues}
 

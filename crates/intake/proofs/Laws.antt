@@ -3,11 +3,11 @@
 use mathlib.Core.Bool.{Bool, false, not, true}
 use mathlib.Core.List.{List, []}
 use mathlib.Core.Logic.{_≢_}
-use mathlib.Core.Path.{_∙_, _≡_, ap, ap₂, refl, subst, subst₂, sym}
+use mathlib.Core.Path.{_∙_, _≡_, ap, ap₂, subst, subst₂, sym}
 use Prim.Native.Nat.{_-_, suc, ℕ}
 use native.Mathlib.Omega.{arith}
 use lib.Dec.{eqb}
-use lib.ListN.{drop, length, take}
+use lib.ListN.{length}
 use borrow.Author.Tests.{eq-eqb, ne-eqb}
 use Rattle.automata.specs.Accessible.{allAccessible}
 use Rattle.automata.specs.Acyclic.{acyclic}
@@ -28,7 +28,8 @@ use Rattle.table.specs.Layout.{body, decode, layoutFits, stateCount, transition
 use Rattle.automata.proofs.NumberedPass.{numbered-accessible}
 use Rattle.fields.proofs.Transitions.{layout-in-table, layout-runs, part-body}
 use Rattle.listing.proofs.Checks.{broken, kept}
-use Rattle.validity.proofs.Views.{viewed-ranged, viewed-states}
+use Rattle.fields.proofs.Views.{viewed-ranged, viewed-states}
+use Rattle.lists.proofs.Parts.{part}
 
 module _ (cl s : List ℕ) (n c : ℕ) where
   abbrev A : Automaton
@@ -51,10 +52,6 @@ pub table-viewed : (b : List ℕ) → length b ≡ tableBytes → layoutFits b �
 table-viewed b h e =
     let t = layout-in-table b h e in
     record { over = t .over; states = omega (arith, t .states); classes = omega (arith, t .states) }
-
-pub table-decoded : (b : List ℕ) → decode b ≡ viewed b (body b) (stateCount b) (transitionCount b)
-unfolding decode
-table-decoded b = refl
 
 -- conditions 9 to 13 of a table are those of its automaton
 pub content-rest : (b : List ℕ) → layoutFits b ≡ true → rising (transitionsIn (body b) (transitionCount b)) ≡ true →
@@ -121,21 +118,17 @@ right-length b h e = rw (eq-eqb (length b) tableBytes h) e
 
 -- ---- a table's own automaton, as the part of the table that code passes on
 
--- the part of a table that holds transitions
-abbrev Part : List ℕ → List ℕ
-Part b = take (length b - headBytes) (drop headBytes b)
-
 pub table-runs : (b : List ℕ) {k : ℕ} → length b ≡ tableBytes → layoutFits b ≡ true → k ≡ transitionCount b →
-    Runs (Part b) k
+    Runs (part b headBytes) k
 table-runs b h e c = subst₂ Runs (sym (part-body b)) (sym c) (layout-runs b h e)
 
-pub table-rises : (b : List ℕ) {k : ℕ} {r : Bool} → k ≡ transitionCount b → r ≡ rising (transitionsIn (Part b) k) →
+pub table-rises : (b : List ℕ) {k : ℕ} {r : Bool} → k ≡ transitionCount b → r ≡ rising (transitionsIn (part b headBytes) k) →
     r ≡ rising (transitionsIn (body b) (transitionCount b))
 table-rises b c e = e ∙ ap₂ (λ (s : List ℕ) (k : ℕ). rising (transitionsIn s k)) (part-body b) c
 
 pub table-seen : (b : List ℕ) {k n : ℕ} → length b ≡ tableBytes → layoutFits b ≡ true → k ≡ transitionCount b →
     n ≡ stateCount b → rising (transitionsIn (body b) (transitionCount b)) ≡ true →
-    Viewed b (Part b) n k × (rising (transitionsIn (Part b) k) ≡ true)
+    Viewed b (part b headBytes) n k × (rising (transitionsIn (part b headBytes) k) ≡ true)
 table-seen b {k} {n} h e c m r = (
   subst₂ (λ (s : List ℕ) (j : ℕ). Viewed b s n j) (sym (part-body b)) (sym c)
       (subst (λ (i : ℕ). Viewed b (body b) i (transitionCount b)) (sym m) (table-viewed b h e)),
@@ -144,7 +137,7 @@ table-seen b {k} {n} h e c m r = (
 
 pub table-answer : (b : List ℕ) {k n r : ℕ} → layoutFits b ≡ true →
     rising (transitionsIn (body b) (transitionCount b)) ≡ true → k ≡ transitionCount b → n ≡ stateCount b →
-    r ≡ firstBroken (automatonConditions (viewed b (Part b) n k)) → r ≡ firstBroken (contentConditions b)
+    r ≡ firstBroken (automatonConditions (viewed b (part b headBytes) n k)) → r ≡ firstBroken (contentConditions b)
 table-answer b {n = n} e o c m a =
     a ∙ ap₂ (λ (s : List ℕ) (j : ℕ). firstBroken (automatonConditions (viewed b s n j))) (part-body b) c
     ∙ ap (λ (i : ℕ). firstBroken (automatonConditions (viewed b (body b) i (transitionCount b)))) m

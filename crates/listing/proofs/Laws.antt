@@ -1,11 +1,10 @@
 -- What the reader's answer says of a slice: that it lists one tree, or that it starts with trees, of which the bytes
 -- are the listings, and that what is behind them is read as before.
 use mathlib.Core.Bool.{Bool, false, false≢true, true}
-use mathlib.Core.List.{List, [], _++_, _∷_, append-assoc, append-nil}
+use mathlib.Core.List.{List, [], _++_, _∷_, append-nil}
 use mathlib.Core.Logic.{_↔_}
 use mathlib.Core.Path.{_∙_, _≡_, ap, refl, subst, sym}
 use Prim.Native.Nat.{_+_, _-_, _≤_, suc, zero, ℕ}
-use native.Mathlib.Nat.{sub-zero}
 use native.Mathlib.Omega.{arith}
 use lib.Dec.{eqb, eqb·suc-suc, eqb·zero-suc}
 use lib.ListN.{drop, length}
@@ -17,6 +16,7 @@ use Rattle.listing.specs.declared.Read.the-variants.{Bad, Node}
 use Rattle.trees.specs.Listing.{firstTrees, laterTrees, listing, listings, listsTrees, oneTree, readTrees}
 use Rattle.trees.specs.Tree.{Forest, Tree, _⧺_, cons, count, nil, node}
 use Rattle.lists.proofs.Tests.{eqb-same}
+use Rattle.trees.proofs.Forests.{first-append, first-count, later-append, later-count, listings-split}
 
 -- n bytes were read
 abbrev pub wholly : Read → ℕ → Bool
@@ -54,35 +54,6 @@ measured-whole s = (
   λ e. one-tree-measured s ∙ rw e (eqb-same (length s)),
 )
 
-listings-append : (f g : Forest) → listings (f ⧺ g) ≡ listings f ++ listings g
-listings-append nil g = refl
-listings-append (cons t f) g = rw (listings-append f g) (sym (append-assoc (listing t) (listings f) (listings g)))
-
-first-later : (k : ℕ) (f : Forest) → firstTrees k f ⧺ laterTrees k f ≡ f
-first-later zero f = refl
-first-later (suc k) nil = refl
-first-later (suc k) (cons t f) = ap (cons t) (first-later k f)
-
-count-first : (k : ℕ) (f : Forest) → k ≤ count f → count (firstTrees k f) ≡ k
-count-first zero f h = refl
-count-first (suc k) nil h = absurd (omega arith)
-count-first (suc k) (cons t f) h = ap suc (count-first k f (omega arith))
-
-count-later : (k : ℕ) (f : Forest) → count (laterTrees k f) ≡ count f - k
-count-later zero f = sym (sub-zero (count f))
-count-later (suc k) nil = omega arith
-count-later (suc k) (cons t f) = omega (arith, count-later k f)
-
-first-append : (k : ℕ) (f g : Forest) → k ≤ count f → firstTrees k (f ⧺ g) ≡ firstTrees k f
-first-append zero f g h = refl
-first-append (suc k) nil g h = absurd (omega arith)
-first-append (suc k) (cons t f) g h = ap (cons t) (first-append k f g (omega arith))
-
-later-append : (k : ℕ) (f g : Forest) → k ≤ count f → laterTrees k (f ⧺ g) ≡ laterTrees k f ⧺ g
-later-append zero f g h = refl
-later-append (suc k) nil g h = absurd (omega arith)
-later-append (suc k) (cons t f) g h = later-append k f g (omega arith)
-
 -- s starts with k trees of m bytes
 pub record TreesAhead (s : List ℕ) (k m : ℕ) : Type 0 where
   pub trees : Forest
@@ -111,14 +82,12 @@ node-ahead : (a c k m : ℕ) (s : List ℕ) → TreesAhead s (c + k) m → Trees
 node-ahead a c k m s v =
     let f = v .trees in
     let h : c ≤ count f = omega (arith, v .many) in
-    let whole = ap listings (first-later c f) in
-    let parts = listings-append (firstTrees c f) (laterTrees c f) in
-    let l : listings (firstTrees c f) ++ listings (laterTrees c f) ≡ listings f = sym parts ∙ whole in
+    let l = listings-split c f in
     record {
       trees = cons (node a (firstTrees c f)) (laterTrees c f);
-      many = omega (arith, count-later c f, v .many);
+      many = omega (arith, later-count c f, v .many);
       size = rw l (ap (λ n. suc (suc n)) (v .size));
-      bytes = rw (count-first c f h, l) (ap (λ x. a ∷ c ∷ x) (v .bytes));
+      bytes = rw (first-count c f h, l) (ap (λ x. a ∷ c ∷ x) (v .bytes));
       reads = rw (v .reads, first-append c f (readTrees (drop m s)) h, later-append c f (readTrees (drop m s)) h);
     }
 

@@ -4,12 +4,12 @@ use mathlib.Core.Path.{_∙_, _≡_, ap, refl, sym}
 use Prim.Native.Nat.{_+_, _-_, _<_, _≤_, suc, zero, ℕ}
 use native.Mathlib.Nat.{add-assoc, add-zero, suc-add, zero-add}
 use native.Mathlib.Omega.{arith}
-use lib.ListN.{drop, getD, length, length-drop, take}
-use lib.Seq.{take-all}
+use lib.ListN.{drop, getD, length}
 use Rattle.format.specs.Format.{labelBytes, nodeBytes}
 use Rattle.listing.specs.Measure.{measured, plus}
 use Rattle.listing.specs.declared.Read.{Read}
 use Rattle.listing.specs.declared.Read.the-variants.{Bad, Node}
+use Rattle.lists.proofs.Parts.{part, part-drop, part-length}
 
 plus-zero : (r : Read) → plus 0 r ≡ r
 unfolding plus
@@ -77,16 +77,6 @@ measured-at-most (a ∷ c ∷ s) (suc k) = more-at-most (measured s (c + k)) (le
 pub measured-within : (s : List ℕ) (k n : ℕ) → measured s k ≡ Node n → n ≤ length s
 unfolding AtMost
 measured-within s k n e = rw e at (measured-at-most s k)
-
--- what the part &s[a..] holds
-abbrev pub part : List ℕ → ℕ → List ℕ
-part s a = take (length s - a) (drop a s)
-
-pub part-drop : (s : List ℕ) (a : ℕ) → part s a ≡ drop a s
-part-drop s a = take-all (length s - a) (drop a s) (simp length-drop (omega arith))
-
-pub part-length : (s : List ℕ) (a : ℕ) → length (part s a) ≡ length s - a
-part-length s a = ap length (part-drop s a) ∙ length-drop a s
 
 pub tree-short : (s : List ℕ) → length s < nodeBytes → Bad ≡ measured s 1
 unfolding measured

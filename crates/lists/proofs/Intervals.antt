@@ -1,11 +1,11 @@
 -- Lists made by index over an interval: their length, their elements, and tests over them.
 use mathlib.Core.Bool.{Bool, true}
-use mathlib.Core.List.{List, [], _∷_, map}
+use mathlib.Core.List.{List, [], _++_, _∷_, map}
 use mathlib.Core.Logic.{inl, inr}
 use mathlib.Core.Path.{_∙_, _≡_, ap, refl, sym}
 use Prim.Native.Nat.{_+_, _<_, _≤_, suc, zero, ℕ}
 use native.Mathlib.Omega.{arith}
-use lib.ListN.{List·getD-eq-default, getD, length, length-map}
+use lib.ListN.{List·getD-eq-default, getD, length, length-map, replicate}
 use lib.Seq.{ext-getD}
 use Rattle.lists.specs.Positions.{upFrom}
 use Rattle.lists.specs.Tests.{_∈_, every}
@@ -24,6 +24,11 @@ module _ {A : Type 0} where
   in-getD (y ∷ xs) x d (inl e) = (0, omega arith, e)
   in-getD (y ∷ xs) x d (inr m) = let (i, h, e) = in-getD xs x d m in (suc i, omega arith, e)
 
+pub getD-zeros : (n i : ℕ) → _≡_ {A = ℕ} (getD (replicate n 0) i 0) 0
+getD-zeros zero i = refl
+getD-zeros (suc n) zero = refl
+getD-zeros (suc n) (suc i) = getD-zeros n i
+
 -- ---- a function over an interval
 
 module _ {A : Type 0} (f : ℕ → A) where
@@ -40,6 +45,12 @@ module _ {A : Type 0} (f : ℕ → A) where
   getD-tabulated-beyond k n i d h =
       List·getD-eq-default (map f (upFrom k n)) d (omega (arith, length-tabulated k n))
 
+  -- one number more
+  pub tabulated-suc : (k n : ℕ) → map f (upFrom k (suc n)) ≡ map f (upFrom k n) ++ (f (k + n) ∷ [])
+  tabulated-suc k zero = let z : k ≡ k + 0 = omega arith in ap (λ i. f i ∷ []) z
+  tabulated-suc k (suc n) = let z : suc k + n ≡ k + suc n = omega arith in
+      ap (λ l. f k ∷ l) (tabulated-suc (suc k) n ∙ ap (λ i. map f (upFrom (suc k) n) ++ (f i ∷ [])) z)
+
   -- a list that is as long as the interval and has f's value at each index
   pub tabulated : (k n : ℕ) (d : A) (xs : List A) → length xs ≡ n →
       ((i : ℕ) → i < n → f (k + i) ≡ getD xs i d) → map f (upFrom k n) ≡ xs
@@ -54,13 +65,13 @@ module _ {A : Type 0} (f : ℕ → A) where
   tabulated-in k n x m =
       let (i, j, e) = map-in f (upFrom k n) x m in let r = upFrom-in k n i j in (i, r .0, r .1, e)
 
--- ---- a test over an interval
+-- ---- a test over an interval, by index
 
-pub every-upFrom : (p : ℕ → Bool) (k n : ℕ) → every p (upFrom k n) ≡ true → (i : ℕ) → k ≤ i → i < k + n → p i ≡ true
-every-upFrom p k n e i h l = every-in p (upFrom k n) e i (in-upFrom k n i h l)
+pub every-at : (p : ℕ → Bool) (k n : ℕ) → every p (upFrom k n) ≡ true → (i : ℕ) → k ≤ i → i < k + n → p i ≡ true
+every-at p k n e i h l = every-in p (upFrom k n) e i (in-upFrom k n i h l)
 
-pub upFrom-every : (p : ℕ → Bool) (k n : ℕ) → ((i : ℕ) → k ≤ i → i < k + n → p i ≡ true) → every p (upFrom k n) ≡ true
-upFrom-every p k n h =
+pub at-every : (p : ℕ → Bool) (k n : ℕ) → ((i : ℕ) → k ≤ i → i < k + n → p i ≡ true) → every p (upFrom k n) ≡ true
+at-every p k n h =
     in-every p (upFrom k n) (λ i m. let r = upFrom-in k n i m in h i (r .0) (r .1))
 
 -- the element at an index of a mapped list

@@ -6,3 +6,5 @@ pub mod Closure
 pub mod Conditions
 pub mod Distinct
 pub mod Clearing
+pub mod Filling
+pub mod Parts

@@ -1,16 +1,13 @@
 -- Loops over the numbers of an interval: the answer of the whole is the answer of what is left. Each loop
 -- begins, goes on, stops early and ends by one law.
 use mathlib.Core.Bool.{Bool, _&&_, and-assoc, and-true, false, true}
-use mathlib.Core.List.{[], _++_, _∷_, map}
+use mathlib.Core.List.{[], _∷_}
 use mathlib.Core.Path.{_∙_, _≡_, ap, sym}
-use Prim.Native.Nat.{_+_, _-_, _<_, _≤_, suc, zero, ℕ}
+use Prim.Native.Nat.{_+_, _-_, _<_, _≤_, suc, ℕ}
 use native.Mathlib.Numerals.{add-one}
 use native.Mathlib.Omega.{arith}
-use lib.ListN.{getD, length, length-map}
 use Rattle.lists.specs.Positions.{upFrom}
 use Rattle.lists.specs.Tests.{any, every}
-use Rattle.lists.proofs.Positions.{in-upFrom, upFrom-in, upFrom-length}
-use Rattle.lists.proofs.Tests.{every-in, in-every}
 
 -- the numbers left from i on
 pub upFrom-next : (i n : ℕ) → i < n → upFrom i (n - i) ≡ i ∷ upFrom (i + 1) (n - (i + 1))
@@ -75,28 +72,3 @@ module _ {p : ℕ → Bool} {n : ℕ} where
 
   pub clean-end : {s b : Bool} {i : ℕ} → CleanFrom s b p n i → n ≤ i → b ≡ s
   clean-end {s} {b} {i} inv h = sym (inv .left ∙ rw (upFrom-none i n h) (and-true b))
-
--- a test of an interval, by index
-pub every-at : (p : ℕ → Bool) (k n : ℕ) → every p (upFrom k n) ≡ true → (i : ℕ) → k ≤ i → i < k + n → p i ≡ true
-every-at p k n e i h l = every-in p (upFrom k n) e i (in-upFrom k n i h l)
-
-pub at-every : (p : ℕ → Bool) (k n : ℕ) → ((i : ℕ) → k ≤ i → i < k + n → p i ≡ true) →
-    every p (upFrom k n) ≡ true
-at-every p k n h = in-every p (upFrom k n) (λ i m. let r = upFrom-in k n i m in h i (r .0) (r .1))
-
--- a table of an interval, by index
-module _ {A : Type 0} (f : ℕ → A) where
-  pub length-tabulated : (k n : ℕ) → length (map f (upFrom k n)) ≡ n
-  length-tabulated k n = length-map (upFrom k n) f ∙ upFrom-length k n
-
-  pub tabulated-at : (k n i : ℕ) (d : A) → i < n → getD (map f (upFrom k n)) i d ≡ f (k + i)
-  tabulated-at k zero i d h = absurd (omega arith)
-  tabulated-at k (suc n) zero d h = let z : k ≡ k + 0 = omega arith in ap f z
-  tabulated-at k (suc n) (suc i) d h = let z : suc k + i ≡ k + suc i = omega arith in
-      tabulated-at (suc k) n i d (omega arith) ∙ ap f z
-
-  -- one number more
-  pub tabulated-suc : (k n : ℕ) → map f (upFrom k (suc n)) ≡ map f (upFrom k n) ++ (f (k + n) ∷ [])
-  tabulated-suc k zero = let z : k ≡ k + 0 = omega arith in ap (λ i. f i ∷ []) z
-  tabulated-suc k (suc n) = let z : suc k + n ≡ k + suc n = omega arith in
-      ap (λ l. f k ∷ l) (tabulated-suc (suc k) n ∙ ap (λ i. map f (upFrom (suc k) n) ++ (f i ∷ [])) z)

@@ -12,6 +12,10 @@ use Rattle.lists.specs.Positions.{Pair, eqPair, grid, position, row, shi
 use Rattle.lists.specs.Tests.{_∈_}
 use Rattle.lists.proofs.Tests.{and-both, and-left, and-right, eqb-same, in-append-left, in-append-right}
 
+pub shift-pos : (n : ℕ) → 1 ≤ n → 1 ≤ shift n
+shift-pos zero h = omega arith
+shift-pos (suc n) h = omega arith
+
 module _ {K : Type 0} (eq : K → K → Bool) (eq-true : (j k : K) → eq j k ≡ true → j ≡ k)
     (eq-same : (k : K) → eq k k ≡ true) where
   pub position-none : (R : List K) (k : K) → (k ∈ R → ⊥) → position eq R k ≡ 0
@@ -53,15 +57,11 @@ module _ {K : Type 0} (eq : K → K → Bool) (eq-true : (j k : K) → eq j k �
   pub position-pos : (R : List K) (k : K) → k ∈ R → 1 ≤ position eq R k
   position-pos (x ∷ R) k i = go (λ j. position-pos R k j) (eq k x) refl i
     where
-      pos : (n : ℕ) → 1 ≤ n → 1 ≤ shift n
-      pos zero h = omega arith
-      pos (suc n) h = omega arith
-
       go : (k ∈ R → 1 ≤ position eq R k) → (b : Bool) → eq k x ≡ b → k ∈ (x ∷ R) →
           1 ≤ cond b 1 (shift (position eq R k))
       go ih true t i = omega arith
       go ih false t (inl e) = absurd (true≢false (sym (eq-same k) ∙ ap (eq k) e ∙ t))
-      go ih false t (inr j) = pos (position eq R k) (ih j)
+      go ih false t (inr j) = shift-pos (position eq R k) (ih j)
 
   pub position-inj : (R : List K) (j k : K) → j ∈ R → position eq R j ≡ position eq R k → j ≡ k
   position-inj R j k i e = go (position eq R j) refl (position-pos R j i)

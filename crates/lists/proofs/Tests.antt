@@ -2,7 +2,7 @@
 use mathlib.Core.Bool.{Bool, _&&_, _||_, cond, false, false≢true, true, true≢false}
 use mathlib.Core.List.{List, [], _++_, _∷_, map}
 use mathlib.Core.Logic.{_⊎_, inl, inr}
-use mathlib.Core.Path.{_≡_, ap, refl}
+use mathlib.Core.Path.{_≡_, ap, refl, sym}
 use Prim.Native.Nat.{_<_, _≤_, suc, ℕ}
 use native.Mathlib.Omega.{arith}
 use lib.Dec.{eqb}
@@ -39,6 +39,12 @@ or-none-left false b e = refl
 pub or-none-right : (a b : Bool) → (a || b) ≡ false → b ≡ false
 or-none-right true b e = absurd (true≢false e)
 or-none-right false b e = e
+
+-- tests that follow from each other are equal
+pub same-test : (a b : Bool) → (a ≡ true → b ≡ true) → (b ≡ true → a ≡ true) → a ≡ b
+same-test true b f g = sym (f refl)
+same-test false true f g = g refl
+same-test false false f g = refl
 
 -- a test is true or false
 pub test : (b : Bool) → (b ≡ true) ⊎ (b ≡ false)
@@ -149,6 +155,12 @@ module _ {A B : Type 0} where
   pub map-in : (f : A → B) (xs : List A) (y : B) → y ∈ map f xs → (x : A) × (x ∈ xs) × (y ≡ f x)
   map-in f (x ∷ xs) y (inl e) = (x, inl refl, e)
   map-in f (x ∷ xs) y (inr m) = let r = map-in f xs y m in (r .0, inr (r .1), r .2)
+
+-- a test of the values of a function
+pub every-mapped : {A B : Type 0} (p : B → Bool) (f : A → B) (xs : List A) →
+    every p (map f xs) ≡ every (λ x. p (f x)) xs
+every-mapped p f [] = refl
+every-mapped p f (x ∷ xs) = rw (every-mapped p f xs)
 
 pub eqb-same : (k : ℕ) → eqb k k ≡ true
 eqb-same k = eq-eqb k k refl

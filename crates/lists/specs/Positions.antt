@@ -1,8 +1,9 @@
 -- The position of a key in a list, the numbers of an interval, and pairs of numbers.
 use mathlib.Core.Bool.{Bool, _&&_, cond}
 use mathlib.Core.List.{List, [], _++_, _∷_}
-use Prim.Native.Nat.{suc, zero, ℕ}
+use Prim.Native.Nat.{_+_, suc, zero, ℕ}
 use lib.Dec.{eqb}
+use lib.ListN.{getD}
 
 -- one further from the start; 0, which means "not there", stays 0
 abbrev pub shift : ℕ → ℕ
@@ -18,6 +19,10 @@ position eq (x ∷ xs) k = cond (eq k x) 1 (shift (position eq xs k))
 abbrev pub upFrom : ℕ → ℕ → List ℕ
 upFrom k zero = []
 upFrom k (suc n) = k ∷ upFrom (suc k) n
+
+-- the byte k places behind a byte
+abbrev pub byteFrom : List ℕ → ℕ → ℕ → ℕ
+byteFrom s at k = getD s (at + k) 0
 
 -- a pair of numbers
 abbrev pub Pair : Type 0

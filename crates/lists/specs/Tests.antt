@@ -28,6 +28,11 @@ module _ {A : Type 0} where
   filter p [] = []
   filter p (x ∷ xs) = let r = filter p xs in cond (p x) (x ∷ r) r
 
+-- 1 where a test passes, 0 where not
+abbrev pub bit : Bool → ℕ
+bit true = 1
+bit false = 0
+
 -- two lists of numbers are equal
 abbrev pub sameList : List ℕ → List ℕ → Bool
 sameList [] [] = true

@@ -9,8 +9,8 @@ use lib.Dec.{eqb}
 use lib.ListN.{length, length-set, set}
 use lib.Seq.{getD-set-other, getD-set-same}
 use borrow.Author.Tests.{eqb-false, eqb-true}
-use Rattle.marking.specs.Marks.{Below, Swept, Within, bit, marked, marks, nonzero}
-use Rattle.lists.proofs.Closure.{closed}
+use Rattle.lists.specs.Tests.{bit}
+use Rattle.marking.specs.Marks.{Below, Swept, Within, marked, marks, nonzero}
 use Rattle.lists.proofs.Tests.{or-cases, or-none-left, or-none-right}
 
 pub nonzero-false : (x : ℕ) → x ≡ 0 → nonzero x ≡ false
@@ -20,6 +20,10 @@ nonzero-false (suc x) e = absurd (omega arith)
 pub nonzero-true : (x : ℕ) → x ≢ 0 → nonzero x ≡ true
 nonzero-true zero e = absurd (e refl)
 nonzero-true (suc x) e = refl
+
+pub nonzero-bit : (b : Bool) → nonzero (bit b) ≡ b
+nonzero-bit true = refl
+nonzero-bit false = refl
 
 -- there are no more marks than entries
 pub marks-length : (m : List ℕ) → marks m ≤ length m
@@ -116,10 +120,7 @@ swept-then {Sound} {C} {D} {m} {m'} {m''} {x} {y} s t = record {
     more false false d e (inl h) = absurd (true≢false (sym h ∙ d))
     more false false d e (inr h) = absurd (true≢false (sym h ∙ e))
 
--- a loop of sweeps: it begins, and goes on by one
-pub swept-begin : {Sound : List ℕ → Type 0} (C : ℕ → List ℕ → Type 0) {m : List ℕ} → Swept Sound (Below C 0) m m false
-swept-begin C = swept-none (λ i h. absurd (omega arith))
-
+-- a loop of sweeps goes on by one
 pub swept-next : {Sound : List ℕ → Type 0} (C : ℕ → List ℕ → Type 0) (i : ℕ) {m m' m'' : List ℕ} {x y : Bool} →
     Swept Sound (Below C i) m m' x → Swept Sound (C i) m' m'' y → Swept Sound (Below C (i + 1)) m m'' (x || y)
 swept-next C i {m} {m'} {m''} {x} {y} s t = swept-closed upTo (swept-then s t)

@@ -5,6 +5,7 @@ use mathlib.Core.List.{List, [], _∷_}
 use mathlib.Core.Path.{_≡_}
 use Prim.Native.Nat.{_+_, _<_, suc, zero, ℕ}
 use lib.ListN.{getD, length}
+use Rattle.lists.specs.Tests.{bit}
 
 -- an entry that is not 0 is a mark
 abbrev pub nonzero : ℕ → Bool
@@ -13,10 +14,6 @@ nonzero (suc n) = true
 
 abbrev pub marked : List ℕ → ℕ → Bool
 marked m i = nonzero (getD m i 0)
-
-abbrev pub bit : Bool → ℕ
-bit true = 1
-bit false = 0
 
 -- the number of marks
 abbrev pub marks : List ℕ → ℕ

@@ -1,24 +1,25 @@
 -- The arguments of transitions with names: tested one by one, compared, and the order of transitions that they
 -- decide.
 use mathlib.Core.Bool.{Bool}
-use mathlib.Core.List.{List, [], _∷_, map, map-map}
-use mathlib.Core.Path.{_∙_, _≡_, ap, ap₂, refl, subst, sym}
-use Prim.Native.Nat.{ℕ}
-use native.Mathlib.Nat.{zero-add}
+use mathlib.Core.List.{List, _∷_, map, map-map}
+use mathlib.Core.Path.{_∙_, _≡_, ap₂, subst, sym}
+use Prim.Native.Nat.{_≤_, ℕ}
+use native.Mathlib.Omega.{arith}
 use lib.Dec.{ltb}
 use lib.ListN.{length, length-map}
 use Rattle.automata.specs.Automaton.{Transition}
 use Rattle.automata.specs.Order.{lex, precedes}
 use Rattle.automata.specs.Renumber.{renumberBy}
 use Rattle.fields.specs.Fields.{firstArgs}
+use Rattle.format.specs.Format.{maxArity}
 use Rattle.lists.specs.Positions.{upFrom}
 use Rattle.lists.specs.Tests.{every}
 use Rattle.marking.specs.Marks.{marked}
 use Rattle.minimize.specs.Merged.{nameIn}
 use Rattle.table.specs.Layout.{argOf, arityOf, labelOf, transitionAt}
 use Rattle.fields.proofs.Laws.{LexFrom, lex-agrees, lex-differs, lex-start}
-use Rattle.fields.proofs.Transitions.{args-length}
-use Rattle.lists.proofs.Loops.{EveryFrom, every-start}
+use Rattle.fields.proofs.Transitions.{args-every, args-length}
+use Rattle.lists.proofs.Loops.{EveryFrom}
 
 -- argument j of the transition at a byte is marked
 abbrev pub argMarked : List ℕ → List ℕ → ℕ → ℕ → Bool
@@ -28,18 +29,9 @@ argMarked marks s at j = marked marks (argOf s at j)
 abbrev pub argName : List ℕ → List ℕ → ℕ → ℕ → ℕ
 argName names s at j = nameIn names (argOf s at j)
 
-every-mapped : {A B : Type 0} (p : B → Bool) (f : A → B) (xs : List A) →
-    every p (map f xs) ≡ every (λ x. p (f x)) xs
-every-mapped p f [] = refl
-every-mapped p f (x ∷ xs) = rw (every-mapped p f xs)
-
 pub marked-start : (marks s : List ℕ) (at : ℕ) {n : ℕ} → n ≡ arityOf s at →
     EveryFrom (every (marked marks) (transitionAt s at .args)) (argMarked marks s at) n 0
-marked-start marks s at {n} e =
-    subst (λ (b : Bool). EveryFrom b (argMarked marks s at) n 0)
-    (ap (λ (m : ℕ). every (argMarked marks s at) (upFrom 0 m)) e
-    ∙ sym (every-mapped (marked marks) (argOf s at) (upFrom 0 (arityOf s at))))
-    (every-start n (zero-add n))
+marked-start marks s at e = args-every (marked marks) s at e
 
 pub names-start : (names s : List ℕ) (a b n : ℕ) →
     LexFrom (lex (map (nameIn names) (firstArgs s a n)) (map (nameIn names) (firstArgs s b n)))
@@ -68,6 +60,11 @@ module _ (σ τ : Transition) where
 -- the transition at a byte with other names
 abbrev pub renamedAt : List ℕ → List ℕ → ℕ → Transition
 renamedAt names s at = renumberBy (nameIn names) (transitionAt s at)
+
+pub renamed-narrow : (names s : List ℕ) (at : ℕ) → arityOf s at ≤ maxArity →
+    length (renamedAt names s at .args) ≤ maxArity
+renamed-narrow names s at h =
+    omega (arith, length-map (transitionAt s at .args) (nameIn names), args-length s at)
 
 -- the transitions at two bytes, by what was read of them: their arities n and k, their labels x and y
 module _ (names s : List ℕ) (a b : ℕ) {n k : ℕ} (arity : n ≡ arityOf s a) (arity′ : k ≡ arityOf s b) where

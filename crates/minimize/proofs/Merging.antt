@@ -7,7 +7,7 @@ use Prim.Native.Nat.{_*_, _+_, _<_, _≤_, ℕ}
 use native.Mathlib.Numerals.{add-one}
 use native.Mathlib.Omega.{arith}
 use lib.Dec.{ltb}
-use lib.ListN.{getD, length, length-map}
+use lib.ListN.{getD, length}
 use borrow.Author.Tests.{eq-eqb, ltb-false, ltb-true, ne-eqb}
 use Rattle.automata.specs.Automaton.{Transition}
 use Rattle.automata.specs.Renumber.{renumberBy}
@@ -17,10 +17,11 @@ use Rattle.lists.specs.Tests.{filter}
 use Rattle.minimize.specs.Merged.{entryOf, mergedBy, nameIn, useful}
 use Rattle.sorted.specs.Sorted.{SameBytes, Written}
 use Rattle.table.specs.Layout.{arityOf, blank, nthTransition, transitionAt, transitionsIn}
-use Rattle.fields.proofs.Transitions.{args-length, nth-transitionsIn, transitionsIn-suc}
+use Rattle.fields.proofs.Transitions.{transitionsIn-suc}
+use Rattle.minimize.proofs.Arguments.{renamed-narrow}
 use Rattle.minimize.proofs.Entries.{entry-arity, entry-byte, entry-transition}
 use Rattle.sorted.proofs.Placed.{same-arity, same-transition}
-use Rattle.table.proofs.Decoded.{transitionsIn-is, transitionsIn-length}
+use Rattle.table.proofs.Decoded.{transitionsIn-is, transitionsIn-length, transitionsIn-nth}
 
 -- a run of which the first n transitions are those of another
 transitionsIn-same : (s t : List ℕ) (n : ℕ) → ((i : ℕ) → i < n → arityOf t (transitionBytes * i) ≤ maxArity) →
@@ -30,7 +31,7 @@ transitionsIn-same s t n narrow h =
     (λ i l.
     same-transition {s = s} {a = transitionBytes * i} {t = t} {b = transitionBytes * i}
     (record { byte = λ k m. h (transitionBytes * i + k) (omega arith) }) (narrow i l)
-    ∙ sym (nth-transitionsIn t n i l))
+    ∙ sym (transitionsIn-nth t n i blank l))
 
 filter-snoc : {A B : Type 0} (p : B → Bool) (f : A → B) (xs : List A) (x : A) →
     filter p (map f (xs ++ (x ∷ []))) ≡ filter p (map f xs) ++ cond (p (f x)) (f x ∷ []) []
@@ -100,13 +101,7 @@ module _ {s run : List ℕ} {count : ℕ} {names : List ℕ} {kept i : ℕ} (inv
 
     narrow-here : length (here .args) ≤ maxArity
     unfolding here
-    narrow-here =
-        omega (
-          arith,
-          length-map (nthTransition s i .args) (nameIn names),
-          args-length s (transitionBytes * i),
-          runs .narrow i h,
-        )
+    narrow-here = renamed-narrow names s (transitionBytes * i) (runs .narrow i h)
 
     entry-here : entry ≡ entryOf here
     entry-here = e ∙ ap entryOf renamed-here

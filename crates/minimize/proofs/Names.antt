@@ -5,14 +5,12 @@ use mathlib.Core.Path.{_∙_, _≡_, ap, refl, sym}
 use Prim.Native.Nat.{_+_, _-_, _<_, _≤_, suc, zero, ℕ}
 use native.Mathlib.Nat.{sub-zero}
 use native.Mathlib.Omega.{arith}
-use lib.Dec.{eqb}
 use lib.ListN.{getD, length, length-replicate, length-set, set}
-use lib.Seq.{getD-set-other, getD-set-same}
-use borrow.Author.Tests.{eqb-false, eqb-true}
 use Rattle.automata.specs.Minimal.{first}
 use Rattle.lists.specs.Positions.{upFrom}
 use Rattle.minimize.specs.Merged.{Named, nameIn, zeros}
 use Rattle.lists.proofs.Loops.{upFrom-next, upFrom-none}
+use Rattle.lists.proofs.Filling.{set-next}
 
 -- a loop at i, with n its end: s is the first number left that passes
 pub record FirstFrom (s : ℕ) (p : ℕ → Bool) (n i : ℕ) : Type 0 where
@@ -42,15 +40,10 @@ module _ {names : List ℕ} {f : ℕ → ℕ} where
   named-start e = record { size = e; named = λ p h. absurd (omega arith) }
 
   pub named-next : {i x : ℕ} → NamedBelow names f i → i < 256 → x ≡ f i → NamedBelow (set names i x) f (i + 1)
-  named-next {i} {x} inv h e =
-      record { size = length-set names i x ∙ inv .size; named = λ p l. go p l (eqb p i) refl }
-    where
-      go : (p : ℕ) → p < i + 1 → (b : Bool) → eqb p i ≡ b → nameIn (set names i x) p ≡ f p
-      go p l true t =
-          let d = eqb-true p i t in
-          ap (nameIn (set names i x)) d ∙ getD-set-same names i x 0 (omega (arith, inv .size)) ∙ e ∙ ap f (sym d)
-      go p l false t =
-          let d = eqb-false p i t in getD-set-other names i p x 0 d ∙ inv .named p (omega arith)
+  named-next {i} {x} inv h e = record {
+    size = length-set names i x ∙ inv .size;
+    named = set-next f names i x (omega (arith, inv .size)) e (inv .named);
+  }
 
   pub named-end : {i n : ℕ} → NamedBelow names f i → n < i → Named names f n
   named-end inv h = record { size = inv .size; named = λ p l. inv .named p (omega arith) }

@@ -1,14 +1,14 @@
 -- What merging by marks leaves: the quotient of the automaton that a run shows, where the marks are its
 -- distinguishable pairs.
-use mathlib.Core.Bool.{Bool, false, not}
+use mathlib.Core.Bool.{Bool, not}
 use mathlib.Core.List.{List, [], _∷_, map}
 use mathlib.Core.Logic.{inl, inr}
 use mathlib.Core.Path.{_∙_, _≡_, ap, refl, subst, sym}
-use Prim.Native.Nat.{_*_, _+_, _<_, _≤_, suc, zero, ℕ}
+use Prim.Native.Nat.{_*_, _<_, _≤_, suc, zero, ℕ}
 use native.Mathlib.Omega.{arith}
 use lib.Dec.{eqb}
 use borrow.Author.Tests.{eqb-false, not-true}
-use Rattle.automata.specs.Automaton.{Automaton, Transition, accepting, states, step}
+use Rattle.automata.specs.Automaton.{Automaton, Transition, states, step}
 use Rattle.automata.specs.Distinguishable.{distinguishablePairs}
 use Rattle.automata.specs.Minimal.{first, merge, quotient, representative}
 use Rattle.automata.specs.Renumber.{renumberBy}
@@ -20,21 +20,19 @@ use Rattle.lists.specs.Positions.{Pair, eqPair, upFrom}
 use Rattle.lists.specs.Tests.{_∈_, filter}
 use Rattle.minimize.specs.Made.{Minimizable}
 use Rattle.minimize.specs.Merged.{Named, chosen, mergedBy, nameIn, unmarked, useful}
-use Rattle.table.specs.Layout.{argOf, arityOf, classAt, labelOf, nthTransition, outOf, transitionsIn}
+use Rattle.table.specs.Layout.{argOf, arityOf, labelOf, nthTransition, outOf, transitionsIn}
+use Rattle.automata.proofs.Minimal.{first-same}
 use Rattle.automata.proofs.Order.{lookup-transition}
-use Rattle.fields.proofs.Transitions.{in-args, in-transitionsIn, transitionsIn-nth}
-use Rattle.lists.proofs.Intervals.{getD-tabulated, length-tabulated}
+use Rattle.fields.proofs.Transitions.{in-args}
+use Rattle.fields.proofs.Views.{viewed-states}
 use Rattle.lists.proofs.Positions.{upFrom-in}
 use Rattle.lists.proofs.Tests.{filter-in, map-in, none-zero}
 use Rattle.table.proofs.Bytes.{cond-all}
+use Rattle.table.proofs.Decoded.{in-transitionsIn, transitionsIn-in}
 
 map-in-same : {A B : Type 0} (f g : A → B) (xs : List A) → ((x : A) → x ∈ xs → f x ≡ g x) → map f xs ≡ map g xs
 map-in-same f g [] h = refl
 map-in-same f g (x ∷ xs) h = cc (h x (inl refl), map-in-same f g xs (λ y i. h y (inr i)))
-
-first-in-same : (p q : ℕ → Bool) (xs : List ℕ) → ((x : ℕ) → x ∈ xs → p x ≡ q x) → first p xs ≡ first q xs
-first-in-same p q [] h = refl
-first-in-same p q (x ∷ xs) h = cc (h x (inl refl), first-in-same p q xs (λ y i. h y (inr i)))
 
 first-le : (p : ℕ → Bool) (xs : List ℕ) (n : ℕ) → ((x : ℕ) → x ∈ xs → x ≤ n) → first p xs ≤ n
 first-le p [] n h = omega arith
@@ -45,23 +43,13 @@ chosen-le : (m : List ℕ) (n p : ℕ) → chosen m n p ≤ n
 unfolding chosen
 chosen-le m n p = first-le (unmarked m p) (upFrom 0 (suc n)) n (λ x i. omega (arith, upFrom-in 0 (suc n) x i))
 
-module _ (cl s : List ℕ) (n count : ℕ) where
-  pub viewed-states : states (viewed cl s n count) ≡ n
-  viewed-states = length-tabulated (classAt cl) 1 n
-
-  pub viewed-class : (q : ℕ) → 1 ≤ q → q ≤ n → accepting (viewed cl s n count) q ≡ classAt cl q
-  viewed-class zero h l = absurd (omega arith)
-  viewed-class (suc q) h l =
-      let e : 1 + q ≡ suc q = omega arith in
-      getD-tabulated (classAt cl) 1 n q false (omega arith) ∙ ap (classAt cl) e
-
 -- names count for the states of a run only
 pub merged-names : {s : List ℕ} {n count : ℕ} → RunsOver s count n → (f : ℕ → ℕ) {names : List ℕ} →
     Named names f n → mergedBy (nameIn names) (transitionsIn s count) ≡ mergedBy f (transitionsIn s count)
 merged-names {s} {n} {count} over f {names} named =
     ap (filter useful)
     (map-in-same (renumberBy (nameIn names)) (renumberBy f) (transitionsIn s count)
-    (λ τ j. let (i, h, e) = in-transitionsIn s count τ j in
+    (λ τ j. let (i, h, e) = transitionsIn-in s count τ j in
     subst (λ (σ : Transition). renumberBy (nameIn names) σ ≡ renumberBy f σ) (sym e) (here i h)))
   where
     here : (i : ℕ) → i < count → renumberBy (nameIn names) (nthTransition s i) ≡ renumberBy f (nthTransition s i)
@@ -83,7 +71,7 @@ module _ {cl s : List ℕ} {n count : ℕ} {m : List ℕ} (given : Minimizable c
   pub chosen-representative : (p : ℕ) → p ≤ n → chosen m n p ≡ representative D n p
   unfolding chosen representative
   chosen-representative p h =
-      first-in-same (unmarked m p) (λ q. not (elem eqPair (p, q) D)) (upFrom 0 (suc n))
+      first-same (unmarked m p) (λ q. not (elem eqPair (p, q) D)) (upFrom 0 (suc n))
       (λ q i. ap not (given .marks p q h (omega (arith, upFrom-in 0 (suc n) q i))))
 
   module _ {ρs : List Transition} (merged : ρs ≡ mergedBy (chosen m n) (transitionsIn s count)) where
@@ -96,7 +84,7 @@ module _ {cl s : List ℕ} {n count : ℕ} {m : List ℕ} (given : Minimizable c
         step P (labelOf s (transitionBytes * i)) (nthTransition s i .args) ≡ outOf s (transitionBytes * i)
     step-here i h =
         rw (none-zero (nthTransition s i .args) (λ q j. some-arg q (in-args s (transitionBytes * i) q j)))
-        (lookup-transition (transitionsIn s count) (given .rises) (nthTransition s i) (transitionsIn-nth s count i h))
+        (lookup-transition (transitionsIn s count) (given .rises) (nthTransition s i) (in-transitionsIn s count i h))
       where
         some-arg : (q : ℕ) → (k : ℕ) × (k < arityOf s (transitionBytes * i)) × (q ≡ argOf s (transitionBytes * i) k) →
             1 ≤ q
@@ -105,7 +93,7 @@ module _ {cl s : List ℕ} {n count : ℕ} {m : List ℕ} (given : Minimizable c
     renamed-merge : (τ : Transition) → τ ∈ transitionsIn s count →
         renumberBy (chosen m n) τ ≡ merge P D τ
     unfolding merge
-    renamed-merge τ j = let (i, h, e) = in-transitionsIn s count τ j in
+    renamed-merge τ j = let (i, h, e) = transitionsIn-in s count τ j in
         subst (λ (σ : Transition). renumberBy (chosen m n) σ ≡ merge P D σ) (sym e) (here i h)
       where
         here : (i : ℕ) → i < count →
@@ -131,7 +119,7 @@ module _ {cl s : List ℕ} {n count : ℕ} {m : List ℕ} (given : Minimizable c
         let (there, useful-here) = filter-in useful (map (renumberBy (chosen m n)) (transitionsIn s count)) τ
         (subst (λ (l : List Transition). τ ∈ l) (merged) j) in
         let (σ, k, e) = map-in (renumberBy (chosen m n)) (transitionsIn s count) τ there in
-        let (i, h, d) = in-transitionsIn s count σ k in (
+        let (i, h, d) = transitionsIn-in s count σ k in (
           some-state (τ .out) (eqb-false 0 (τ .out) (not-true (eqb 0 (τ .out)) useful-here)),
           bound (τ .out) i h (ap (λ (x : Transition). x .out) e ∙ ap (λ (x : Transition). chosen m n (x .out)) d),
         )

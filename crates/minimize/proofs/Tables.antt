@@ -1,5 +1,4 @@
 -- The bytes of a table written one after another: classes, body, and the whole.
-use mathlib.Core.Bool.{Bool, false, true}
 use mathlib.Core.List.{List}
 use mathlib.Core.Path.{_∙_, _≡_, ap, refl, sym}
 use Prim.Native.Nat.{_%_, _+_, _-_, _/_, _<_, _≤_, ℕ}
@@ -8,12 +7,14 @@ use lib.Dec.{eqb, ltb}
 use lib.ListN.{getD, length, length-set, set}
 use lib.Seq.{ext-getD, getD-set-other, getD-set-same}
 use borrow.Author.Tests.{eq-eqb, eqb-false, eqb-true, le-leb, lt-leb, ltb-false, ltb-true, ne-eqb}
+use Rattle.lists.specs.Tests.{bit}
 use Rattle.automata.specs.Automaton.{Automaton, accepting, states}
 use Rattle.format.specs.Format.{countAt, headBytes, maxStates, tableBytes}
 use Rattle.minimize.specs.Merged.{nameIn}
 use Rattle.minimize.specs.Written.{BodyWritten, ClassesWritten, TableWritten, classByte}
-use Rattle.table.specs.Layout.{bit, bodyByte, byteAt, encode}
+use Rattle.table.specs.Layout.{bodyByte, byteAt, encode}
 use Rattle.table.proofs.Bytes.{cond-is, encode-byte, encode-length}
+use Rattle.lists.proofs.Filling.{set-next-from}
 
 -- ---- classes
 
@@ -53,16 +54,9 @@ module _ {b t : List ℕ} {f : ℕ → ℕ} {q : ℕ} (inv : ClassesBelow b t f 
   classes-next h {x} e = record {
     some-state = omega arith;
     size = length-set t q x ∙ inv .size;
-    class = λ p l m. go p l m (eqb p q) refl;
+    class = set-next-from (λ y. y) f 1 t q x (omega (arith, inv .size)) e (inv .class);
     first = getD-set-other t q 0 x 0 (λ z. omega (arith, inv .some-state)) ∙ inv .first;
   }
-    where
-      go : (p : ℕ) → 1 ≤ p → p < q + 1 → (c : Bool) → eqb p q ≡ c → getD (set t q x) p 0 ≡ f p
-      go p l m true z =
-          let d = eqb-true p q z in
-          ap (λ i. getD (set t q x) i 0) d ∙ getD-set-same t q x 0 (omega (arith, inv .size)) ∙ e ∙ ap f (sym d)
-      go p l m false z =
-          let d = eqb-false p q z in getD-set-other t q p x 0 d ∙ inv .class p l (omega arith)
 
   pub classes-end : maxStates < q → ClassesWritten b t f
   classes-end h = record {
@@ -94,20 +88,12 @@ module _ {b t made : List ℕ} {i : ℕ} (inv : BodyBelow b t made i) where
     start = omega (arith, inv .start);
     size = length-set t i x ∙ inv .size;
     head = λ j l. getD-set-other t i j x 0 (λ z. omega (arith, inv .start)) ∙ inv .head j l;
-    body = λ j l m. go j l m (eqb j i) refl;
+    body = set-next-from (λ y. y) (λ j. getD made (j - headBytes) 0) headBytes t i x (omega (arith, inv .size)) refl
+        (inv .body);
   }
     where
       x : ℕ
       x = getD made (i - headBytes) 0
-
-      go : (j : ℕ) → headBytes ≤ j → j < i + 1 → (c : Bool) → eqb j i ≡ c →
-          getD (set t i x) j 0 ≡ getD made (j - headBytes) 0
-      go j l m true z =
-          let d = eqb-true j i z in
-          ap (λ n. getD (set t i x) n 0) d ∙ getD-set-same t i x 0 (omega (arith, inv .size)) ∙
-          ap (λ n. getD made (n - headBytes) 0) (sym d)
-      go j l m false z =
-          let d = eqb-false j i z in getD-set-other t i j x 0 d ∙ inv .body j l (omega arith)
 
   pub body-end : tableBytes ≤ i → BodyWritten b t made
   body-end h = record {

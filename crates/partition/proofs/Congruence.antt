@@ -3,7 +3,7 @@ use mathlib.Core.Bool.{Bool, Bool·beq, _||_, cond, false, false≢true, not, tr
 use mathlib.Core.List.{List, [], _++_, _∷_}
 use mathlib.Core.Logic.{_≢_, _⊎_, inl, inr}
 use mathlib.Core.Path.{_∙_, _≡_, ap, refl, subst, sym}
-use Prim.Native.Nat.{_%_, _*_, _+_, _-_, _<_, _^_, _≤_, suc, ℕ}
+use Prim.Native.Nat.{_%_, _*_, _+_, _-_, _<_, _^_, _≤_, ℕ}
 use native.Mathlib.Omega.{arith}
 use lib.Dec.{eqb}
 use lib.ListN.{length-replicate, replicate}
@@ -21,24 +21,22 @@ use Rattle.fingerprints.specs.Fingerprints.{Round, Sound, differs, fingerprint,
 use Rattle.fingerprints.specs.Fingerprints.{allDiffer, differsAbove, places, valueAt}
 use Rattle.format.specs.Format.{transitionBytes}
 use Rattle.lists.specs.Positions.{Pair, eqPair, upFrom}
-use Rattle.lists.specs.Tests.{_∈_, any, every}
-use Rattle.marking.specs.Marks.{bit, marked, nonzero}
+use Rattle.lists.specs.Tests.{_∈_, any, bit, every}
+use Rattle.marking.specs.Marks.{marked, nonzero}
 use Rattle.partition.specs.Parts.{Fingerprinted, PartsMarked, SharedMarks, agreesAt, agreesPlace}
-use Rattle.partition.specs.Parts.{agreesTransition}
-use Rattle.partition.specs.Parts.{allAgree, besides}
+use Rattle.partition.specs.Parts.{agreesTransition, allAgree, besides}
 use Rattle.table.specs.Layout.{argOf, arityOf, outOf, transitionsIn}
+use Rattle.automata.proofs.Distinguishable.{differ, pairs-in}
 use Rattle.automata.proofs.Steps.{Taken, step-view}
 use Rattle.distinguish.proofs.Closing.{own-step, taken-through}
 use Rattle.fingerprints.proofs.Equivalent.{round-sound}
 use Rattle.fingerprints.proofs.Told.{all-differ-told}
 use Rattle.lists.proofs.Closure.{closure-all}
-use Rattle.lists.proofs.Distinct.{grid-in}
-use Rattle.lists.proofs.Intervals.{every-upFrom, upFrom-every}
-use Rattle.lists.proofs.Positions.{eqPair-same, eqPair-true, in-upFrom, upFrom-in}
-use Rattle.lists.proofs.Tests.{and-both, any-in, in-any, or-cases}
-use Rattle.partition.proofs.Marked.{marked-bit}
-use Rattle.validity.proofs.Fixpoints.{same-test}
-use Rattle.validity.proofs.Views.{viewed-states}
+use Rattle.lists.proofs.Intervals.{at-every, every-at}
+use Rattle.lists.proofs.Positions.{eqPair-same, eqPair-true, in-upFrom}
+use Rattle.lists.proofs.Tests.{and-both, any-in, in-any, or-cases, same-test}
+use Rattle.marking.proofs.Sweeps.{nonzero-bit}
+use Rattle.fields.proofs.Views.{viewed-states}
 
 -- ---- the class is the last bit of a fingerprint
 
@@ -105,7 +103,7 @@ module _ (s : List ℕ) (n c : ℕ) (over : RunsOver s c n) (few : n ≤ 255) (r
   pub lone-agrees : marked f (argOf s (transitionBytes * i) k) ≡ false → agreesPlace s c n (printOf m) i k ≡ true
   unfolding a
   lone-agrees d =
-      upFrom-every (agreesAt s c (printOf m) i k) 0 (n + 1)
+      at-every (agreesAt s c (printOf m) i k) 0 (n + 1)
       (λ q x b. go q (omega arith) (eqb (printOf m q) (printOf m a)) refl)
     where
       go : (q : ℕ) → q ≤ n → (t : Bool) → eqb (printOf m q) (printOf m a) ≡ t →
@@ -133,10 +131,10 @@ module _ (cl s : List ℕ) (n c : ℕ) (view : Viewed cl s n c) (rises : rising 
       h (stepAt s c (transitionBytes * i) k q) ≡ h (outOf s (transitionBytes * i))
   unfolding allAgree
   agrees-at i k q a b d e =
-      let t = every-upFrom (agreesTransition s c n h) 0 c agree i (omega arith) (omega arith) in
-      let u = every-upFrom (agreesPlace s c n h i) 0 (arityOf s (transitionBytes * i)) t k (omega arith)
+      let t = every-at (agreesTransition s c n h) 0 c agree i (omega arith) (omega arith) in
+      let u = every-at (agreesPlace s c n h i) 0 (arityOf s (transitionBytes * i)) t k (omega arith)
       (omega arith) in
-      let v = every-upFrom (agreesAt s c h i k) 0 (n + 1) u q (omega arith) (omega arith) in
+      let v = every-at (agreesAt s c h i k) 0 (n + 1) u q (omega arith) (omega arith) in
       go (or-cases (not (eqb (h q) (h (argOf s (transitionBytes * i) k)))) _ v)
     where
       go : (not (eqb (h q) (h (argOf s (transitionBytes * i) k))) ≡ true) ⊎
@@ -164,12 +162,6 @@ module _ (cl s : List ℕ) (n c : ℕ) (view : Viewed cl s n c) (rises : rising 
       go (inl x) (inr u) = taken-agrees z q p k (sym e) u
       go (inl x) (inl y) = ap h (x ∙ sym y)
 
-  differ-same : (x y : Bool) → x ≡ y → not (Bool·beq x y) ≡ true → ⊥
-  differ-same true true d e = false≢true e
-  differ-same true false d e = true≢false d
-  differ-same false true d e = false≢true d
-  differ-same false false d e = false≢true e
-
   parts-apart : (p q : ℕ) → distinguishable A p q ≡ true → h p ≢ h q
   parts-apart p q e = closure-all eqPair eqPair-true eqPair-same (distinguishableRule A) (pairs A) Apart step (p, q) e
     where
@@ -181,17 +173,13 @@ module _ (cl s : List ℕ) (n c : ℕ) (view : Viewed cl s n c) (rises : rising 
       step r ih k i e g = go (or-cases (not (Bool·beq (accepting A (k .0)) (accepting A (k .1)))) _ e)
         where
           small : (k .0 ≤ n) × (k .1 ≤ n)
-          small =
-              let g = grid-in (upFrom 0 (suc (states A))) (upFrom 0 (suc (states A))) k i in (
-                omega (arith, many, upFrom-in 0 (suc (states A)) (k .0) (g .0)),
-                omega (arith, many, upFrom-in 0 (suc (states A)) (k .1) (g .1)),
-              )
+          small = let g = pairs-in A k i in (omega (arith, many, g .0), omega (arith, many, g .1))
 
           go : (not (Bool·beq (accepting A (k .0)) (accepting A (k .1))) ≡ true) ⊎
               (any (λ z. r (stepSlot A z (k .0), stepSlot A z (k .1))) (slots (transitionsIn s c)) ≡ true) → ⊥
           go (inl d) =
-              differ-same _ _
-              (made .class (k .0) (k .1) (omega (arith, many, small .0)) (omega (arith, many, small .1)) g) d
+              differ (accepting A (k .0)) (accepting A (k .1)) d
+              (made .class (k .0) (k .1) (omega (arith, many, small .0)) (omega (arith, many, small .1)) g)
           go (inr d) =
               let (z, j, f) = any-in (λ z. r (stepSlot A z (k .0), stepSlot A z (k .1))) (slots (transitionsIn s c))
               d in
@@ -204,7 +192,7 @@ pub parts-marks : (cl s : List ℕ) (n c : ℕ) → Viewed cl s n c → rising (
 parts-marks cl s n c view rises h made agree p = record {
   marks = λ x y a b.
       ap nonzero (p .each x y (omega (arith, viewed-states cl s n c)) (omega (arith, viewed-states cl s n c)))
-      ∙ marked-bit (differs h x y) ∙ same-test (differs h x y) (distinguishable (viewed cl s n c) x y)
+      ∙ nonzero-bit (differs h x y) ∙ same-test (differs h x y) (distinguishable (viewed cl s n c) x y)
       (told x y a b) (apart x y);
 }
   where
@@ -249,9 +237,9 @@ parts-exact cl s n c view rises h made agree = same-test (allDiffer h n) (allDis
 
     back : allDistinguishable A ≡ true → allDiffer h n ≡ true
     back e =
-        upFrom-every (differsAbove h n) 1 n
-        (λ p a b. upFrom-every (differs h p) (p + 1) (n - p)
+        at-every (differsAbove h n) 1 n
+        (λ p a b. at-every (differs h p) (p + 1) (n - p)
         (λ q x y. apart p q (omega arith)
-        (every-upFrom (λ q. eqb p q || distinguishable A p q) 1 (states A)
-        (every-upFrom (λ p. every (λ q. eqb p q || distinguishable A p q) (upFrom 1 (states A))) 1 (states A) e p a
+        (every-at (λ q. eqb p q || distinguishable A p q) 1 (states A)
+        (every-at (λ p. every (λ q. eqb p q || distinguishable A p q) (upFrom 1 (states A))) 1 (states A) e p a
         (omega (arith, many))) q (omega arith) (omega (arith, many)))))

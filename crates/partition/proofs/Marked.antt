@@ -9,12 +9,15 @@ use lib.Dec.{eqb}
 use lib.ListN.{getD, length, length-set, set}
 use lib.Seq.{getD-set-other, getD-set-same}
 use borrow.Author.Tests.{eq-eqb, eqb-false, eqb-true, ne-eqb}
+use Rattle.lists.specs.Tests.{bit}
 use Rattle.distinguish.specs.Telling.{pairAt, stepAt}
 use Rattle.fingerprints.specs.Fingerprints.{differs}
 use Rattle.format.specs.Format.{bytePairs, transitionBytes}
-use Rattle.marking.specs.Marks.{bit, nonzero}
+use Rattle.marking.specs.Marks.{nonzero}
 use Rattle.partition.specs.Parts.{PartsMarked, RowMarked, SharedMarks, agreesAt, shared}
 use Rattle.table.specs.Layout.{argOf, outOf}
+use Rattle.marking.proofs.Sweeps.{nonzero-bit}
+use Rattle.lists.proofs.Filling.{set-next}
 
 -- ---- shared states
 
@@ -24,20 +27,13 @@ pub record SharedBelow (m : List ℕ) (n k : ℕ) (f : List ℕ) : Type 0 where
 
 pub shared-next : {m : List ℕ} {n k : ℕ} {f : List ℕ} {r : ℕ} → SharedBelow m n k f → k ≤ 255 →
     r ≡ bit (shared m n k) → SharedBelow m n (k + 1) (set f k r)
-shared-next {m} {n} {k} {f} {r} b h e =
-    record { size = length-set f k r ∙ b .size; each = λ p l. go p l (eqb p k) refl }
-  where
-    go : (p : ℕ) → p < k + 1 → (t : Bool) → eqb p k ≡ t → getD (set f k r) p 0 ≡ bit (shared m n p)
-    go p l true d = rw (eqb-true p k d) (getD-set-same f k r 0 (omega (arith, b .size)) ∙ e)
-    go p l false d = let ne = eqb-false p k d in
-        getD-set-other f k p r 0 ne ∙ b .each p (omega arith)
-
-pub marked-bit : (b : Bool) → nonzero (bit b) ≡ b
-marked-bit true = refl
-marked-bit false = refl
+shared-next {m} {n} {k} {f} {r} b h e = record {
+  size = length-set f k r ∙ b .size;
+  each = set-next (λ p. bit (shared m n p)) f k r (omega (arith, b .size)) e (b .each);
+}
 
 pub shared-end : {m : List ℕ} {n k : ℕ} {f : List ℕ} → SharedBelow m n k f → n < k → SharedMarks m n f
-shared-end {m} {n} b h = record { each = λ p l. ap nonzero (b .each p (omega arith)) ∙ marked-bit (shared m n p) }
+shared-end {m} {n} b h = record { each = λ p l. ap nonzero (b .each p (omega arith)) ∙ nonzero-bit (shared m n p) }
 
 -- ---- a row
 

@@ -11,8 +11,8 @@ use Rattle.distinguish.specs.Telling.{pairAt, stepAt}
 use Rattle.fingerprints.specs.Fingerprints.{Sound, differs, printOf}
 use Rattle.format.specs.Format.{transitionBytes}
 use Rattle.lists.specs.Positions.{upFrom}
-use Rattle.lists.specs.Tests.{any, every}
-use Rattle.marking.specs.Marks.{bit, marked}
+use Rattle.lists.specs.Tests.{any, bit, every}
+use Rattle.marking.specs.Marks.{marked}
 use Rattle.table.specs.Layout.{argOf, arityOf, outOf}
 
 -- equivalent states are in one part, and states of one part have one class

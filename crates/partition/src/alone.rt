@@ -1,7 +1,7 @@
 // States that are alone in their part need no test: most are.
 ghost use mathlib.Core.Path.{_≡_};
 ghost use Prim.Native.Nat.{_≤_};
-ghost use Rattle.marking.specs.Marks.{bit};
+ghost use Rattle.lists.specs.Tests.{bit};
 ghost use Rattle.partition.specs.Parts.{SharedMarks, besides, shared};
 use format::BYTE_VALUES;
 

@@ -2,8 +2,8 @@
 ghost use mathlib.Core.Path.{_≡_};
 ghost use Prim.Native.Nat.{_≤_};
 ghost use lib.ListN.{length};
+ghost use Rattle.lists.specs.Tests.{bit};
 ghost use Rattle.fingerprints.specs.Fingerprints.{differs};
-ghost use Rattle.marking.specs.Marks.{bit};
 ghost use Rattle.partition.specs.Parts.{PartsMarked, RowMarked};
 ghost use Rattle.format.specs.Format.{bytePairs};
 use format::BYTE_PAIRS;

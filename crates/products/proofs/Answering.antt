@@ -13,7 +13,7 @@ use Rattle.automata.specs.Product.{fst, live, outPair}
 use Rattle.lists.specs.Positions.{Pair}
 use Rattle.lists.specs.Tests.{_∈_, every}
 use Rattle.products.specs.Choices.{Chosen, Expands, candidate, over}
-use Rattle.products.specs.Growth.{Keyed, UpTo}
+use Rattle.products.specs.Growth.{Keyed, SomeBelow}
 use Rattle.products.specs.Pairs.{LostAt, inUse, nodeTransition, pairOf}
 use Rattle.trees.specs.Tree.{Tree}
 use Rattle.automata.proofs.Change.{subtrees-closed}
@@ -36,7 +36,7 @@ Made A cand m T others τ = ((σ : Transition) × (σ ∈ A .transitions) × Exp
 module _ {A : Automaton} {t : Tree} {ts : List Tree} {n m : ℕ} {l r c q : List ℕ}
     (S : Setting A t ts n m l r c q) {T : List Transition} (N : NodeList n m l r c T) where
   pub made-step : (τ : Transition) →
-      Made A (candidate (inUse A t ts n m q) q n) m T (UpTo (LostAt n l r c q) m) τ →
+      Made A (candidate (inUse A t ts n m q) q n) m T (SomeBelow (LostAt n l r c q) m) τ →
       PairStep A t (pairOf t ts n q) (inUse A t ts n m q) τ
   made-step τ (inl (σ, i, (ps, w, e))) =
       subst (λ (υ : Transition). PairStep A t (pairOf t ts n q) (inUse A t ts n m q) υ) (sym e)
@@ -45,7 +45,7 @@ module _ {A : Automaton} {t : Tree} {ts : List Tree} {n m : ℕ} {l r c q : List
 
   -- whatever numbers in use make is there
   made-all : (L : List Transition) → ((τ : Transition) →
-      Made A (candidate (inUse A t ts n m q) q n) m T (UpTo (LostAt n l r c q) m) τ → Keyed L τ) →
+      Made A (candidate (inUse A t ts n m q) q n) m T (SomeBelow (LostAt n l r c q) m) τ → Keyed L τ) →
       (a : ℕ) (ps : List ℕ) → every (inUse A t ts n m q) ps ≡ true →
       live (outPair A (treeAutomaton t) (a, map (pairOf t ts n q) ps)) ≡ true →
       (τ : Transition) × (τ ∈ L) × (τ .label ≡ a) × (τ .args ≡ ps)
@@ -78,8 +78,8 @@ module _ {A : Automaton} {t : Tree} {ts : List Tree} {n m : ℕ} {l r c q : List
 
   pub made-view : (P : Automaton) → states P ≡ n + m → rising (P .transitions) ≡ true →
       ((τ : Transition) → τ ∈ P .transitions →
-      Made A (candidate (inUse A t ts n m q) q n) m T (UpTo (LostAt n l r c q) m) τ) →
-      ((τ : Transition) → Made A (candidate (inUse A t ts n m q) q n) m T (UpTo (LostAt n l r c q) m) τ →
+      Made A (candidate (inUse A t ts n m q) q n) m T (SomeBelow (LostAt n l r c q) m) τ) →
+      ((τ : Transition) → Made A (candidate (inUse A t ts n m q) q n) m T (SomeBelow (LostAt n l r c q) m) τ →
       Keyed (P .transitions) τ) → ProductView A t (pairOf t ts n q) (inUse A t ts n m q) P
   made-view P size rises only all = record {
     sound = λ p h. (used-some S p h, omega (arith, used-pair S p h .0), used-pair S p h .1);
@@ -108,7 +108,7 @@ module _ {A : Automaton} {t : Tree} {ts : List Tree} {n m : ℕ} {l r c q : List
 
   -- no list of such transitions, each once, is longer than the product
   pub made-many : (L : List Transition) → Distinct L → ((τ : Transition) → τ ∈ L →
-      Made A (candidate (inUse A t ts n m q) q n) m T (UpTo (LostAt n l r c q) m) τ) →
+      Made A (candidate (inUse A t ts n m q) q n) m T (SomeBelow (LostAt n l r c q) m) τ) →
       length L ≤ productTransitions A t
   made-many L distinct only =
       view-distinct A (S .fit) t (pairOf t ts n q) (inUse A t ts n m q) (λ p h. used-pair S p h .1)

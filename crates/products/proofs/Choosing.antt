@@ -17,7 +17,7 @@ use Rattle.lists.specs.Positions.{upFrom}
 use Rattle.lists.specs.Tests.{any, every}
 use Rattle.products.specs.Choices.{Chosen, ChosenFrom, ChosenWith, Entry, Escapes, Expands, Over, argsFrom}
 use Rattle.products.specs.Choices.{offered, offers, outOver, over}
-use Rattle.products.specs.Growth.{Added, Is, Live, Outcome, Overflow, UpTo}
+use Rattle.products.specs.Growth.{Added, Is, Live, Outcome, Overflow, SomeBelow}
 use Rattle.products.specs.declared.Produced.{Produced}
 use Rattle.products.specs.declared.Produced.the-variants.{Transitions}
 use Rattle.table.specs.Layout.{argOf, arityOf, labelOf, outOf, transitionAt}
@@ -196,20 +196,20 @@ module _ (cand : ℕ → ℕ → ℕ) (m : ℕ) where
     over-no k x p is z l = returned (added-none (λ τ (qs, (g, w), q). absurd (omega arith)) l)
 
     module _ (k : ℕ) (before : k < arityOf e 0) where
-      over-with : (τ : Transition) → UpTo (λ x. Over (ChosenWith cand m e k x) T e) (m + 1) τ →
+      over-with : (τ : Transition) → SomeBelow (λ x. Over (ChosenWith cand m e k x) T e) (m + 1) τ →
           Over (ChosenFrom cand m e k) T e τ
       over-with τ (x, l, (qs, c, q)) = (qs, with-chosen e k before x (omega arith) qs c, q)
 
       with-over : (τ : Transition) → Over (ChosenFrom cand m e k) T e τ →
-          UpTo (λ x. Over (ChosenWith cand m e k x) T e) (m + 1) τ
+          SomeBelow (λ x. Over (ChosenWith cand m e k x) T e) (m + 1) τ
       with-over τ (qs, c, q) = let (x, l, w) = chosen-with e k before qs c in (x, omega arith, (qs, w, q))
 
       pub over-all : {s t : List ℕ} {n r : ℕ} →
-          Added (UpTo (λ x. Over (ChosenWith cand m e k x) T e) (m + 1)) s t n r →
+          Added (SomeBelow (λ x. Over (ChosenWith cand m e k x) T e) (m + 1)) s t n r →
           Added (Over (ChosenFrom cand m e k) T e) s t n r
       over-all = added-same over-with with-over
 
-      pub over-many : {s : List ℕ} {n : ℕ} → Overflow (UpTo (λ x. Over (ChosenWith cand m e k x) T e) (m + 1)) s n →
+      pub over-many : {s : List ℕ} {n : ℕ} → Overflow (SomeBelow (λ x. Over (ChosenWith cand m e k x) T e) (m + 1)) s n →
           Overflow (Over (ChosenFrom cand m e k) T e) s n
       over-many = overflow-more over-with
 

@@ -11,15 +11,16 @@ use borrow.Author.Count.{below-more}
 use Rattle.automata.specs.Automaton.{Transition}
 use Rattle.fields.specs.Fields.{firstArgs}
 use Rattle.format.specs.Format.{maxArity, outAt, transitionBytes}
-use Rattle.lists.specs.Positions.{upFrom}
+use Rattle.lists.specs.Positions.{byteFrom, upFrom}
 use Rattle.products.specs.Choices.{Entry, argsFrom}
 use Rattle.products.specs.Pairs.{nodeArg, nodeTransition}
 use Rattle.sorted.specs.Sorted.{SameBytes}
 use Rattle.subtrees.specs.Store.{childAt}
 use Rattle.table.specs.Layout.{argOf, arityOf, labelOf, outOf, transitionAt}
 use Rattle.fields.proofs.Transitions.{args-length}
-use Rattle.lists.proofs.Loops.{tabulated-suc}
+use Rattle.lists.proofs.Intervals.{tabulated-suc}
 use Rattle.sorted.proofs.Placed.{same-transition}
+use Rattle.lists.proofs.Filling.{FilledTo}
 
 pub map-upFrom : (f g : ℕ → ℕ) (k n : ℕ) → ((i : ℕ) → k ≤ i → i < k + n → f i ≡ g i) →
     map f (upFrom k n) ≡ map g (upFrom k n)
@@ -72,25 +73,8 @@ module _ (e : List ℕ) (k p : ℕ) (place : k < maxArity) where
 
 -- ---- an entry filled byte by byte
 
--- the first k bytes are those of a transition
-pub record CopiedTo (s : List ℕ) (at : ℕ) (e : List ℕ) (k : ℕ) : Type 0 where
-  pub size : length e ≡ transitionBytes
-  pub within : k ≤ transitionBytes
-  pub same : (j : ℕ) → j < k → getD e j 0 ≡ getD s (at + j) 0
-
-pub copied-start : (s : List ℕ) (at : ℕ) → CopiedTo s at (replicate transitionBytes 0) 0
-copied-start s at = record { size = refl; within = omega arith; same = λ j h. absurd (omega arith) }
-
-module _ {s : List ℕ} {at : ℕ} {e : List ℕ} {k : ℕ} (inv : CopiedTo s at e k) where
-  pub copied-next : k < transitionBytes → CopiedTo s at (set e k (getD s (at + k) 0)) (k + 1)
-  copied-next h = record {
-    size = length-set e k (getD s (at + k) 0) ∙ inv .size;
-    within = omega arith;
-    same = below-more (λ j. getD (set e k (getD s (at + k) 0)) j 0 ≡ getD s (at + j) 0) k
-        (λ j l. getD-set-other e k j (getD s (at + k) 0) 0 (λ d. omega arith) ∙ inv .same j l)
-        (getD-set-same e k (getD s (at + k) 0) 0 (omega (arith, inv .size)));
-  }
-
+-- bytes copied from a transition are that transition
+module _ (s : List ℕ) (at : ℕ) {e : List ℕ} {k : ℕ} (inv : FilledTo transitionBytes (byteFrom s at) e k) where
   pub copied-end : transitionBytes ≤ k → arityOf s at ≤ maxArity → transitionAt e 0 ≡ transitionAt s at
   copied-end h narrow =
       let same : SameBytes e 0 s at =

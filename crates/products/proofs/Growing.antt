@@ -13,20 +13,19 @@ use Rattle.automata.specs.Automaton.{Transition, lookup}
 use Rattle.automata.specs.Order.{key, precedes}
 use Rattle.automata.specs.Renumber.{insertOrdered}
 use Rattle.format.specs.Format.{maxProduct}
-use Rattle.lists.specs.Tests.{_∈_}
+use Rattle.lists.specs.Tests.{_∈_, bit}
 use Rattle.products.specs.Choices.{Entry, over}
-use Rattle.products.specs.Growth.{Added, Is, Keyed, Live, Outcome, Overflow, UpTo}
+use Rattle.products.specs.Growth.{Added, Is, Keyed, Live, Outcome, Overflow, SomeBelow}
 use Rattle.products.specs.declared.Produced.{Produced}
 use Rattle.products.specs.declared.Produced.the-variants.{TooMany, Transitions}
 use Rattle.sorted.specs.Sorted.{Inserted}
-use Rattle.table.specs.Layout.{bit, transitionAt, transitionsIn}
+use Rattle.table.specs.Layout.{transitionAt, transitionsIn}
 use Rattle.automata.proofs.Order.{lex-cases}
 use Rattle.automata.proofs.ProductLaws.{rising-distinct}
 use Rattle.automata.proofs.Steps.{Has, lookup-in, lookup-view}
-use Rattle.fields.proofs.Transitions.{length-transitionsIn}
 use Rattle.sorted.proofs.Inserted.{in-inserted-old, inserted-in}
 use Rattle.sorted.proofs.Searched.{key-args, key-label}
-use Rattle.table.specs.Layout.{bit}
+use Rattle.table.proofs.Decoded.{transitionsIn-length}
 
 -- ---- sets
 
@@ -113,35 +112,35 @@ module _ {W : Transition → Type 0} {s t : List ℕ} {n : ℕ} where
 -- ---- a loop of sets
 
 module _ (W : ℕ → Transition → Type 0) where
-  upTo-next : (i : ℕ) (τ : Transition) → UpTo W i τ ⊎ W i τ → UpTo W (i + 1) τ
+  upTo-next : (i : ℕ) (τ : Transition) → SomeBelow W i τ ⊎ W i τ → SomeBelow W (i + 1) τ
   upTo-next i τ (inl (j, h, w)) = (j, omega arith, w)
   upTo-next i τ (inr w) = (i, omega arith, w)
 
-  upTo-last : (i : ℕ) (τ : Transition) → UpTo W (i + 1) τ → UpTo W i τ ⊎ W i τ
+  upTo-last : (i : ℕ) (τ : Transition) → SomeBelow W (i + 1) τ → SomeBelow W i τ ⊎ W i τ
   upTo-last i τ (j, h, w) = go (eqb j i) refl
     where
-      go : (b : Bool) → eqb j i ≡ b → UpTo W i τ ⊎ W i τ
+      go : (b : Bool) → eqb j i ≡ b → SomeBelow W i τ ⊎ W i τ
       go true e = inr (subst (λ (k : ℕ). W k τ) (eqb-true j i e) w)
       go false e = let ne = eqb-false j i e in inl (j, omega arith, w)
 
-  pub added-begin : {s : List ℕ} {n : ℕ} → Live s n → Added (UpTo W 0) s s n n
+  pub added-begin : {s : List ℕ} {n : ℕ} → Live s n → Added (SomeBelow W 0) s s n n
   added-begin l = added-none (λ τ (i, h, w). absurd (omega arith)) l
 
-  pub added-next : (i : ℕ) {s t u : List ℕ} {n k r : ℕ} → Added (UpTo W i) s t n k → Added (W i) t u k r →
-      Added (UpTo W (i + 1)) s u n r
+  pub added-next : (i : ℕ) {s t u : List ℕ} {n k r : ℕ} → Added (SomeBelow W i) s t n k → Added (W i) t u k r →
+      Added (SomeBelow W (i + 1)) s u n r
   added-next i a b = added-same (upTo-next i) (upTo-last i) (added-then a (W i) b)
 
-  pub overflow-next : (i m : ℕ) → i < m → {s t : List ℕ} {n k : ℕ} → Added (UpTo W i) s t n k → Overflow (W i) t k →
-      Overflow (UpTo W m) s n
+  pub overflow-next : (i m : ℕ) → i < m → {s t : List ℕ} {n k : ℕ} → Added (SomeBelow W i) s t n k → Overflow (W i) t k →
+      Overflow (SomeBelow W m) s n
   overflow-next i m h a o = overflow-more (λ τ w. up τ (upTo-next i τ w)) (overflow-then a (W i) o)
     where
-      up : (τ : Transition) → UpTo W (i + 1) τ → UpTo W m τ
+      up : (τ : Transition) → SomeBelow W (i + 1) τ → SomeBelow W m τ
       up τ (j, l, w) = (j, omega arith, w)
 
-  pub added-end : (i m : ℕ) → i ≤ m → m ≤ i → {s t : List ℕ} {n k : ℕ} → Added (UpTo W i) s t n k →
-      Added (UpTo W m) s t n k
+  pub added-end : (i m : ℕ) → i ≤ m → m ≤ i → {s t : List ℕ} {n k : ℕ} → Added (SomeBelow W i) s t n k →
+      Added (SomeBelow W m) s t n k
   added-end i m h l {s} {t} {n} {k} a =
-      let e : i ≡ m = omega arith in subst (λ (j : ℕ). Added (UpTo W j) s t n k) e a
+      let e : i ≡ m = omega arith in subst (λ (j : ℕ). Added (SomeBelow W j) s t n k) e a
 
 -- ---- one entry
 
@@ -218,7 +217,7 @@ module _ {s : List ℕ} {n : ℕ} (l : Live s n) (e : List ℕ) where
   put-over full z = record {
     list = transitionAt e 0 ∷ transitionsIn s n;
     distinct = (missing, rising-distinct (transitionsIn s n) (l .sorted .rises));
-    many = omega (arith, length-transitionsIn s n);
+    many = omega (arith, transitionsIn-length s n);
     each = each;
   }
     where

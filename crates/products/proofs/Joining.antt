@@ -18,9 +18,10 @@ use Rattle.lists.specs.Closure.{elem}
 use Rattle.lists.specs.Tests.{_∈_}
 use Rattle.marking.specs.Marks.{marked}
 use Rattle.products.specs.Choices.{Expands, Reaches, candidate, nthExpands}
-use Rattle.products.specs.Growth.{Added, Keyed, Outcome, Overflow, UpTo}
+use Rattle.products.specs.Growth.{Added, Keyed, Outcome, Overflow, SomeBelow}
 use Rattle.products.specs.Pairs.{LostAt, NodeAt, Nodes}
-use Rattle.products.specs.Reached.{Each, Reached, nthReaches}
+use Rattle.marking.specs.Spread.{UpTo}
+use Rattle.products.specs.Reached.{Reached, nthReaches}
 use Rattle.products.specs.Result.{Answers, Holding, Holds, numberUsed, pairNumbered}
 use Rattle.products.specs.declared.Produced.{Produced}
 use Rattle.products.specs.declared.Produced.the-variants.{TooMany, Transitions}
@@ -31,8 +32,7 @@ use Rattle.trees.specs.Legal.{AllLegal, Legal}
 use Rattle.trees.specs.Tree.{Forest, Tree, cons, eqTree, nil, node}
 use Rattle.automata.proofs.ProductView.{PairStep, ProductView}
 use Rattle.automata.proofs.ProductViewCount.{view-count}
-use Rattle.fields.proofs.Transitions.{arg-at, args-length, in-args, in-transitionsIn, length-transitionsIn}
-use Rattle.fields.proofs.Transitions.{transitionsIn-nth}
+use Rattle.fields.proofs.Transitions.{arg-at, args-length, in-args}
 use Rattle.lists.proofs.Intervals.{getD-in}
 use Rattle.lists.proofs.Tests.{in-every}
 use Rattle.products.proofs.Answering.{Made, made-many, made-step, made-view}
@@ -42,6 +42,7 @@ use Rattle.products.proofs.NodeLookup.{NodeList}
 use Rattle.products.proofs.Pairing.{Setting, used-among, used-pair, used-some}
 use Rattle.products.proofs.Viewing.{reach-used, used-closed}
 use Rattle.subtrees.proofs.Numbers.{among-index}
+use Rattle.table.proofs.Decoded.{in-transitionsIn, transitionsIn-in, transitionsIn-length}
 
 -- ---- labels of subtrees
 
@@ -67,12 +68,12 @@ mutual
 
 -- the transitions of the subtrees that run to no state
 abbrev pub Lost : ℕ → Subtrees → Transition → Type 0
-Lost n s = UpTo (LostAt n (s .labels) (s .arities) (s .children) (s .states)) (s .count)
+Lost n s = SomeBelow (LostAt n (s .labels) (s .arities) (s .children) (s .states)) (s .count)
 
 -- the transitions that the code writes: those of a run over choices by marks, and those
 abbrev pub Wanted : List ℕ → ℕ → ℕ → Subtrees → List Transition → List ℕ → Transition → Type 0
 Wanted run count n s T k τ =
-    UpTo (nthExpands run (candidate (marked k) (s .states) n) (s .count) T) count τ ⊎ Lost n s τ
+    SomeBelow (nthExpands run (candidate (marked k) (s .states) n) (s .count) T) count τ ⊎ Lost n s τ
 
 -- what code needs of the arrays
 pub lists-nodes : {A : Automaton} {t : Tree} {ts : List Tree} {s : Subtrees} → Lists A t ts s →
@@ -86,12 +87,12 @@ lists-nodes h = record {
 module _ {A : Automaton} {t : Tree} {run : List ℕ} {count n : ℕ} {s : Subtrees} (H : Holds A t run count n s)
     (over : RunsOver run count n) where
   holds-in : (τ : Transition) → τ ∈ A .transitions → (i : ℕ) × (i < count) × (τ ≡ nthTransition run i)
-  holds-in τ i = in-transitionsIn run count τ (subst (λ (T : List Transition). τ ∈ T) (H .transitions) i)
+  holds-in τ i = transitionsIn-in run count τ (subst (λ (T : List Transition). τ ∈ T) (H .transitions) i)
 
   in-holds : (i : ℕ) → i < count → nthTransition run i ∈ A .transitions
   in-holds i h =
       subst (λ (T : List Transition). nthTransition run i ∈ T) (sym (H .transitions))
-      (transitionsIn-nth run count i h)
+      (in-transitionsIn run count i h)
 
   setting : Setting A t (bottomUp t) n (s .count) (s .labels) (s .arities) (s .children) (s .states)
   setting = record {
@@ -121,9 +122,9 @@ module _ {A : Automaton} {t : Tree} {run : List ℕ} {count n : ℕ} {s : Subtre
   -- ---- marks and choices
 
   module _ {nodes nodes' : List ℕ} {found : ℕ}
-      (listed : Added (UpTo (NodeAt n (s .labels) (s .arities) (s .children)) (s .count)) nodes nodes' 0 found)
+      (listed : Added (SomeBelow (NodeAt n (s .labels) (s .arities) (s .children)) (s .count)) nodes nodes' 0 found)
       {none marks : List ℕ} (unmarked : (i : ℕ) → marked none i ≡ false)
-      (reached : Reached (Each (nthReaches run (s .states) n (s .count) (transitionsIn nodes' found)) count) none
+      (reached : Reached (UpTo (nthReaches run (s .states) n (s .count) (transitionsIn nodes' found)) count) none
       marks) where
     node-list : NodeList n (s .count) (s .labels) (s .arities) (s .children) (transitionsIn nodes' found)
     node-list = record { only = added-only listed; all = listed .all }
@@ -224,18 +225,18 @@ module _ {A : Automaton} {t : Tree} {run : List ℕ} {count n : ℕ} {s : Subtre
         runs-over : RunsOver scratch' r (n + s .count)
         runs-over = record {
           runs = grown .live .sorted .runs;
-          label = λ i h. label-some _ (added-only grown _ (transitionsIn-nth scratch' r i h));
+          label = λ i h. label-some _ (added-only grown _ (in-transitionsIn scratch' r i h));
           arg-some = λ i k h b. arg i k h b .0;
           arg-state = λ i k h b. arg i k h b .1;
-          out-some = λ i h. used-some setting _ (step-of _ (transitionsIn-nth scratch' r i h) .1);
-          out-state = λ i h. used-pair setting _ (step-of _ (transitionsIn-nth scratch' r i h) .1) .0;
+          out-some = λ i h. used-some setting _ (step-of _ (in-transitionsIn scratch' r i h) .1);
+          out-state = λ i h. used-pair setting _ (step-of _ (in-transitionsIn scratch' r i h) .1) .0;
         }
           where
             arg : (i k : ℕ) → i < r → k < arityOf scratch' (transitionBytes * i) →
                 (1 ≤ argOf scratch' (transitionBytes * i) k) × (argOf scratch' (transitionBytes * i) k ≤ n + s .count)
             arg i k h b =
                 let w = used-among setting (nthTransition scratch' i .args)
-                (step-of _ (transitionsIn-nth scratch' r i h) .0) in
+                (step-of _ (in-transitionsIn scratch' r i h) .0) in
                 let x = among-index (n + s .count) (nthTransition scratch' i .args) w k
                 (omega (arith, args-length scratch' (transitionBytes * i))) in
                 omega (arith, x, arg-at scratch' (transitionBytes * i) k b)
@@ -247,7 +248,7 @@ module _ {A : Automaton} {t : Tree} {run : List ℕ} {count n : ℕ} {s : Subtre
             some = record { classes = replicate (n + s .count) false; transitions = transitionsIn scratch' r }
 
             exact : r ≡ productTransitions A t
-            exact = sym (length-transitionsIn scratch' r) ∙
+            exact = sym (transitionsIn-length scratch' r) ∙
                 view-count A (setting .fit) t (pairNumbered t n s) (numberUsed A t n s) some
                 (view some (length-replicate {A = Bool} (n + s .count) false) refl)
 

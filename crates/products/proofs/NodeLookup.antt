@@ -14,7 +14,7 @@ use Rattle.automata.specs.Change.{subtreeNumber, subtrees}
 use Rattle.automata.specs.Product.{fst, outPair, snd}
 use Rattle.lists.specs.Positions.{Pair, upFrom}
 use Rattle.lists.specs.Tests.{_∈_, any}
-use Rattle.products.specs.Growth.{Keyed, UpTo}
+use Rattle.products.specs.Growth.{Keyed, SomeBelow}
 use Rattle.products.specs.Pairs.{NodeAt, nodeTransition, pairOf}
 use Rattle.subtrees.specs.Store.{childAt, childNumbers, noTree, treesNumbered}
 use Rattle.trees.specs.Tree.{Tree, node}
@@ -36,8 +36,8 @@ map-plus n f (x ∷ xs) = ap (λ ys. (n + f x) ∷ ys) (map-plus n f xs)
 
 -- the list has the transitions of the subtrees, and no others
 pub record NodeList (n m : ℕ) (l r c : List ℕ) (T : List Transition) : Type 0 where
-  pub only : (τ : Transition) → τ ∈ T → UpTo (NodeAt n l r c) m τ
-  pub all : (τ : Transition) → UpTo (NodeAt n l r c) m τ → Keyed T τ
+  pub only : (τ : Transition) → τ ∈ T → SomeBelow (NodeAt n l r c) m τ
+  pub all : (τ : Transition) → SomeBelow (NodeAt n l r c) m τ → Keyed T τ
 
 -- numbers make the subtree at an index, and the list gives its number
 abbrev pub Makes : ℕ → ℕ → List ℕ → List ℕ → List ℕ → List Transition → ℕ → List ℕ → Type 0

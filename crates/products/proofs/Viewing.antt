@@ -14,7 +14,7 @@ use Rattle.automata.specs.Product.{fst, outPair, snd}
 use Rattle.lists.specs.Positions.{Pair, upFrom}
 use Rattle.lists.specs.Tests.{_∈_, any, every}
 use Rattle.products.specs.Choices.{Candidate, Chosen, Reaches, candidate, outOver, over}
-use Rattle.products.specs.Growth.{UpTo}
+use Rattle.products.specs.Growth.{SomeBelow}
 use Rattle.products.specs.Pairs.{LostAt, inUse, pairOf}
 use Rattle.subtrees.specs.Store.{childAt, childNumbers, noTree, treeNumbered}
 use Rattle.trees.specs.Tree.{Forest, Tree, cons, nil, node}
@@ -187,7 +187,7 @@ module _ {A : Automaton} {t : Tree} {ts : List Tree} {n m : ℕ} {l r c q : List
     nodes-used [] h = refl
     nodes-used (x ∷ ns) ((a, b), h) = and-both (subtree-used S x a b) (nodes-used ns h)
 
-    pub lost-step : (τ : Transition) → UpTo (LostAt n l r c q) m τ →
+    pub lost-step : (τ : Transition) → SomeBelow (LostAt n l r c q) m τ →
         PairStep A t (pairOf t ts n q) (inUse A t ts n m q) τ
     lost-step τ (j, h, (z, e)) =
         let y : n + (j + 1) ≡ n + j + 1 = omega arith in

@@ -50,5 +50,5 @@ abbrev pub Is : Transition → Transition → Type 0
 Is σ τ = τ ≡ σ
 
 -- τ is of one of the sets 0 to n - 1
-abbrev pub UpTo : (ℕ → Transition → Type 0) → ℕ → Transition → Type 0
-UpTo W n τ = (i : ℕ) × (i < n) × W i τ
+abbrev pub SomeBelow : (ℕ → Transition → Type 0) → ℕ → Transition → Type 0
+SomeBelow W n τ = (i : ℕ) × (i < n) × W i τ

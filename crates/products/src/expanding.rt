@@ -9,7 +9,7 @@ ghost use Rattle.marking.specs.Marks.{marked};
 ghost use Rattle.sorted.specs.Sorted.{Sorted};
 ghost use Rattle.table.specs.Layout.{arityOf, transitionAt, transitionsIn};
 ghost use Rattle.products.specs.Choices.{ChosenFrom, ChosenWith, Entry, Over, candidate, nthExpands, over};
-ghost use Rattle.products.specs.Growth.{Is, Live, Outcome, UpTo};
+ghost use Rattle.products.specs.Growth.{Is, Live, Outcome, SomeBelow};
 ghost use Rattle.products.specs.Pairs.{LostAt, Nodes};
 use crate::Produced;
 use crate::choices::candidate;
@@ -184,7 +184,7 @@ pub fn expand_all(
     requires { ⌜ Sorted (now nodes) found ⌝ }
     requires { ⌜ length (now scratch) ≡ scratchBytes ⌝ }
     ensures { λ r. ⌜ Outcome
-        (UpTo (nthExpands (now (run .entry)) (candidate (marked (now (marks .entry))) (now (states .entry)) n) m
+        (SomeBelow (nthExpands (now (run .entry)) (candidate (marked (now (marks .entry))) (now (states .entry)) n) m
         (transitionsIn (now (nodes .entry)) found)) count) (now (scratch .entry)) (now (scratch .exit)) 0 r ⌝ }
 {
     let mut made = 0;
@@ -255,7 +255,7 @@ pub fn expand_lost(
     requires { ⌜ Live (now scratch) count ⌝ }
     requires { ⌜ length (now scratch) ≡ scratchBytes ⌝ }
     ensures { λ r. ⌜ Outcome
-        (UpTo (LostAt n (now (labels .entry)) (now (arities .entry)) (now (children .entry)) (now (states .entry))) m)
+        (SomeBelow (LostAt n (now (labels .entry)) (now (arities .entry)) (now (children .entry)) (now (states .entry))) m)
         (now (scratch .entry)) (now (scratch .exit)) count r ⌝ }
 {
     let mut made = count;

@@ -5,7 +5,7 @@ ghost use lib.ListN.{length};
 ghost use Rattle.format.specs.Format.{maxNodes, maxProduct, maxStates, transitionBytes};
 ghost use Rattle.table.specs.Layout.{transitionAt};
 ghost use Rattle.products.specs.Choices.{Entry};
-ghost use Rattle.products.specs.Growth.{Added, Is, Live, UpTo};
+ghost use Rattle.products.specs.Growth.{Added, Is, Live, SomeBelow};
 ghost use Rattle.products.specs.Pairs.{NodeAt, Nodes, nodeTransition};
 use format::ARGS_AT;
 use format::ARITY_AT;
@@ -78,7 +78,7 @@ pub fn list_nodes(
     requires { ⌜ n ≤ maxStates ⌝ }
     requires { ⌜ Nodes m (now arities) (now children) ⌝ }
     requires { ⌜ length (now run) ≡ transitionBytes * maxNodes ⌝ }
-    ensures { λ r. ⌜ Added (UpTo (NodeAt n (now (labels .entry)) (now (arities .entry)) (now (children .entry))) m)
+    ensures { λ r. ⌜ Added (SomeBelow (NodeAt n (now (labels .entry)) (now (arities .entry)) (now (children .entry))) m)
         (now (run .entry)) (now (run .exit)) 0 r ⌝ }
 {
     let mut count = 0;

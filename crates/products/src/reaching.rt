@@ -7,7 +7,8 @@ ghost use Rattle.fields.specs.Fields.{Readable, Runs};
 ghost use Rattle.format.specs.Format.{byteValues, maxNodes, maxStates, transitionBytes};
 ghost use Rattle.sorted.specs.Sorted.{Sorted};
 ghost use Rattle.table.specs.Layout.{transitionAt, transitionsIn};
-ghost use Rattle.products.specs.Reached.{Each, Reached, Spread, nthReaches};
+ghost use Rattle.marking.specs.Spread.{Spread, UpTo};
+ghost use Rattle.products.specs.Reached.{Reached, nthReaches};
 use crate::choices::escapes;
 use crate::choices::ready;
 use format::BYTE_VALUES;
@@ -82,7 +83,7 @@ fn mark_all(
     requires { ⌜ Sorted (now nodes) found ⌝ }
     requires { ⌜ length (now marks) ≡ byteValues ⌝ }
     ensures { λ r. ⌜ Spread
-        (Each (nthReaches (now (run .entry)) (now (states .entry)) n m (transitionsIn (now (nodes .entry)) found))
+        (UpTo (nthReaches (now (run .entry)) (now (states .entry)) n m (transitionsIn (now (nodes .entry)) found))
         count)
         (now (marks .entry)) (now (marks .exit)) r ⌝ }
 {
@@ -113,7 +114,7 @@ pub fn reach(
     requires { ⌜ Sorted (now nodes) found ⌝ }
     requires { ⌜ length (now marks) ≡ byteValues ⌝ }
     ensures { λ _. ⌜ Reached
-        (Each (nthReaches (now (run .entry)) (now (states .entry)) n m (transitionsIn (now (nodes .entry)) found))
+        (UpTo (nthReaches (now (run .entry)) (now (states .entry)) n m (transitionsIn (now (nodes .entry)) found))
         count)
         (now (marks .entry)) (now (marks .exit)) ⌝ }
 {

@@ -3,23 +3,17 @@ use mathlib.Core.List.{List, _++_, _∷_, append-assoc, append-nil}
 use mathlib.Core.Path.{_∙_, _≡_, ap, refl, subst, sym}
 use Prim.Native.Nat.{_+_, _-_, _<_, _≤_, suc, ℕ}
 use native.Mathlib.Omega.{arith}
-use lib.ListN.{drop, getD, length, length-append, length-drop}
-use lib.Seq.{drop-at, take-all}
+use lib.ListN.{drop, getD, length, length-append}
+use lib.Seq.{drop-at}
 use Rattle.format.specs.Format.{labelBytes, maxArity, maxNodes, nodeBytes}
 use Rattle.running.specs.Running.{Ahead}
 use Rattle.trees.specs.Legal.{AllLegal, Legal, LegalNode}
 use Rattle.trees.specs.Listing.{firstTree, firstTrees, listing, listings, readTree, readTrees}
-use Rattle.trees.specs.Tree.{Forest, Tree, _⧺_, cons, count, nil, node}
-use Rattle.listing.proofs.Reader.{part, part-length}
+use Rattle.trees.specs.Tree.{Forest, Tree, cons, count, nil, node}
+use Rattle.lists.proofs.Parts.{part, part-drop, part-length}
+use Rattle.trees.proofs.Forests.{first-whole}
 use Rattle.trees.proofs.Listing.{read-trees}
-
--- what the part &s[a..] holds
-pub part-drop : (s : List ℕ) (a : ℕ) → part s a ≡ drop a s
-part-drop s a = take-all (length s - a) (drop a s) (simp length-drop (omega arith))
-
-first-whole : (f g : Forest) → firstTrees (count f) (f ⧺ g) ≡ f
-first-whole nil g = refl
-first-whole (cons t f) g = ap (cons t) (first-whole f g)
+use Rattle.trees.proofs.ListingRefusal.{listing-least}
 
 -- the trees ahead are those that are read
 pub ahead-first : {s : List ℕ} {k depth : ℕ} (v : Ahead s k depth) → firstTrees k (readTrees s) ≡ v .trees
@@ -30,9 +24,6 @@ pub ahead-within : {s : List ℕ} {k depth : ℕ} → Ahead s k depth →
     length (listings (firstTrees k (readTrees s))) ≤ length s
 ahead-within v =
     rw (ahead-first v) (omega (arith, simp length-append at (ap length (v .bytes))))
-
-tree-some : (t : Tree) → nodeBytes ≤ length (listing t)
-tree-some (node a f) = omega arith
 
 -- the first tree, and i others
 pub record Split (s : List ℕ) (i : ℕ) : Type 0 where
@@ -89,7 +80,7 @@ module _ {s : List ℕ} {j depth : ℕ} (v : Ahead s j depth) (i : ℕ) (e : j �
         omega (arith, d, simp length-append at (ap length (parts .bytes)))
 
     pub first-some : nodeBytes ≤ m
-    first-some = omega (arith, d, tree-some (readTree s))
+    first-some = omega (arith, d, listing-least (readTree s))
 
     pub others-ahead : Ahead (part s m) i depth
     others-ahead = record {

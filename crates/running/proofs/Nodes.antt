@@ -21,7 +21,7 @@ use Rattle.running.specs.declared.Ran.the-variants.{Nothing, State}
 use Rattle.running.specs.declared.Ran.{Ran}
 use Rattle.table.specs.Layout.{transitionsIn}
 use Rattle.trees.specs.Listing.{firstTrees, listing, listings, readTree, readTrees}
-use Rattle.listing.proofs.Reader.{part, part-length}
+use Rattle.lists.proofs.Parts.{part, part-length}
 use Rattle.lists.proofs.Tests.{or-right}
 use Rattle.running.proofs.Ahead.{ahead-within, children-ahead, first-others, first-within, others-ahead}
 use Rattle.running.proofs.Ahead.{root-reads, root-size}

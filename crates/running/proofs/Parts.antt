@@ -8,8 +8,8 @@ use lib.ListN.{drop, length, length-drop}
 use Rattle.format.specs.Format.{AllBytes, maxListing, nodeBytes}
 use Rattle.running.specs.Running.{Ahead}
 use Rattle.trees.specs.Listing.{listing, listingRefusal, listings, listsTrees, nodesIn, oneTree, readTrees}
-use Rattle.listing.proofs.Reader.{part}
-use Rattle.running.proofs.Ahead.{first-ahead, part-drop}
+use Rattle.lists.proofs.Parts.{part, part-drop}
+use Rattle.running.proofs.Ahead.{first-ahead}
 use Rattle.trees.proofs.Listing.{LegalNodes, listing-one, listings-read, read-legal, tree-nodes}
 use Rattle.trees.proofs.ListingRefusal.{listing-iff}
 

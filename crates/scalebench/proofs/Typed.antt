@@ -3,12 +3,12 @@ use mathlib.Core.Bool.{Bool, cond, false, true, true≢false}
 use mathlib.Core.List.{List}
 use mathlib.Core.Logic.{_≢_}
 use mathlib.Core.Path.{_∙_, _≡_, ap, refl, subst, sym}
-use Prim.Native.Nat.{_+_, _-_, _<_, _≤_, ℕ}
+use Prim.Native.Nat.{_-_, _≤_, ℕ}
 use native.Mathlib.Omega.{arith}
 use lib.Dec.{eqb, leb}
-use lib.ListN.{getD, length, length-append, length-replicate, length-set, replicate, set}
-use lib.Seq.{ext-getD, getD-set-other, getD-set-same}
-use borrow.Author.Tests.{eq-eqb, eqb-false, eqb-true, leb-false, leb-true, ne-eqb}
+use lib.ListN.{getD, length, length-append, length-replicate, replicate}
+use lib.Seq.{ext-getD}
+use borrow.Author.Tests.{eq-eqb, leb-false, leb-true, ne-eqb}
 use Rattle.format.specs.Format.{listingBytes, maxLine}
 use Rattle.scalebench.specs.Typed.{Small, packedLine, packedParsed}
 use Rattle.text.specs.Grammar.{Command, toAdd, toAsk, toDrop}
@@ -18,38 +18,14 @@ use Rattle.text.specs.declared.Parsed.{Parsed}
 use Rattle.text.proofs.Heads.{length-blank}
 use Rattle.text.proofs.Laws.{line-form, line-long}
 use Rattle.text.proofs.Lines.{formed-size}
+use Rattle.lists.proofs.Filling.{FilledTo}
 
 -- ---- copying
 
--- the first i bytes are copied
-pub record CopiedTo (from to : List ℕ) (i : ℕ) : Type 0 where
-  pub size : length to ≡ listingBytes
-  pub within : i ≤ listingBytes
-  pub bytes : (j : ℕ) → j < i → getD to j 0 ≡ getD from j 0
-
-pub copied-start : {from to : List ℕ} → length to ≡ listingBytes → CopiedTo from to 0
-copied-start h = record { size = h; within = omega arith; bytes = λ j l. absurd (omega arith) }
-
-pub copied-next : {from to : List ℕ} {i : ℕ} → CopiedTo from to i → i < listingBytes →
-    CopiedTo from (set to i (getD from i 0)) (i + 1)
-copied-next {from} {to} {i} x h = record {
-  size = length-set to i (getD from i 0) ∙ x .size;
-  within = omega arith;
-  bytes = λ j l. go j l (eqb j i) refl;
-}
-  where
-    go : (j : ℕ) → j < i + 1 → (b : Bool) → eqb j i ≡ b → getD (set to i (getD from i 0)) j 0 ≡ getD from j 0
-    go j l true e =
-        let d = eqb-true j i e in
-        ap (λ k. getD (set to i (getD from i 0)) k 0) d ∙
-        getD-set-same to i (getD from i 0) 0 (omega (arith, x .size)) ∙ ap (λ k. getD from k 0) (sym d)
-    go j l false e =
-        let d = eqb-false j i e in getD-set-other to i j (getD from i 0) 0 d ∙ x .bytes j (omega arith)
-
-pub copied-end : {from to : List ℕ} {i : ℕ} → CopiedTo from to i → listingBytes ≤ i → length from ≡ listingBytes →
-    to ≡ from
-copied-end {from} {to} x h e =
-    ext-getD 0 to from (x .size ∙ sym e) (λ j l. x .bytes j (omega (arith, x .size)))
+pub copied-end : (from : List ℕ) {to : List ℕ} {i : ℕ} → FilledTo listingBytes (λ j. getD from j 0) to i → listingBytes ≤ i →
+    length from ≡ listingBytes → to ≡ from
+copied-end from {to} x h e =
+    ext-getD 0 to from (x .size ∙ sym e) (λ j l. x .same j (omega (arith, x .size)))
 
 -- ---- numbers
 

@@ -4,4 +4,3 @@ pub mod Moved
 pub mod Placed
 pub mod Inserted
 pub mod Overwritten
-pub mod States

@@ -2,7 +2,7 @@
 use mathlib.Core.Bool.{Bool, _||_, false}
 use mathlib.Core.List.{List, [], _∷_, map}
 use mathlib.Core.Path.{_∙_, _≡_, ap, refl, subst, sym}
-use Prim.Native.Nat.{_*_, _+_, _<_, _≤_, suc, zero, ℕ}
+use Prim.Native.Nat.{_*_, _+_, _<_, _≤_, ℕ}
 use native.Mathlib.Nat.{zero-add}
 use native.Mathlib.Omega.{arith}
 use lib.Dec.{eqb}
@@ -15,8 +15,8 @@ use Rattle.lists.specs.Positions.{upFrom}
 use Rattle.lists.specs.Tests.{any, every}
 use Rattle.subtrees.specs.Steps.{ChildrenStored, Filled, sameChild, sameNode}
 use Rattle.subtrees.specs.Store.{childAt}
-use Rattle.lists.proofs.Intervals.{length-tabulated, tabulated}
-use Rattle.lists.proofs.Loops.{tabulated-at}
+use Rattle.lists.proofs.Intervals.{getD-tabulated, getD-zeros, length-tabulated, tabulated}
+use Rattle.lists.proofs.Filling.{set-next}
 
 -- ---- eight bytes, filled from the first
 
@@ -25,20 +25,13 @@ module _ {f : ℕ → ℕ} where
   filled-start = record {
     size = refl;
     filled = λ k h. absurd (omega arith);
-    beyond = λ k h. zeros maxArity k;
+    beyond = λ k h. getD-zeros maxArity k;
   }
-    where
-      zeros : (n k : ℕ) → _≡_ {A = ℕ} (getD (replicate n 0) k 0) 0
-      zeros zero k = refl
-      zeros (suc n) zero = refl
-      zeros (suc n) (suc k) = zeros n k
 
   pub filled-next : {k : ℕ} {r : List ℕ} → Filled f k r → k < maxArity → Filled f (k + 1) (set r k (f k))
   filled-next {k} {r} inv h = record {
     size = length-set r k (f k) ∙ inv .size;
-    filled = below-more (λ j. getD (set r k (f k)) j 0 ≡ f j) k
-        (λ j l. getD-set-other r k j (f k) 0 (λ e. omega arith) ∙ inv .filled j l)
-        (getD-set-same r k (f k) 0 (omega (arith, inv .size)));
+    filled = set-next f r k (f k) (omega (arith, inv .size)) refl (inv .filled);
     beyond = λ j l. getD-set-other r k j (f k) 0 (λ e. omega arith) ∙ inv .beyond j (omega arith);
   }
 
@@ -53,7 +46,7 @@ pub filled-take : {f : ℕ → ℕ} {n : ℕ} {r : List ℕ} → Filled f n r �
 filled-take {f} {n} {r} inv h =
     ext-getD 0 (take n r) (map f (upFrom 0 n)) (size ∙ sym (length-tabulated f 0 n))
     (λ k l. let b : k < n = omega (arith, size) in
-    getD-take n r k 0 b ∙ inv .filled k b ∙ sym (tabulated-at f 0 n k 0 b ∙ ap f (zero-add k)))
+    getD-take n r k 0 b ∙ inv .filled k b ∙ sym (getD-tabulated f 0 n k 0 b ∙ ap f (zero-add k)))
   where
     size : length (take n r) ≡ n
     size = length-take-le n r (omega (arith, inv .size))
@@ -97,14 +90,6 @@ pub record StoredTo (c : List ℕ) (j : ℕ) (ns c' : List ℕ) (k : ℕ) : Type
   pub size : length c' ≡ length c
   pub stored : (i : ℕ) → i < k → childAt c' j i ≡ getD ns i 0
   pub before : (i : ℕ) → i < maxArity * j → getD c' i 0 ≡ getD c i 0
-
-pub stored-start : (c : List ℕ) (j : ℕ) (ns : List ℕ) → StoredTo c j ns c 0
-stored-start c j ns = record {
-  within = omega arith;
-  size = refl;
-  stored = λ i h. absurd (omega arith);
-  before = λ i h. refl;
-}
 
 module _ {c : List ℕ} {j : ℕ} {ns c' : List ℕ} {k : ℕ} (inv : StoredTo c j ns c' k) where
   pub stored-next : maxArity * j + k < length c → k < maxArity →

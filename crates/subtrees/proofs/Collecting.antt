@@ -11,15 +11,17 @@ use Rattle.automata.specs.Automaton.{Automaton, Transition}
 use Rattle.automata.specs.Change.{subtrees}
 use Rattle.format.specs.Format.{maxArity, maxNodes}
 use Rattle.lists.specs.Closure.{elem}
-use Rattle.subtrees.specs.Steps.{Children, Entered, Filled, Numbered, Sized, addLast, byteFrom}
+use Rattle.subtrees.specs.Steps.{Children, Entered, Filled, Numbered, Sized, addLast}
 use Rattle.subtrees.specs.Store.{Lists, Stored, bottomUp, treeNumbered, treesNumbered}
 use Rattle.table.specs.Layout.{transitionsIn}
 use Rattle.trees.specs.Listing.{childrenAt, firstTrees, labelAt, laterTrees, nodesIn, readTree, readTrees}
-use Rattle.trees.specs.Tree.{Forest, Tree, cons, count, eqTree, nil, node}
+use Rattle.trees.specs.Tree.{Tree, cons, count, eqTree, nil, node}
 use Rattle.subtrees.proofs.Numbers.{Among, among-drop, among-index, among-more, numbered-append}
 use Rattle.subtrees.proofs.Numbers.{numbered-count, numbered-first, numbered-later}
 use Rattle.subtrees.proofs.Orders.{found-node, foundIn, in-reverse, reverse-in}
 use Rattle.subtrees.proofs.Suffixes.{Passed, children-there, nodes-end, nodesFrom, read-next, read-whole}
+use Rattle.trees.proofs.Trees.{cons-tree}
+use Rattle.lists.specs.Positions.{byteFrom}
 
 -- the label and the number of children of the node before node i
 abbrev pub labelBefore : List ℕ → ℕ → ℕ
@@ -245,7 +247,7 @@ module _ {s run : List ℕ} {many top found : ℕ} {stack l r c q : List ℕ} (o
     every-subtree = λ x m. in-reverse (subtrees (readTree s)) x m;
     root-some = root-among .0;
     root-known = root-among .1;
-    root = sym (first-tree _ _ _ _ trees);
+    root = sym (cons-tree _ _ _ _ trees);
   }
     where
       split : drop top stack ≡ getD stack top 0 ∷ drop (suc top) stack
@@ -258,6 +260,3 @@ module _ {s run : List ℕ} {many top found : ℕ} {stack l r c q : List ℕ} (o
       trees =
           sym (read-whole ok) ∙ inv .trees ∙
           ap₂ treesNumbered (ap foundIn (read-whole ok)) split
-
-      first-tree : (t u : Tree) (f g : Forest) → cons t f ≡ cons u g → t ≡ u
-      first-tree t u f g e = cc

@@ -19,15 +19,16 @@ use Rattle.lists.specs.Tests.{_∈_, every}
 use Rattle.subtrees.specs.Steps.{Children, ChildrenStored, Entered, Filled, First, Sized, addLast, childState}
 use Rattle.subtrees.specs.Steps.{sameChild, sameNode, stateFrom}
 use Rattle.subtrees.specs.Store.{Stored, childAt, childNumbers, noTree, treeNumbered, treesNumbered}
-use Rattle.trees.specs.Tree.{Forest, Tree, node}
+use Rattle.trees.specs.Tree.{Tree, node}
 use Rattle.lists.proofs.Distinct.{append-distinct}
-use Rattle.lists.proofs.Intervals.{getD-in, getD-map, getD-tabulated, in-getD, length-tabulated, tabulated}
-use Rattle.lists.proofs.Loops.{at-every, every-at}
+use Rattle.lists.proofs.Intervals.{at-every, every-at, getD-in, getD-map, getD-tabulated, in-getD, length-tabulated}
+use Rattle.lists.proofs.Intervals.{tabulated}
 use Rattle.lists.proofs.Tests.{and-both, and-left, and-right}
 use Rattle.subtrees.proofs.Arrays.{filled-take}
 use Rattle.subtrees.proofs.Numbers.{Among, index-among, numbered-append, numbered-inj, numbered-runs}
 use Rattle.subtrees.proofs.Numbers.{stateNumbered}
 use Rattle.subtrees.proofs.Orders.{last-new, last-old}
+use Rattle.trees.proofs.Trees.{node-children, node-label}
 
 -- numbers among the first n are among more
 pub children-more : {ns : List ℕ} {k n : ℕ} → Children ns k n → (i m : ℕ) → i ≡ k → n ≤ m → Children ns i m
@@ -82,12 +83,6 @@ module _ {ns : List ℕ} {k n : ℕ} (ch : Children ns k n) (eight : length ns �
           sym (getD-tabulated (childAt c j) 0 (getD r j 0) i 0 (omega (arith, size))) ∙
           ap (λ xs. getD xs i 0) e ∙ getD-take k ns i 0 h
 
-label-of : (a b : ℕ) (f g : Forest) → node a f ≡ node b g → a ≡ b
-label-of a b f g e = cc
-
-children-of : (a b : ℕ) (f g : Forest) → node a f ≡ node b g → f ≡ g
-children-of a b f g e = cc
-
 -- what holds of the list that a tree is put behind holds of the arrays
 entered : (A : Automaton) (ts us : List Tree) (t : Tree) (n i : ℕ) (l r c q : List ℕ) → addLast ts t ≡ us →
     Stored A us n l r c q → treeNumbered us i ≡ t → Entered A ts t n i l r c q
@@ -137,11 +132,11 @@ module _ {A : Automaton} {ts : List Tree} {n : ℕ} {l r c q : List ℕ} (st : S
         numbers =
             children-back ch eight r c j
             (numbered-inj ts (st .distinct) (childNumbers r c j) (take k ns) (stored-among j h) known-among
-            (children-of _ _ _ _ both))
+            (node-children _ _ _ _ both))
 
         same : sameNode l r c a k ns j ≡ true
         same =
-            and-both (eq-eqb (getD l j 0) a (label-of _ _ _ _ both))
+            and-both (eq-eqb (getD l j 0) a (node-label _ _ _ _ both))
             (and-both (eq-eqb (getD r j 0) k (numbers .0))
             (at-every (sameChild c j ns) 0 k (λ i b m. eq-eqb _ _ (numbers .1 i (omega arith)))))
 

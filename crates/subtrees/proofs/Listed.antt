@@ -13,8 +13,8 @@ use Rattle.automata.specs.Automaton.{Automaton, run}
 use Rattle.automata.specs.Change.{subtreeNumber, subtrees}
 use Rattle.lists.specs.Tests.{_∈_}
 use Rattle.subtrees.specs.declared.Subtrees.{Subtrees}
-use Rattle.subtrees.specs.Store.{Lists, bottomUp, childNumbers, noTree, treeNumbered, treesNumbered}
-use Rattle.trees.specs.Tree.{Tree, eqTree, node}
+use Rattle.subtrees.specs.Store.{Lists, bottomUp, noTree, treeNumbered}
+use Rattle.trees.specs.Tree.{Tree, eqTree}
 use Rattle.lists.proofs.Intervals.{getD-in, in-getD}
 use Rattle.lists.proofs.Positions.{position-at, position-pos}
 use Rattle.subtrees.proofs.Numbers.{distinct-index}
@@ -59,11 +59,7 @@ module _ {A : Automaton} {t : Tree} {ts : List Tree} {s : Subtrees} (h : Lists A
             (omega (arith, h .stored .size)) e,
       )
 
-  -- the subtree with a number: its node, and the state that it runs to
-  pub number-node : (n : ℕ) → 1 ≤ n → n ≤ s .count → treeNumbered ts n ≡
-      node (getD (s .labels) (n - 1) 0) (treesNumbered ts (childNumbers (s .arities) (s .children) (n - 1)))
-  number-node n a b = h .stored .tree (n - 1) (omega arith)
-
+  -- the state that the subtree with a number runs to
   pub number-state : (n : ℕ) → 1 ≤ n → n ≤ s .count → getD (s .states) (n - 1) 0 ≡ run A (treeNumbered ts n)
   number-state n a b = h .stored .state (n - 1) (omega arith)
 

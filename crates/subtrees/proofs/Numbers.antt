@@ -8,9 +8,10 @@ use lib.ListN.{List·getD-append, drop, getD, length, take}
 use Rattle.automata.specs.Automaton.{Automaton, run, runs}
 use Rattle.subtrees.specs.Store.{noTree, treeNumbered, treesNumbered}
 use Rattle.trees.specs.Listing.{firstTrees, laterTrees}
-use Rattle.trees.specs.Tree.{Forest, Tree, cons, count}
+use Rattle.trees.specs.Tree.{Tree, cons, count}
 use Rattle.lists.proofs.Distinct.{Distinct}
 use Rattle.lists.proofs.Intervals.{getD-in}
+use Rattle.trees.proofs.Trees.{cons-forest, cons-tree}
 
 -- each number is one of 1 to m
 abbrev pub Among : ℕ → List ℕ → Type 0
@@ -77,12 +78,6 @@ distinct-index (t ∷ ts) d zero zero h l e = refl
 distinct-index (t ∷ ts) d zero (suc j) h l e = absurd (d .0 (rw e (getD-in ts j noTree (omega arith))))
 distinct-index (t ∷ ts) d (suc i) zero h l e = absurd (d .0 (rw (← e) (getD-in ts i noTree (omega arith))))
 distinct-index (t ∷ ts) d (suc i) (suc j) h l e = ap suc (distinct-index ts (d .1) i j (omega arith) (omega arith) e)
-
-cons-tree : (t u : Tree) (f g : Forest) → cons t f ≡ cons u g → t ≡ u
-cons-tree t u f g e = cc
-
-cons-forest : (t u : Tree) (f g : Forest) → cons t f ≡ cons u g → f ≡ g
-cons-forest t u f g e = cc
 
 pub numbered-inj : (ts : List Tree) → Distinct ts → (ns ms : List ℕ) → Among (length ts) ns →
     Among (length ts) ms → treesNumbered ts ns ≡ treesNumbered ts ms → ns ≡ ms

@@ -4,7 +4,7 @@ use mathlib.Core.Bool.{Bool, false, false≢true, true}
 use mathlib.Core.List.{List, [], _++_, _∷_, reverse, reverse-cons}
 use mathlib.Core.Logic.{_⊎_, inl, inr}
 use mathlib.Core.Path.{_∙_, _≡_, ap, refl, sym}
-use Prim.Native.Nat.{suc, zero, ℕ}
+use Prim.Native.Nat.{ℕ}
 use Rattle.automata.specs.Change.{addNew, collect, collects}
 use Rattle.lists.specs.Closure.{elem}
 use Rattle.lists.specs.Tests.{_∈_}
@@ -13,16 +13,12 @@ use Rattle.trees.specs.Listing.{firstTrees, laterTrees}
 use Rattle.trees.specs.Tree.{Forest, Tree, _⧺_, cons, eqTree, nil, node}
 use Rattle.lists.proofs.Closure.{elem-in, in-elem}
 use Rattle.lists.proofs.Tests.{append-in, in-append-left, in-append-right}
+use Rattle.trees.proofs.Forests.{first-later}
 use Rattle.trees.proofs.Trees.{eqTree-same, eqTree-true}
 
 -- the distinct subtrees of a list of trees, in the order in which a pass from the last node finds them
 abbrev pub foundIn : Forest → List Tree
 foundIn f = reverse (collects f [])
-
-first-later : (c : ℕ) (f : Forest) → firstTrees c f ⧺ laterTrees c f ≡ f
-first-later zero f = refl
-first-later (suc c) nil = refl
-first-later (suc c) (cons t f) = ap (cons t) (first-later c f)
 
 collects-append : (f g : Forest) (P : List Tree) → collects (f ⧺ g) P ≡ collects f (collects g P)
 collects-append nil g P = refl

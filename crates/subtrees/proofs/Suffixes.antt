@@ -15,7 +15,7 @@ use Rattle.trees.specs.Listing.{listingConditions, listingRefusal, listsTrees, 
 use Rattle.trees.specs.Listing.{readTrees, wholeNodes}
 use Rattle.trees.specs.Tree.{Forest, cons, count, nil, node}
 use Rattle.lists.proofs.Conditions.{AllHold, unbroken-hold}
-use Rattle.lists.proofs.Loops.{every-at}
+use Rattle.lists.proofs.Intervals.{every-at}
 use Rattle.lists.proofs.Tests.{and-left, and-right}
 use Rattle.trees.proofs.Listing.{listings-read}
 use Rattle.trees.proofs.ListingRefusal.{listing-from-one}

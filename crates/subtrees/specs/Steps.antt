@@ -26,10 +26,6 @@ pub record Filled (f : ℕ → ℕ) (n : ℕ) (r : List ℕ) : Type 0 where
   pub filled : (k : ℕ) → k < n → getD r k 0 ≡ f k
   pub beyond : (k : ℕ) → n ≤ k → getD r k 0 ≡ 0
 
--- the byte k places behind a byte
-abbrev pub byteFrom : List ℕ → ℕ → ℕ → ℕ
-byteFrom s at k = getD s (at + k) 0
-
 -- the state of child k, where ns has the children's numbers
 abbrev pub childState : List ℕ → List ℕ → ℕ → ℕ
 childState q ns k = getD q (getD ns k 0 - 1) 0

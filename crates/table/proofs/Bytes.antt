@@ -7,10 +7,11 @@ use native.Mathlib.Omega.{arith}
 use lib.ListN.{List·getD-eq-default, getD, length}
 use lib.Seq.{getD-drop}
 use borrow.Author.Tests.{le-ltb, lt-ltb, ne-eqb}
+use Rattle.lists.specs.Tests.{bit}
 use Rattle.automata.specs.Automaton.{Automaton, Transition, accepting, states}
 use Rattle.format.specs.Format.{argsAt, countAt, headBytes, labelBytes, maxArity, maxStates, maxTransitions, outAt}
 use Rattle.format.specs.Format.{tableBytes, transitionBytes}
-use Rattle.table.specs.Layout.{argOf, arityOf, bit, blank, body, bodyByte, byteAt, encode, labelOf, outOf}
+use Rattle.table.specs.Layout.{argOf, arityOf, blank, body, bodyByte, byteAt, encode, labelOf, outOf}
 use Rattle.table.specs.Layout.{stateCount, transitionByte, transitionCount}
 use Rattle.lists.proofs.Intervals.{getD-tabulated, length-tabulated}
 

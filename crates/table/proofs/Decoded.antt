@@ -9,8 +9,7 @@ use lib.Seq.{ext-getD}
 use Rattle.automata.specs.Automaton.{Transition, accepting, states}
 use Rattle.lists.specs.Positions.{upFrom}
 use Rattle.lists.specs.Tests.{_∈_}
-use Rattle.table.specs.Layout.{body, classAt, decode, nthTransition, stateCount, transitionCount}
-use Rattle.table.specs.Layout.{transitionsIn}
+use Rattle.table.specs.Layout.{body, classAt, decode, nthTransition, stateCount, transitionCount, transitionsIn}
 use Rattle.lists.proofs.Intervals.{getD-tabulated, getD-tabulated-beyond, in-tabulated, length-tabulated}
 use Rattle.lists.proofs.Intervals.{tabulated-in}
 
@@ -25,9 +24,6 @@ module _ (s : List ℕ) (n : ℕ) where
   unfolding transitionsIn
   transitionsIn-nth i d h =
       let e : 0 + i ≡ i = omega arith in getD-tabulated (nthTransition s) 0 n i d h ∙ ap (nthTransition s) e
-
-  pub transitionsIn-beyond : (i : ℕ) (d : Transition) → n ≤ i → getD (transitionsIn s n) i d ≡ d
-  transitionsIn-beyond i d h = List·getD-eq-default (transitionsIn s n) d (omega (arith, transitionsIn-length))
 
   pub in-transitionsIn : (i : ℕ) → i < n → nthTransition s i ∈ transitionsIn s n
   unfolding transitionsIn
@@ -71,9 +67,6 @@ module _ (b : List ℕ) where
 
   pub decoded-beyond : (i : ℕ) (d : Transition) → transitionCount b ≤ i → getD (decode b .transitions) i d ≡ d
   decoded-beyond i d h = List·getD-eq-default (decode b .transitions) d (omega (arith, decoded-count))
-
-  pub in-decoded : (i : ℕ) → i < transitionCount b → nthTransition (body b) i ∈ decode b .transitions
-  in-decoded i h = rw decoded-transitions (in-transitionsIn (body b) (transitionCount b) i h)
 
   pub decoded-in : (τ : Transition) → τ ∈ decode b .transitions →
       (i : ℕ) × (i < transitionCount b) × (τ ≡ nthTransition (body b) i)

@@ -10,20 +10,21 @@ use lib.Dec.{eqb, ltb}
 use lib.ListN.{getD-replicate, length, length-replicate, replicate}
 use lib.Seq.{ext-getD}
 use borrow.Author.Tests.{eq-eqb, eqb-true}
+use Rattle.lists.specs.Tests.{bit}
 use Rattle.automata.specs.Acyclic.{Bounded, acyclic}
 use Rattle.automata.specs.Automaton.{Automaton, accepting, accepts, emptyAutomaton}
 use Rattle.automata.specs.Canonical.{Canonical}
 use Rattle.automata.specs.Valid.{Valid}
 use Rattle.format.specs.Format.{AllBytes, countAt, headBytes, tableBytes, transitionBytes}
 use Rattle.table.specs.Intake.{WithinLimits, contentConditions, lengthCondition, tableRefusal}
-use Rattle.table.specs.Layout.{bit, byteAt, decode, encode, layoutFits}
+use Rattle.table.specs.Layout.{byteAt, decode, encode, layoutFits}
 use Rattle.trees.specs.Tree.{Tree}
 use Rattle.automata.proofs.Bounded.{acyclic-bounded, bounded-acyclic}
 use Rattle.automata.proofs.Kept.{canonical-ranged, canonical-valid}
 use Rattle.automata.proofs.Valid.{valid-canonical}
 use Rattle.lists.proofs.Conditions.{unbroken-hold}
 use Rattle.table.proofs.Bytes.{cond-is, encode-byte, encode-length}
-use Rattle.table.proofs.Limits.{encode-bytes, encode-layout, layout-in-range, layout-within}
+use Rattle.table.proofs.Limits.{encode-layout, layout-in-range, layout-within}
 use Rattle.table.proofs.RoundTrip.{blank-byte, decode-encode, encode-decode}
 
 -- what the conditions say together
@@ -89,9 +90,6 @@ passes-canonical b bytes e =
 
 -- the table of the canonical automaton of a bounded set passes, and its bytes are bytes
 module _ (S : Tree → Bool) (A : Automaton) (within : WithinLimits A) (canonical : Canonical S A) where
-  pub set-bytes : AllBytes (encode A)
-  set-bytes = encode-bytes A within (canonical-ranged S A canonical)
-
   pub set-passes : Bounded S → tableRefusal (encode A) ≡ 0
   set-passes bounded =
       let d = sym (decode-encode A within) in
@@ -113,10 +111,6 @@ intake b bytes = (
       subst (λ (s : List ℕ). tableRefusal s ≡ 0) (sym (t .bytes))
       (canonical-passes (t .automaton) (t .limits) (t .canonical) (t .bounded)),
 )
-
--- a table holds no other automaton than the one that it is the table of
-pub table-automaton : (b : List ℕ) (t : CanonicalTable b) → decode b ≡ t .automaton
-table-automaton b t = ap decode (t .bytes) ∙ decode-encode (t .automaton) (t .limits)
 
 -- ---- the empty set
 

@@ -16,7 +16,7 @@ use Rattle.table.specs.Layout.{argFits, argOf, arityOf, body, classFits,
 use Rattle.table.specs.Layout.{stateCount, transitionCount, transitionFits, zeroAt}
 use Rattle.trees.specs.Tree.{count}
 use Rattle.automata.proofs.Valid.{in-range, range-in}
-use Rattle.lists.proofs.Intervals.{every-upFrom, upFrom-every}
+use Rattle.lists.proofs.Intervals.{at-every, every-at}
 use Rattle.lists.proofs.Tests.{and-both, and-left, and-right}
 use Rattle.table.proofs.Bytes.{cond-is}
 
@@ -61,7 +61,7 @@ module _ (s : List ℕ) (n at : ℕ) where
       let r = conjuncts₄ (leb 1 (labelOf s at)) (leb (arityOf s at) maxArity)
       (every (argFits s n at) (upFrom 0 maxArity)) (inRange n (outOf s at)) e in
       let fits : (k : ℕ) → k < maxArity → argFits s n at k ≡ true =
-      λ k h. every-upFrom (argFits s n at) 0 maxArity (r .2) k (omega arith) (omega arith) in
+      λ k h. every-at (argFits s n at) 0 maxArity (r .2) k (omega arith) (omega arith) in
       let a : arityOf s at ≤ maxArity = leb-true (arityOf s at) maxArity (r .1) in
       record {
         label = leb-true 1 (labelOf s at) (r .0);
@@ -75,7 +75,7 @@ module _ (s : List ℕ) (n at : ℕ) where
   unfolding transitionFits
   laid-transition l =
       and-both (and-both (and-both (le-leb 1 (labelOf s at) (l .label)) (le-leb (arityOf s at) maxArity (l .arity)))
-      (upFrom-every (argFits s n at) 0 maxArity (λ k _ h. cond-is (ltb k (arityOf s at))
+      (at-every (argFits s n at) 0 maxArity (λ k _ h. cond-is (ltb k (arityOf s at))
       (λ e. let r = l .args k (ltb-true k (arityOf s at) e) in range-in n (argOf s at k) (r .0) (r .1))
       (λ e. eq-eqb (argOf s at k) 0 (l .rest k (ltb-false k (arityOf s at) e) (omega arith))))))
       (range-in n (outOf s at) (l .out .0) (l .out .1))
@@ -92,7 +92,7 @@ module _ (b : List ℕ) where
       (every (nthFits (body b) n) (upFrom 0 m))
       (every (zeroAt (body b)) (upFrom (transitionBytes * m) (transitionBytes * (maxTransitions - m)))) e in
       let fits : (q : ℕ) → 1 ≤ q → q ≤ maxStates → classFits b q ≡ true =
-      λ q h l. every-upFrom (classFits b) 1 maxStates (r .1) q h (omega arith) in
+      λ q h l. every-at (classFits b) 1 maxStates (r .1) q h (omega arith) in
       let s : n ≤ maxStates = leb-true n maxStates (r .0) in
       let c : m ≤ maxTransitions = leb-true m maxTransitions (r .2) in
       record {
@@ -101,9 +101,9 @@ module _ (b : List ℕ) where
         classes-rest = λ q h l. eqb-true (getD b q 0) 0 (rw (lt-leb q n h) at (fits q (omega arith) l));
         count = c;
         transitions = λ i h. transition-laid (body b) n (transitionBytes * i)
-            (every-upFrom (nthFits (body b) n) 0 m (r .3) i (omega arith) (omega arith));
+            (every-at (nthFits (body b) n) 0 m (r .3) i (omega arith) (omega arith));
         zeros = λ j h l. eqb-true (getD (body b) j 0) 0
-            (every-upFrom (zeroAt (body b)) (transitionBytes * m) (transitionBytes * (maxTransitions - m)) (r .4)
+            (every-at (zeroAt (body b)) (transitionBytes * m) (transitionBytes * (maxTransitions - m)) (r .4)
             j h (omega arith));
       }
 
@@ -112,12 +112,12 @@ module _ (b : List ℕ) where
   laid-layout l =
       and-both (and-both (and-both (and-both
       (le-leb (stateCount b) maxStates (l .states))
-      (upFrom-every (classFits b) 1 maxStates (λ q h k. cond-is (leb q (stateCount b))
+      (at-every (classFits b) 1 maxStates (λ q h k. cond-is (leb q (stateCount b))
       (λ e. le-leb (getD b q 0) 1 (l .classes q h (leb-true q (stateCount b) e)))
       (λ e. eq-eqb (getD b q 0) 0 (l .classes-rest q (leb-false q (stateCount b) e) (omega arith))))))
       (le-leb (transitionCount b) maxTransitions (l .count)))
-      (upFrom-every (nthFits (body b) (stateCount b)) 0 (transitionCount b)
+      (at-every (nthFits (body b) (stateCount b)) 0 (transitionCount b)
       (λ i _ h. laid-transition (body b) (stateCount b) (transitionBytes * i) (l .transitions i (omega arith)))))
-      (upFrom-every (zeroAt (body b)) (transitionBytes * transitionCount b)
+      (at-every (zeroAt (body b)) (transitionBytes * transitionCount b)
       (transitionBytes * (maxTransitions - transitionCount b))
       (λ j h k. eq-eqb (getD (body b) j 0) 0 (l .zeros j h (omega (arith, l .count)))))

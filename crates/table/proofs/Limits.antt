@@ -14,11 +14,10 @@ use Rattle.automata.specs.Valid.{inRange, statesInRange}
 use Rattle.format.specs.Format.{AllBytes, argsAt, countAt, headBytes, labelBytes, maxTransitions, outAt, tableBytes}
 use Rattle.format.specs.Format.{transitionBytes}
 use Rattle.lists.specs.Positions.{upFrom}
-use Rattle.lists.specs.Tests.{_∈_, every}
+use Rattle.lists.specs.Tests.{_∈_, bit, every}
 use Rattle.table.specs.Intake.{WithinLimits}
-use Rattle.table.specs.Layout.{argOf, arityOf, bit, blank, body, byteAt, decode, encode, layoutFits}
-use Rattle.table.specs.Layout.{nthTransition, outOf, stateCount, transitionAt, transitionByte}
-use Rattle.table.specs.Layout.{transitionCount}
+use Rattle.table.specs.Layout.{argOf, arityOf, blank, body, byteAt, decode, encode, layoutFits}
+use Rattle.table.specs.Layout.{nthTransition, outOf, stateCount, transitionAt, transitionByte, transitionCount}
 use Rattle.trees.specs.Legal.{LegalNode}
 use Rattle.automata.proofs.Valid.{InRange, range-in, ranged-transition}
 use Rattle.lists.proofs.Intervals.{getD-in, length-tabulated, tabulated-in}

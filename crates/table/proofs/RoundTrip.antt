@@ -9,12 +9,13 @@ use lib.Dec.{eqb, leb, ltb}
 use lib.ListN.{getD, length}
 use lib.Seq.{ext-getD, getD-drop}
 use borrow.Author.Tests.{eqb-false, eqb-true, leb-false, leb-true, ltb-false, ltb-true}
+use Rattle.lists.specs.Tests.{bit}
 use Rattle.automata.specs.Automaton.{Automaton, Transition, accepting, states}
 use Rattle.format.specs.Format.{AllBytes, argsAt, countAt, headBytes, labelBytes, maxArity, maxStates}
 use Rattle.format.specs.Format.{maxTransitions, outAt, tableBytes, transitionBytes}
 use Rattle.lists.specs.Positions.{upFrom}
 use Rattle.table.specs.Intake.{WithinLimits}
-use Rattle.table.specs.Layout.{argOf, arityOf, bit, blank, body, bodyByte, byteAt, classAt, decode, encode}
+use Rattle.table.specs.Layout.{argOf, arityOf, blank, body, bodyByte, byteAt, classAt, decode, encode}
 use Rattle.table.specs.Layout.{layoutFits, nthTransition, stateCount, transitionAt, transitionByte}
 use Rattle.table.specs.Layout.{transitionCount, transitionsIn}
 use Rattle.trees.specs.Legal.{LegalNode}

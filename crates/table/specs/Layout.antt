@@ -1,5 +1,5 @@
 -- The table (01: the book): an automaton in 11,467 bytes.
-use mathlib.Core.Bool.{Bool, _&&_, cond, false, true}
+use mathlib.Core.Bool.{Bool, _&&_, cond}
 use mathlib.Core.List.{List, [], map}
 use Prim.Native.Nat.{_%_, _*_, _+_, _-_, _/_, ℕ}
 use lib.Dec.{eqb, leb, ltb}
@@ -9,7 +9,7 @@ use Rattle.automata.specs.Valid.{inRange}
 use Rattle.format.specs.Format.{argsAt, countAt, headBytes, labelBytes, maxArity, maxStates, maxTransitions}
 use Rattle.format.specs.Format.{outAt, tableBytes, transitionBytes}
 use Rattle.lists.specs.Positions.{upFrom}
-use Rattle.lists.specs.Tests.{every}
+use Rattle.lists.specs.Tests.{bit, every}
 
 -- ---- reading
 
@@ -62,10 +62,6 @@ decode b = record {
 }
 
 -- ---- writing
-
-abbrev pub bit : Bool → ℕ
-bit true = 1
-bit false = 0
 
 -- byte j of a transition; arguments beyond the number of them are 0
 abbrev pub transitionByte : Transition → ℕ → ℕ

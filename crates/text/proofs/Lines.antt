@@ -25,6 +25,7 @@ use Rattle.text.specs.declared.Read.{Read}
 use Rattle.text.specs.declared.Read.the-variants.{Bad, Trees}
 use Rattle.trees.specs.Listing.{listing}
 use Rattle.lists.proofs.Tests.{test}
+use Rattle.lists.proofs.Parts.{part}
 use Rattle.text.proofs.Forms.{formStart, scan-expected, whole-form}
 use Rattle.text.proofs.Heads.{length-blank}
 use Rattle.text.proofs.Laws.{line-formed, line-long}
@@ -119,7 +120,7 @@ module _ (w s : List ℕ) (k : ℕ) (a : k ≡ agreed s w) (h : length w ≤ k) 
   head-inside = omega (arith, agreed-within s w .0)
 
   -- the tree was looked for behind the head
-  module _ (l m : List ℕ) (r : Read) (c : l ≡ blank) (x : TreeRead (take (length s - k) (drop k s)) l 0 m r) where
+  module _ (l m : List ℕ) (r : Read) (c : l ≡ blank) (x : TreeRead (part s k) l 0 m r) where
     pub form-refused : (j : ℕ) → r ≡ Bad j → FormRead w s m (Broken (k + j))
     unfolding readForm FormRead
     form-refused j z =

@@ -6,8 +6,8 @@ use Prim.Native.Nat.{_+_, _-_, _<_, _≤_, suc, ℕ}
 use native.Mathlib.Nat.{add-zero}
 use native.Mathlib.Numerals.{add-one}
 use native.Mathlib.Omega.{arith}
-use lib.ListN.{drop, getD, length, length-append, length-drop, set, take, take-append-drop}
-use lib.Seq.{drop-drop, getD-drop, length-take-le, take-all}
+use lib.ListN.{drop, getD, length, length-append, length-drop, set, take-append-drop}
+use lib.Seq.{drop-drop, getD-drop, length-take-le}
 use borrow.Author.Tests.{eq-eqb, ne-eqb}
 use Rattle.format.specs.Format.{nodeBytes}
 use Rattle.text.specs.Answers.{ChildrenRead, ChildrenText, LabelRead, LabelTo, Refused, TreeRead, TreeText}
@@ -20,38 +20,29 @@ use Rattle.text.specs.declared.Read.{Read}
 use Rattle.text.specs.declared.Read.the-variants.{Bad, Trees}
 use Rattle.trees.specs.Listing.{listing, listings}
 use Rattle.trees.specs.Tree.{Forest, _⧺_, cons, nil, node}
+use Rattle.lists.proofs.Parts.{part, part-drop}
 use Rattle.text.proofs.Scan.{ending-stuck, scan-from}
 use Rattle.text.proofs.Sizes.{set-sets, sets-append}
 use Rattle.text.proofs.Text.{scan-label, scan-tree}
 
--- what the part &s[k..] holds
-pub part-drop : (s : List ℕ) (k : ℕ) → take (length s - k) (drop k s) ≡ drop k s
-part-drop s k = take-all (length s - k) (drop k s) (simp length-drop (omega arith))
-
-pub part-length : (s : List ℕ) (k : ℕ) → length (take (length s - k) (drop k s)) ≡ length s - k
-part-length s k = ap length (part-drop s k) ∙ length-drop k s
-
 -- what a call on a part says of the rest of s
 module _ (s : List ℕ) (k : ℕ) (l : List ℕ) (at : ℕ) (m : List ℕ) (r : Read) where
-  abbrev part : List ℕ
-  part = take (length s - k) (drop k s)
-
-  pub tree-text : TreeRead part l at m r → (c n u : ℕ) → r ≡ Trees c n u → TreeText (drop k s) l at m n u
+  pub tree-text : TreeRead (part s k) l at m r → (c n u : ℕ) → r ≡ Trees c n u → TreeText (drop k s) l at m n u
   unfolding TreeRead ChildrenRead
   tree-text q c n u z = subst (λ x. TreeText x l at m n u) (part-drop s k) (rw z at q)
 
-  pub tree-bad : TreeRead part l at m r → (i : ℕ) → r ≡ Bad i →
+  pub tree-bad : TreeRead (part s k) l at m r → (i : ℕ) → r ≡ Bad i →
       Refused (drop k s) (expecting (openBracket ∷ [])) i × (length m ≡ length l)
   unfolding TreeRead ChildrenRead
   tree-bad q i z =
       subst (λ x. Refused x (expecting (openBracket ∷ [])) i × (length m ≡ length l)) (part-drop s k) (rw z at q)
 
-  pub children-text : ChildrenRead part l at m r → (c n u : ℕ) → r ≡ Trees c n u →
+  pub children-text : ChildrenRead (part s k) l at m r → (c n u : ℕ) → r ≡ Trees c n u →
       ChildrenText (drop k s) l at m c n u
   unfolding TreeRead ChildrenRead
   children-text q c n u z = subst (λ x. ChildrenText x l at m c n u) (part-drop s k) (rw z at q)
 
-  pub children-bad : ChildrenRead part l at m r → (i : ℕ) → r ≡ Bad i →
+  pub children-bad : ChildrenRead (part s k) l at m r → (i : ℕ) → r ≡ Bad i →
       ((a : ℕ) (f : Forest) → Refused (drop k s) (among a f) i) × (length m ≡ length l)
   unfolding TreeRead ChildrenRead
   children-bad q i z =
@@ -59,7 +50,7 @@ module _ (s : List ℕ) (k : ℕ) (l : List ℕ) (at : ℕ) (m : List ℕ) (r : 
       (rw z at q)
 
 -- a label was looked for behind the first byte
-module _ (s : List ℕ) (r : Label) (q : LabelRead (take (length s - 1) (drop 1 s)) r) where
+module _ (s : List ℕ) (r : Label) (q : LabelRead (part s 1) r) where
   pub label-read : (a i : ℕ) → r ≡ Number a i →
       LabelTo (drop 1 s) i a × (extends a (getD (drop (1 + i) s) 0 0) ≡ false)
   unfolding LabelRead

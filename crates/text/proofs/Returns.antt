@@ -3,7 +3,7 @@ use mathlib.Core.List.{List}
 use mathlib.Core.Path.{_∙_, _≡_, ap, refl, subst, sym}
 use Prim.Native.Nat.{_*_, _+_, _-_, _<_, _≤_, ℕ}
 use native.Mathlib.Omega.{arith}
-use lib.ListN.{drop, getD, length, length-drop, length-set, set, take}
+use lib.ListN.{drop, getD, length, length-drop, length-set, set}
 use mir.Syntax.{w64, w8}
 use mir.Val.{Fits}
 use Rattle.format.specs.Format.{listingBytes, nodeBytes}
@@ -14,15 +14,12 @@ use Rattle.text.specs.declared.Label.the-variants.{Nothing, Number}
 use Rattle.text.specs.declared.Read.{Read}
 use Rattle.text.specs.declared.Read.the-variants.{Bad, Trees}
 use Rattle.trees.specs.Tree.{nil}
+use Rattle.lists.proofs.Parts.{part, part-length}
 use Rattle.text.proofs.Readers.{child-refused, children-bad, children-closed, children-empty, children-read}
 use Rattle.text.proofs.Readers.{children-refused, children-text, children-unknown, label-missing, label-read}
-use Rattle.text.proofs.Readers.{part-length, tree-bad, tree-empty, tree-read, tree-refused, tree-text}
+use Rattle.text.proofs.Readers.{tree-bad, tree-empty, tree-read, tree-refused, tree-text}
 use Rattle.text.proofs.Readers.{tree-unlabelled, tree-unopened}
 use Rattle.text.proofs.Sizes.{Bounds, children-bounds, tree-bounds}
-
--- what the part &s[k..] holds
-abbrev part : List ℕ → ℕ → List ℕ
-part s k = take (length s - k) (drop k s)
 
 -- the first byte decides
 module _ (s l : List ℕ) (at : ℕ) where

@@ -1,4 +1,5 @@
 pub mod Trees
+pub mod Forests
 pub mod Legal
 pub mod Listing
 pub mod ListingRefusal

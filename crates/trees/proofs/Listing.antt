@@ -2,7 +2,7 @@
 use mathlib.Core.Bool.{false≢true, true}
 use mathlib.Core.List.{List, [], _++_, _∷_, append-assoc}
 use mathlib.Core.Path.{_∙_, _≡_, ap, refl, subst, subst₂, sym}
-use Prim.Native.Nat.{_*_, _+_, _<_, _≤_, suc, zero, ℕ}
+use Prim.Native.Nat.{_*_, _+_, _<_, suc, zero, ℕ}
 use native.Mathlib.Nat.{suc-add, zero-add}
 use native.Mathlib.Omega.{arith}
 use Rattle.format.specs.Format.{labelBytes, nodeBytes}
@@ -10,16 +10,9 @@ use Rattle.trees.specs.Legal.{AllLegal, Legal, LegalNode}
 use Rattle.trees.specs.Listing.{childrenAt, firstTree, firstTrees, labelAt, laterTrees, listing, listings}
 use Rattle.trees.specs.Listing.{listsTrees, nodesIn, oneTree, readTree, readTrees}
 use Rattle.trees.specs.Tree.{Forest, Tree, _⧺_, cons, count, nil, node}
+use Rattle.trees.proofs.Forests.{first-count, first-whole, later-count, later-whole, listings-split}
 
 -- ---- reading undoes listing
-
-first-append : (f g : Forest) → firstTrees (count f) (f ⧺ g) ≡ f
-first-append nil g = refl
-first-append (cons t f) g = rw (first-append f g)
-
-later-append : (f g : Forest) → laterTrees (count f) (f ⧺ g) ≡ g
-later-append nil g = refl
-later-append (cons t f) g = later-append f g
 
 mutual
   read-tree : (t : Tree) (s : List ℕ) → readTrees (listing t ++ s) ≡ cons t (readTrees s)
@@ -29,7 +22,7 @@ mutual
           cons (node a (firstTrees (count f) (readTrees (listings f ++ s)))) (laterTrees (count f) (readTrees
           (listings f ++ s))) ≡
           cons (node a f) (readTrees s)
-      go e = rw (e, first-append f (readTrees s), later-append f (readTrees s))
+      go e = rw (e, first-whole f (readTrees s), later-whole f (readTrees s))
 
   pub read-trees : (f : Forest) (s : List ℕ) → readTrees (listings f ++ s) ≡ f ⧺ readTrees s
   read-trees nil s = refl
@@ -69,23 +62,6 @@ listing-one t = ap (λ (s : List ℕ). listsTrees s 1) (sym (append-none (listin
 
 -- ---- listing undoes reading
 
-first-count : (c : ℕ) (f : Forest) → c ≤ count f → count (firstTrees c f) ≡ c
-first-count zero f h = refl
-first-count (suc c) nil h = absurd (omega arith)
-first-count (suc c) (cons t f) h = ap suc (first-count c f (omega arith))
-
-later-count : (c k : ℕ) (f : Forest) → count f ≡ c + k → count (laterTrees c f) ≡ k
-later-count zero k f h = omega arith
-later-count (suc c) k nil h = absurd (omega arith)
-later-count (suc c) k (cons t f) h = later-count c k f (omega arith)
-
-first-later : (c : ℕ) (f : Forest) → listings (firstTrees c f) ++ listings (laterTrees c f) ≡ listings f
-first-later zero f = refl
-first-later (suc c) nil = refl
-first-later (suc c) (cons t f) =
-    append-assoc (listing t) (listings (firstTrees c f)) (listings (laterTrees c f)) ∙ ap (λ s. listing t ++ s)
-    (first-later c f)
-
 -- bytes that list k trees are their listing
 pub listings-read : (s : List ℕ) (k : ℕ) → listsTrees s k ≡ true → (listings (readTrees s) ≡ s) × (count (readTrees
     s) ≡ k)
@@ -102,8 +78,8 @@ listings-read (a ∷ c ∷ s) (suc k) e = go (listings-read s (c + k) e)
         (suc (count (laterTrees c (readTrees s))) ≡ suc k)
     go (l, n) =
         let p = first-count c (readTrees s) (omega arith) in
-        let q = first-later c (readTrees s) ∙ l in
-        (λ i. a ∷ p i ∷ q i, ap suc (later-count c k (readTrees s) n))
+        let q = listings-split c (readTrees s) ∙ l in
+        (λ i. a ∷ p i ∷ q i, omega (arith, later-count c (readTrees s)))
 
 one-listing : (f : Forest) → count f ≡ 1 → listing (firstTree f) ≡ listings f
 one-listing nil e = absurd (omega arith)

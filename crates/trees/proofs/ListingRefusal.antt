@@ -71,7 +71,7 @@ mutual
       let e = listings-even f in
       omega (arith, length-append (listing t) (listings f))
 
-listing-least : (t : Tree) → nodeBytes ≤ length (listing t)
+pub listing-least : (t : Tree) → nodeBytes ≤ length (listing t)
 listing-least (node a f) = omega arith
 
 legal-passed : (t : Tree) → Legal t → length (listing t) ≤ maxListing → AllHold (listingConditions (listing t))

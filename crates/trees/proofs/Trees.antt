@@ -2,7 +2,7 @@
 use mathlib.Core.Bool.{false≢true, true}
 use mathlib.Core.List.{[], _∷_}
 use mathlib.Core.Path.{_≡_, refl}
-use Prim.Native.Nat.{_+_, _≤_}
+use Prim.Native.Nat.{_+_, _≤_, ℕ}
 use native.Mathlib.Omega.{arith}
 use lib.Dec.{eqb}
 use lib.ListN.{length}
@@ -42,6 +42,19 @@ mutual
 pub snoc-append : (b : Forest) (t : Tree) (f : Forest) → (b ⧺ cons t nil) ⧺ f ≡ b ⧺ cons t f
 snoc-append nil t f = refl
 snoc-append (cons u b) t f = rw (snoc-append b t f)
+
+-- the parts of a node and of a forest
+pub node-label : (a b : ℕ) (f g : Forest) → node a f ≡ node b g → a ≡ b
+node-label a b f g e = cc
+
+pub node-children : (a b : ℕ) (f g : Forest) → node a f ≡ node b g → f ≡ g
+node-children a b f g e = cc
+
+pub cons-tree : (t u : Tree) (f g : Forest) → cons t f ≡ cons u g → t ≡ u
+cons-tree t u f g e = cc
+
+pub cons-forest : (t u : Tree) (f g : Forest) → cons t f ≡ cons u g → f ≡ g
+cons-forest t u f g e = cc
 
 -- every tree of the forest
 abbrev pub AllTrees : (Tree → Type 0) → Forest → Type 0

@@ -12,9 +12,9 @@ use Rattle.format.specs.Format.{byteValues, transitionBytes}
 use Rattle.marking.specs.Marks.{marked}
 use Rattle.table.specs.Layout.{nthTransition, outOf}
 use Rattle.validity.specs.Rules.{Blocks, Clear, Ground, Unblocked, argsPass}
-use Rattle.validity.specs.Spread.{Spread, UpTo}
+use Rattle.marking.specs.Spread.{Spread, UpTo}
 use Rattle.marking.proofs.Sweeps.{marked-here, marked-set, set-marked}
-use Rattle.validity.proofs.Spreading.{spread-if, unmarked}
+use Rattle.marking.proofs.Spreading.{spread-if, unmarked}
 use Rattle.validity.proofs.Sweeping.{every-implied}
 
 module _ (s m : List ℕ) where

@@ -2,7 +2,7 @@
 use mathlib.Core.Bool.{Bool, _&&_, false, true}
 use mathlib.Core.List.{List, []}
 use mathlib.Core.Logic.{_⊎_, inl, inr}
-use mathlib.Core.Path.{_∙_, _≡_, ap, refl, subst, sym}
+use mathlib.Core.Path.{_∙_, _≡_, ap, subst, sym}
 use Prim.Native.Nat.{_*_, _+_, _<_, _≤_, suc, zero, ℕ}
 use native.Mathlib.Numerals.{add-one}
 use native.Mathlib.Omega.{arith}
@@ -14,36 +14,29 @@ use Rattle.automata.specs.Automaton.{Automaton, Transition, accepting, states}
 use Rattle.automata.specs.Coaccessible.{allCoaccessible, coaccessible, coaccessibleRule}
 use Rattle.fields.specs.Fields.{RunsOver}
 use Rattle.fields.specs.View.{viewed}
-use Rattle.format.specs.Format.{transitionBytes}
+use Rattle.format.specs.Format.{byteValues, transitionBytes}
 use Rattle.lists.specs.Closure.{elem}
 use Rattle.lists.specs.Positions.{upFrom}
 use Rattle.lists.specs.Tests.{_∈_, any, every}
 use Rattle.marking.specs.Marks.{marked}
 use Rattle.table.specs.Layout.{argOf, arityOf, nthTransition, outOf, transitionsIn}
 use Rattle.validity.specs.Rules.{Clear, Ground, nthDown, nthUp}
-use Rattle.validity.specs.Spread.{Exactly, Spread, UpTo}
+use Rattle.marking.specs.Spread.{Spread, UpTo}
+use Rattle.validity.specs.Spread.{Exactly}
 use Rattle.automata.proofs.Grounded.{Grounded, grounded-acyclic, grounded-returnless, returnless}
-use Rattle.fields.proofs.Transitions.{in-args, in-transitionsIn, transitionsIn-nth}
+use Rattle.fields.proofs.Transitions.{in-args}
 use Rattle.lists.proofs.Closure.{closed, closure-all, elem-in, in-elem}
 use Rattle.lists.proofs.Positions.{in-upFrom}
-use Rattle.lists.proofs.Tests.{and-both, and-left, and-right, any-in, eqb-same, in-any, in-map, or-cases, or-left}
-use Rattle.lists.proofs.Tests.{or-right}
-use Rattle.validity.proofs.Spreading.{Growing, growing-closed, growing-more}
+use Rattle.lists.proofs.Tests.{and-both, and-left, and-right, any-in, eqb-same, every-same-in, in-any, in-map}
+use Rattle.lists.proofs.Tests.{or-cases, or-left, or-right, same-test}
+use Rattle.marking.proofs.Spreading.{Growing, growing-closed, growing-more}
 use Rattle.validity.proofs.Sweeping.{every-implied}
-use Rattle.validity.proofs.Views.{viewed-accepting, viewed-classes, viewed-ranged, viewed-states}
-
-pub same-test : (a b : Bool) → (a ≡ true → b ≡ true) → (b ≡ true → a ≡ true) → a ≡ b
-same-test true b f g = sym (f refl)
-same-test false true f g = g refl
-same-test false false f g = refl
-
--- all states pass where two tests agree
-pub every-same : {p r : ℕ → Bool} (xs : List ℕ) → ((q : ℕ) → p q ≡ r q) → every p xs ≡ every r xs
-every-same xs e = ap (λ (p : ℕ → Bool). every p xs) (λ i q. e q i)
+use Rattle.fields.proofs.Views.{viewed-accepting, viewed-classes, viewed-ranged, viewed-states}
+use Rattle.table.proofs.Decoded.{in-transitionsIn, transitionsIn-in}
 
 -- marks that begin with the accepting states, and grow
 pub record Using (A : Automaton) (m : List ℕ) : Type 0 where
-  pub growing : Growing (coaccessible A) m
+  pub growing : Growing byteValues (coaccessible A) m
   pub started : (q : ℕ) → accepting A q ≡ true → marked m q ≡ true
 
 module _ (cl s : List ℕ) (n c : ℕ) (over : RunsOver s c n) where
@@ -63,7 +56,7 @@ module _ (cl s : List ℕ) (n c : ℕ) (over : RunsOver s c n) where
       closed eqb eqb-true eqb-same (accessibleRule A) (upFrom 1 (states A)) (outOf s (transitionBytes * i))
       (out-in-states i h)
       (in-any (λ τ. every (accessible A) (τ .args) && eqb (outOf s (transitionBytes * i)) (τ .out))
-      (transitionsIn s c) (nthTransition s i) (transitionsIn-nth s c i h)
+      (transitionsIn s c) (nthTransition s i) (in-transitionsIn s c i h)
       (and-both e (eqb-same (outOf s (transitionBytes * i)))))
 
   accessible-marked : (m : ℕ → Bool) → UpTo (nthUp s) c m → (q : ℕ) → accessible A q ≡ true → m q ≡ true
@@ -74,16 +67,16 @@ module _ (cl s : List ℕ) (n c : ℕ) (over : RunsOver s c n) where
           accessibleRule A p k ≡ true → m k ≡ true
       made p ih k _ e =
           let (τ, j, d) = any-in (λ τ. every p (τ .args) && eqb k (τ .out)) (transitionsIn s c) e in
-          let (i, h, f) = in-transitionsIn s c τ j in
+          let (i, h, f) = transitionsIn-in s c τ j in
           let o : k ≡ τ .out = eqb-true k (τ .out) (and-right (every p (τ .args)) _ d) in
           let v : every m (τ .args) ≡ true = every-implied p m (τ .args) ih (and-left _ _ d) in
           subst (λ (x : ℕ). m x ≡ true) (sym (o ∙ ap (λ (υ : Transition). υ .out) f))
           (up i h (subst (λ (υ : Transition). every m (υ .args) ≡ true) f v))
 
-  pub all-accessible-end : {m m' : List ℕ} {r : Bool} → Growing (accessible A) m → Spread (UpTo (nthUp s) c) m m' r →
+  pub all-accessible-end : {m m' : List ℕ} {r : Bool} → Growing byteValues (accessible A) m → Spread (UpTo (nthUp s) c) m m' r →
       r ≡ false → every (marked m') (upFrom 1 n) ≡ allAccessible A
   all-accessible-end {m' = m'} g t e =
-      every-same (upFrom 1 n) (λ q. same-test _ _ (growing-more accessible-up g t .within q)
+      every-same-in (marked m') (accessible A) (upFrom 1 n) (λ q _. same-test _ _ (growing-more accessible-up g t .within q)
       (accessible-marked (marked m') (growing-closed t e) q))
       ∙ ap (λ k. every (accessible A) (upFrom 1 k)) (sym (viewed-states cl s n c))
 
@@ -100,7 +93,7 @@ module _ (cl s : List ℕ) (n c : ℕ) (over : RunsOver s c n) where
       (in-states q (over .arg-some i k h l) (over .arg-state i k h l))
       (or-right (accepting A q) _
       (in-any (λ τ. coaccessible A (τ .out) && elem eqb q (τ .args)) (transitionsIn s c) (nthTransition s i)
-      (transitionsIn-nth s c i h)
+      (in-transitionsIn s c i h)
       (and-both e (in-elem eqb eqb-true eqb-same q (nthTransition s i .args)
       (in-map (argOf s (transitionBytes * i)) (upFrom 0 (arityOf s (transitionBytes * i))) k
       (in-upFrom 0 (arityOf s (transitionBytes * i)) k (omega arith) (omega arith)))))))
@@ -135,7 +128,7 @@ module _ (cl s : List ℕ) (n c : ℕ) (over : RunsOver s c n) where
           used : (τ : Transition) × (τ ∈ transitionsIn s c) × ((p (τ .out) && elem eqb k (τ .args)) ≡ true) →
               m k ≡ true
           used (τ, j, d) =
-              let (i, h, f) = in-transitionsIn s c τ j in
+              let (i, h, f) = transitionsIn-in s c τ j in
               let v : m (outOf s (transitionBytes * i)) ≡ true =
               subst (λ (υ : Transition). m (υ .out) ≡ true) f (ih (τ .out) (and-left _ _ d)) in
               let w : k ∈ nthTransition s i .args = subst (λ (υ : Transition). k ∈ υ .args) f
@@ -159,8 +152,8 @@ module _ (cl s : List ℕ) (n c : ℕ) (over : RunsOver s c n) where
 
   pub all-coaccessible-end : {m : List ℕ} → Exactly (coaccessible A) m →
       every (marked m) (upFrom 1 n) ≡ allCoaccessible A
-  all-coaccessible-end x =
-      every-same (upFrom 1 n) (x .each) ∙ ap (λ k. every (coaccessible A) (upFrom 1 k)) (sym (viewed-states cl s n c))
+  all-coaccessible-end {m} x =
+      every-same-in (marked m) (coaccessible A) (upFrom 1 n) (λ q _. x .each q) ∙ ap (λ k. every (coaccessible A) (upFrom 1 k)) (sym (viewed-states cl s n c))
 
   -- marks that are not closed are all there are where every state has one
   pub all-coaccessible-early : {m : List ℕ} {r : Bool} → Using A m → r ≡ every (marked m) (upFrom 1 n) → r ≡ true →
@@ -174,18 +167,18 @@ module _ (cl s : List ℕ) (n c : ℕ) (over : RunsOver s c n) where
   -- the transitions of the automaton into q, by index
   clear-grounded : (p : ℕ → Bool) (q : ℕ) → Clear s c p q → Grounded A p q
   clear-grounded p q f τ j o =
-      let (i, h, e) = in-transitionsIn s c τ j in
+      let (i, h, e) = transitionsIn-in s c τ j in
       subst (λ (υ : Transition). every p (υ .args) ≡ true) (sym e)
       (f i h (ap (λ (υ : Transition). υ .out) (sym e) ∙ o))
 
   grounded-clear : (p : ℕ → Bool) (q : ℕ) → Grounded A p q → Clear s c p q
-  grounded-clear p q g i h o = g (nthTransition s i) (transitionsIn-nth s c i h) o
+  grounded-clear p q g i h o = g (nthTransition s i) (in-transitionsIn s c i h) o
 
   pub returnless-ground : UpTo (Ground s c) n (returnless A)
   returnless-ground k h f =
       grounded-returnless A (viewed-ranged cl s n c over) (k + 1) (clear-grounded (returnless A) (k + 1) f)
 
-  pub acyclic-end : {m m' : List ℕ} {r : Bool} → Growing (returnless A) m → Spread (UpTo (Ground s c) n) m m' r →
+  pub acyclic-end : {m m' : List ℕ} {r : Bool} → Growing byteValues (returnless A) m → Spread (UpTo (Ground s c) n) m m' r →
       r ≡ false → every (marked m') (upFrom 1 n) ≡ acyclic A
   acyclic-end {m' = m'} g t e =
       ap (λ k. every (marked m') (upFrom 1 k)) (sym (viewed-states cl s n c))

@@ -1,6 +1,4 @@
-pub mod Spreading
 pub mod Arguments
-pub mod Views
 pub mod Passing
 pub mod Sweeping
 pub mod Blocking

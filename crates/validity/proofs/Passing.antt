@@ -23,10 +23,10 @@ use Rattle.validity.specs.Rules.{Read, Spans}
 use Rattle.automata.proofs.NumberedPass.{Passed, broken-numbered, firstOpen-kept, passed-broken, passed-low}
 use Rattle.automata.proofs.NumberedPass.{passed-next, passed-none, passed-numbered, top}
 use Rattle.fields.proofs.Transitions.{transitionsIn-suc}
-use Rattle.lists.proofs.Loops.{every-at}
+use Rattle.lists.proofs.Intervals.{every-at}
 use Rattle.marking.proofs.Sweeps.{nonzero-true}
-use Rattle.validity.proofs.Spreading.{unmarked}
-use Rattle.validity.proofs.Views.{viewed-states}
+use Rattle.marking.proofs.Spreading.{unmarked}
+use Rattle.fields.proofs.Views.{viewed-states}
 
 -- a test of an interval that fails, fails at a number
 pub every-fails : (p : ℕ → Bool) (k n : ℕ) → every p (upFrom k n) ≡ false →

@@ -16,7 +16,7 @@ use Rattle.table.specs.Layout.{outOf, transitionAt, transitionsIn}
 use Rattle.automata.proofs.Leads.{Feeds, Leads, acyclic-iff, more, once}
 use Rattle.lists.proofs.Tests.{every-in}
 use Rattle.validity.specs.Ranks.{rankOf, risesBy}
-use Rattle.validity.proofs.Views.{viewed-ranged}
+use Rattle.fields.proofs.Views.{viewed-ranged}
 
 -- an answer about the arguments, for a bound that is the output's rank, is the answer about the transition
 pub rises-at : (m s : List ℕ) (at : ℕ) {o : ℕ} {r x : Bool} → o ≡ outOf s at →

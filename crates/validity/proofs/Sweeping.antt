@@ -6,17 +6,20 @@ use Prim.Native.Nat.{_+_, _<_, _≤_, suc, zero, ℕ}
 use native.Mathlib.Omega.{arith}
 use lib.Dec.{eqb, ltb}
 use lib.ListN.{length, set}
-use lib.Seq.{getD-set-other, getD-set-same}
-use borrow.Author.Tests.{eqb-false, eqb-true, ltb-false, ltb-true}
+use lib.Seq.{getD-set-other}
+use borrow.Author.Tests.{ltb-false, ltb-true}
 use Rattle.automata.specs.Automaton.{Automaton, accepting}
-use Rattle.lists.specs.Tests.{every}
-use Rattle.marking.specs.Marks.{bit, marked, nonzero}
+use Rattle.lists.specs.Tests.{bit, every}
+use Rattle.marking.specs.Marks.{marked, nonzero}
 use Rattle.table.specs.Layout.{argOf, outOf, transitionAt}
-use Rattle.validity.specs.Rules.{DownTo, Has, Up}
-use Rattle.validity.specs.Spread.{Exactly, Spread}
+use Rattle.marking.specs.Spread.{Has, Spread}
+use Rattle.validity.specs.Rules.{DownTo, Up}
+use Rattle.validity.specs.Spread.{Exactly}
 use Rattle.lists.proofs.Tests.{every-in, in-every}
-use Rattle.validity.proofs.Spreading.{spread-if, spread-mark}
+use Rattle.marking.proofs.Spreading.{spread-if, spread-mark}
+use Rattle.marking.proofs.Sweeps.{nonzero-bit}
 use Rattle.format.specs.Format.{byteValues}
+use Rattle.lists.proofs.Filling.{set-next-from}
 
 -- an implied test
 pub every-implied : {A : Type 0} (p q : A → Bool) (xs : List A) → ((x : A) → p x ≡ true → q x ≡ true) →
@@ -38,17 +41,8 @@ spread-down s at k e t = spread-if (λ p w d. d (w (outOf s at) e)) (λ h _. h) 
 -- entries up to q are as a test says
 pub filled-next : (f : ℕ → Bool) (m : List ℕ) (q v : ℕ) → q < length m → v ≡ bit (f q) →
     ((j : ℕ) → j < q → marked m j ≡ f j) → (j : ℕ) → j < q + 1 → marked (set m q v) j ≡ f j
-filled-next f m q v h e below j l = go (eqb j q) refl
-  where
-    value : (b : Bool) → nonzero (bit b) ≡ b
-    value true = refl
-    value false = refl
-
-    go : (b : Bool) → eqb j q ≡ b → marked (set m q v) j ≡ f j
-    go true d =
-        rw (eqb-true j q d) (ap nonzero (getD-set-same m q v 0 h ∙ e) ∙ value (f q))
-    go false d = let ne = eqb-false j q d in
-        ap nonzero (getD-set-other m q j v 0 ne) ∙ below j (omega arith)
+filled-next f m q v h e below j l =
+    set-next-from nonzero f 0 m q v h (ap nonzero e ∙ nonzero-bit (f q)) (λ i _ k. below i k) j (omega arith) l
 
 -- the entry of no state, which is not accepting
 pub filled-start : (A : Automaton) (m : List ℕ) → marked m 0 ≡ false → (j : ℕ) → j < 1 → marked m j ≡ accepting A j

@@ -9,12 +9,8 @@ use Rattle.format.specs.Format.{byteValues, transitionBytes}
 use Rattle.lists.specs.Tests.{every}
 use Rattle.marking.specs.Marks.{marked}
 use Rattle.table.specs.Layout.{argOf, arityOf, nthTransition, outOf, transitionAt, transitionsIn}
-use Rattle.validity.specs.Spread.{Rule, UpTo}
+use Rattle.marking.specs.Spread.{Rule, UpTo}
 use Rattle.automata.proofs.NumberedPass.{Passed}
-
--- the state passes
-abbrev pub Has : ℕ → Rule
-Has q p = p q ≡ true
 
 -- ---- from arguments to output
 

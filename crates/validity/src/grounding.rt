@@ -9,7 +9,7 @@ ghost use Rattle.format.specs.Format.{byteValues, transitionBytes};
 ghost use Rattle.fields.specs.Fields.{Readable, Runs, RunsOver};
 ghost use Rattle.fields.specs.View.{viewed};
 ghost use Rattle.validity.specs.Rules.{Blocks, Ground, Unblocked};
-ghost use Rattle.validity.specs.Spread.{Spread, UpTo};
+ghost use Rattle.marking.specs.Spread.{Spread, UpTo};
 use crate::marks::all_marked;
 use crate::marks::args_marked;
 use crate::ranks::depth_first;

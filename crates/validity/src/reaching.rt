@@ -7,7 +7,7 @@ ghost use Rattle.automata.specs.Accessible.{allAccessible};
 ghost use Rattle.fields.specs.Fields.{Readable, Runs, RunsOver};
 ghost use Rattle.fields.specs.View.{viewed};
 ghost use Rattle.validity.specs.Rules.{Up, nthUp};
-ghost use Rattle.validity.specs.Spread.{Spread, UpTo};
+ghost use Rattle.marking.specs.Spread.{Spread, UpTo};
 ghost use Rattle.format.specs.Format.{byteValues};
 use crate::marks::all_marked;
 use crate::marks::args_marked;

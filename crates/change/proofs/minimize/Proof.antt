@@ -1,5 +1,5 @@
 use native.Mathlib.Omega.{arith}
-use Rattle.minimize.proofs.Quotient.{viewed-states}
+use Rattle.fields.proofs.Views.{viewed-states}
 use borrow.Author.Needs.{needs}
 use Rattle.change.proofs.minimize.Statement.{statement}
 use Rattle.change.proofs.minimize.Tie as tie

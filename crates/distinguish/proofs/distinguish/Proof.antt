@@ -5,17 +5,18 @@ use Prim.Native.Nat.{_-_}
 use lib.ListN.{length}
 use Rattle.automata.specs.Order.{rising}
 use Rattle.fields.specs.View.{Viewed}
+use Rattle.format.specs.Format.{bytePairs}
 use Rattle.marking.specs.Marks.{marks as marksOf}
 use Rattle.table.specs.Layout.{transitionsIn}
-use Rattle.validity.proofs.Spreading.{growing-closed, growing-less}
-use Rattle.distinguish.proofs.Marking.{Grown, grown-led, grown-more, grown-none}
+use Rattle.marking.proofs.Spreading.{Growing, growing-closed, growing-led, growing-less, growing-more}
+use Rattle.distinguish.proofs.Marking.{growing-unmarked}
 use Rattle.distinguish.proofs.Closing.{Seeded, marks-of, told, told-closed, told-seeds}
 use Rattle.distinguish.proofs.distinguish.Statement.{statement}
 use Rattle.distinguish.proofs.distinguish.Tie as tie
 
 abbrev Inv-loop : tie.InvT-loop
 Inv-loop classes run count n marks₀ marks =
-    (v : Viewed classes run n count) (r : rising (transitionsIn run count) ≡ true) → Grown (told classes run n count
+    (v : Viewed classes run n count) (r : rising (transitionsIn run count) ≡ true) → Growing bytePairs (told classes run n count
     v r) marks
 
 abbrev μ-loop : tie.MeasureT-loop
@@ -23,14 +24,14 @@ abbrev μ-loop : tie.MeasureT-loop
 
 abbrev Inv-loop2 : tie.InvT-loop2
 Inv-loop2 classes run count n marks₀ marks =
-    ((v : Viewed classes run n count) (r : rising (transitionsIn run count) ≡ true) → Grown (told classes run n
+    ((v : Viewed classes run n count) (r : rising (transitionsIn run count) ≡ true) → Growing bytePairs (told classes run n
     count v r) marks) × Seeded classes n marks
 
 abbrev μ-loop2 : tie.MeasureT-loop2
 μ-loop2 classes run count n marks₀ marks = length marks - marksOf marks
 
 loop-holds : tie.Need-loop-holds Inv-loop μ-loop Inv-loop2 μ-loop2
-loop-holds c = λ v r. grown-none (c .before .before .args .marks .now) (c .before .before .pre .1 .1)
+loop-holds c = λ v r. growing-unmarked (c .before .before .args .marks .now) (c .before .before .pre .1 .1)
 
 seed-all-requires : tie.Need-seed-all-requires Inv-loop μ-loop Inv-loop2 μ-loop2
 seed-all-requires c κs =
@@ -50,7 +51,7 @@ loop-again : tie.Need-loop-again Inv-loop μ-loop Inv-loop2 μ-loop2
 loop-again c =
     let at-loop = c .before .before .before in
     let start = at-loop .before .before .before in
-    λ v r. grown-more (told-seeds (start .args .classes .now) (start .args .run .now) (start .args .n)
+    λ v r. growing-more (told-seeds (start .args .classes .now) (start .args .run .now) (start .args .n)
     (start .args .count) v r) (at-loop .loop .inv v r) (c .before .seed-all .ensures)
 
 tell-in-order-requires : tie.Need-tell-in-order-requires Inv-loop μ-loop Inv-loop2 μ-loop2
@@ -76,8 +77,8 @@ loop2-holds c =
     let at-seed-all = at-if1 .before in
     let at-loop = at-seed-all .before .before in
     let start = at-loop .before .before .before in (
-      λ v r. grown-led (told-closed (start .args .classes .now) (start .args .run .now) (start .args .n)
-          (start .args .count) v r) (grown-more (told-seeds (start .args .classes .now) (start .args .run .now)
+      λ v r. growing-led (told-closed (start .args .classes .now) (start .args .run .now) (start .args .n)
+          (start .args .count) v r) (growing-more (told-seeds (start .args .classes .now) (start .args .run .now)
           (start .args .n) (start .args .count) v r) (at-loop .loop .inv v r) (at-seed-all .seed-all .ensures)) (c
           .tell-in-order .ensures),
       λ p q h l e. (c .tell-in-order) .ensures .kept _ (growing-closed (at-seed-all
@@ -105,7 +106,7 @@ loop2-again : tie.Need-loop2-again Inv-loop μ-loop Inv-loop2 μ-loop2
 loop2-again c =
     let at-loop2 = c .before .before .before in
     let start = at-loop2 .before .before .before .before .before .before .before .before .before in (
-      λ v r. grown-more (told-closed (start .args .classes .now) (start .args .run .now) (start .args .n)
+      λ v r. growing-more (told-closed (start .args .classes .now) (start .args .run .now) (start .args .n)
           (start .args .count) v r) (at-loop2 .loop2 .inv .0 v r) (c .before .sweep .ensures),
       λ p q h l e. (c
           .before .sweep) .ensures .swept .kept _ (at-loop2 .loop2 .inv .1 p q h l e),
@@ -116,7 +117,7 @@ returns c =
     let at-loop2 = c .before .before .before in
     let start = at-loop2 .before .before .before .before .before .before .before .before .before in
     marks-of (start .args .classes .now) (start .args .run .now) (start .args .n) (start .args .count)
-    (start .pre .0) (start .pre .1 .0) (grown-more (told-closed (start .args .classes .now) (start .args .run
+    (start .pre .0) (start .pre .1 .0) (growing-more (told-closed (start .args .classes .now) (start .args .run
     .now) (start .args .n) (start .args .count) (start .pre .0) (start .pre .1 .0)) (at-loop2 .loop2 .inv
     .0 (start .pre .0) (start .pre .1 .0)) (c .before .sweep .ensures) .within) (λ p q h l e. (c .before .sweep)
     .ensures .swept .kept _ (at-loop2 .loop2 .inv .1 p q h l e)) (growing-closed (c .before .sweep .ensures) (c

@@ -7,8 +7,8 @@ use Prim.Native.Nat.{_*_, _+_, _<_, ℕ}
 use native.Mathlib.Omega.{arith}
 use lib.ListN.{length}
 use Rattle.listing.proofs.Reader.{children-bad, children-bad-later, children-good, children-none}
-use Rattle.listing.proofs.Reader.{first-some, first-within, part-length, part-within}
-use Rattle.listing.proofs.Reader.{tree-bad, tree-good, tree-short}
+use Rattle.listing.proofs.Reader.{first-some, first-within, part-within, tree-bad, tree-good, tree-short}
+use Rattle.lists.proofs.Parts.{part-length}
 use Rattle.listing.proofs.children.Reads as children
 use Rattle.listing.proofs.children.Kinds as children-kinds
 use Rattle.listing.proofs.+children+tree.Lts-children as children-lts

@@ -4,8 +4,9 @@ use borrow.Author.Tests.{eq-eqb, ne-eqb}
 use mathlib.Core.Bool.{not}
 use mathlib.Core.Path.{ap}
 use Prim.Native.Nat.{_-_}
+use native.Mathlib.Nat.{zero-add}
 use Rattle.trees.specs.Listing.{allLabelled, labelled, nodesIn}
-use Rattle.listing.proofs.Checks.{EveryFrom, every-begin, every-fails, every-holds, every-next}
+use Rattle.lists.proofs.Loops.{EveryFrom, every-broken, every-end, every-next, every-start}
 use Rattle.listing.proofs.all_labelled.Statement.{statement}
 use Rattle.listing.proofs.all_labelled.Tie as tie
 
@@ -17,7 +18,7 @@ abbrev μ-loop : tie.MeasureT-loop
 
 loop-holds : tie.Need-loop-holds Inv-loop μ-loop
 unfolding allLabelled
-loop-holds c = every-begin
+loop-holds c = every-start _ (zero-add _)
 
 mul-if1 : tie.Need-mul-if1 Inv-loop μ-loop
 mul-if1 c = search needs
@@ -28,7 +29,7 @@ shared-slice-read-if1 c = search needs
 returns : tie.Need-returns Inv-loop μ-loop
 returns c =
     let turn = c .before .before .before .loop in
-    every-fails (turn .inv) (c .before .before .loop-test .taken) (ap not (eq-eqb _ 0 (c .if1 .taken)))
+    every-broken (turn .inv) (c .before .before .loop-test .taken) (ap not (eq-eqb _ 0 (c .if1 .taken)))
 
 add-i : tie.Need-add-i Inv-loop μ-loop
 add-i c = search needs
@@ -42,7 +43,7 @@ loop-again c =
     every-next (turn .inv) (c .before .before .loop-test .taken) (ap not (ne-eqb _ 0 (c .if1 .left)))
 
 returns-2 : tie.Need-returns-2 Inv-loop μ-loop
-returns-2 c = every-holds (c .before .loop .inv) (c .loop-test .left)
+returns-2 c = every-end (c .before .loop .inv) (c .loop-test .left)
 
 pub all-labelled-spec : {M : Type 1} → statement M
 all-labelled-spec =

@@ -2,10 +2,11 @@
 use borrow.Author.Needs.{needs}
 use borrow.Author.Tests.{le-leb, lt-leb}
 use Prim.Native.Nat.{_-_}
+use native.Mathlib.Nat.{zero-add}
 use native.Mathlib.Omega.{arith}
 use Rattle.format.specs.Format.{maxArity}
 use Rattle.trees.specs.Listing.{allNarrow, childrenAt, narrow, nodesIn}
-use Rattle.listing.proofs.Checks.{EveryFrom, every-begin, every-fails, every-holds, every-next}
+use Rattle.lists.proofs.Loops.{EveryFrom, every-broken, every-end, every-next, every-start}
 use Rattle.listing.proofs.all_narrow.Statement.{statement}
 use Rattle.listing.proofs.all_narrow.Tie as tie
 
@@ -17,7 +18,7 @@ abbrev μ-loop : tie.MeasureT-loop
 
 loop-holds : tie.Need-loop-holds Inv-loop μ-loop
 unfolding allNarrow
-loop-holds c = every-begin
+loop-holds c = every-start _ (zero-add _)
 
 mul-wide : tie.Need-mul-wide Inv-loop μ-loop
 mul-wide c = search needs
@@ -36,7 +37,7 @@ returns c =
     let turn = c .before .before .before .before in
     let k = childrenAt (turn .before .before .args .s .now) (turn .loop .i) in
     let more = c .before .before .before .loop-test .taken in
-    every-fails (turn .loop .inv) more (lt-leb k maxArity (omega arith))
+    every-broken (turn .loop .inv) more (lt-leb k maxArity (omega arith))
 
 add-i : tie.Need-add-i Inv-loop μ-loop
 add-i c = search needs
@@ -52,7 +53,7 @@ loop-again c =
     every-next (turn .loop .inv) more (le-leb k maxArity (omega arith))
 
 returns-2 : tie.Need-returns-2 Inv-loop μ-loop
-returns-2 c = every-holds (c .before .loop .inv) (c .loop-test .left)
+returns-2 c = every-end (c .before .loop .inv) (c .loop-test .left)
 
 pub all-narrow-spec : {M : Type 1} → statement M
 all-narrow-spec =

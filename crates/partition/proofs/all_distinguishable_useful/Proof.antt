@@ -7,7 +7,7 @@ use Rattle.fingerprints.specs.Fingerprints.{Sound, allDiffer, printOf}
 use Rattle.fingerprints.proofs.Told.{all-differ-told, all-useful, sound-start}
 use Rattle.fingerprints.proofs.OneRound.{one-round}
 use Rattle.partition.proofs.Congruence.{parts-exact}
-use Rattle.validity.proofs.Views.{viewed-ranged, viewed-states}
+use Rattle.fields.proofs.Views.{viewed-ranged, viewed-states}
 use borrow.Author.Needs.{needs}
 use Rattle.partition.proofs.all_distinguishable_useful.Statement.{statement}
 use Rattle.partition.proofs.all_distinguishable_useful.Tie as tie

@@ -1,6 +1,6 @@
 use mathlib.Core.Bool.{true}
 use mathlib.Core.Path.{_∙_}
-use Rattle.distinguish.proofs.Marking.{grown-none}
+use Rattle.distinguish.proofs.Marking.{growing-unmarked}
 use borrow.Author.Needs.{needs}
 use Rattle.partition.proofs.distinguish.Statement.{statement}
 use Rattle.partition.proofs.distinguish.Tie as tie
@@ -11,7 +11,7 @@ told-by-parts-requires c κs =
       start .pre .0,
       (
         start .pre .1 .0,
-        grown-none {p = λ i. true} (start .args .marks .now) (start .pre .1 .1)
+        growing-unmarked {p = λ i. true} (start .args .marks .now) (start .pre .1 .1)
             .size,
       ),
     )

@@ -2,7 +2,7 @@ use Rattle.fields.specs.View.{viewed}
 use Rattle.fingerprints.specs.Fingerprints.{printOf}
 use Rattle.partition.specs.Parts.{Fingerprinted}
 use Rattle.partition.proofs.Congruence.{fingerprinted}
-use Rattle.validity.proofs.Views.{viewed-ranged}
+use Rattle.fields.proofs.Views.{viewed-ranged}
 use borrow.Author.Needs.{needs}
 use Rattle.partition.proofs.rounds.Statement.{statement}
 use Rattle.partition.proofs.rounds.Tie as tie

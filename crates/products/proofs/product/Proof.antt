@@ -4,7 +4,7 @@ use mathlib.Core.Path.{_∙_, refl}
 use borrow.Author.Needs.{needs}
 use Rattle.products.proofs.Growing.{outcome-then, overflow-more}
 use Rattle.products.proofs.Joining.{Lost, answers, too-many}
-use Rattle.products.proofs.Spreading.{no-marks}
+use Rattle.marking.proofs.Spreading.{unmarked}
 use Rattle.products.proofs.product.Statement.{statement}
 use Rattle.products.proofs.product.Tie as tie
 
@@ -74,7 +74,7 @@ returns c =
     .before .before .before .list-nodes in
     let reach-call = c .before .before .before .before .before .before .before .before .before .reach in
     let expand-all-call = c .before .before .before .before .expand-all in
-    λ A t H. too-many H (start .pre .0) (list-nodes-call .ensures) (no-marks 256) (reach-call .ensures)
+    λ A t H. too-many H (start .pre .0) (list-nodes-call .ensures) (unmarked 256) (reach-call .ensures)
     (overflow-more (λ τ w. inl w) (expand-all-call .ensures .over (c .enum-told .given .1)))
 
 expand-lost-requires : tie.Need-expand-lost-requires
@@ -105,7 +105,7 @@ returns-2 c =
     .before .before .expand-all in
     let made = c .before .before .before .before .before .before .before .before .before .made in
     let expand-lost-call = c .before .before .expand-lost in
-    λ A t H. answers H (start .pre .0) (list-nodes-call .ensures) (no-marks 256) (reach-call .ensures) (start .pre
+    λ A t H. answers H (start .pre .0) (list-nodes-call .ensures) (unmarked 256) (reach-call .ensures) (start .pre
     .1 .1 .1) (expand-lost-call .result) (outcome-then (expand-all-call .ensures .done (made .given .0 .0) (made
     .given .1)) (Lost (start .args .n) (start .args .s)) (expand-lost-call .ensures))
 

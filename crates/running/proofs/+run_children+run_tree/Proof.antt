@@ -8,7 +8,7 @@ use borrow.Author.Needs.{needs}
 use borrow.Fn.Kinds.{In}
 use borrow.Fn.PlainCycle.{Measures, and, falls, is}
 use Rattle.format.specs.Format.{labelBytes, maxNodes, nodeBytes}
-use Rattle.listing.proofs.Reader.{part-length}
+use Rattle.lists.proofs.Parts.{part-length}
 use Rattle.running.proofs.+run_children+run_tree.{statement}
 use Rattle.running.proofs.+run_children+run_tree.Tie.{close}
 use Rattle.running.proofs.Ahead.{children-ahead, first-ahead, first-some, first-within, others-ahead}

@@ -2,10 +2,11 @@
 use borrow.Author.Needs.{needs}
 use Prim.Native.Nat.{_-_, _≤_}
 use native.Mathlib.Omega.{arith}
-use Rattle.subtrees.specs.Steps.{Filled, byteFrom}
+use Rattle.subtrees.specs.Steps.{Filled}
 use Rattle.subtrees.proofs.Arrays.{filled-end, filled-next, filled-start}
 use Rattle.subtrees.proofs.popped.Statement.{statement}
 use Rattle.subtrees.proofs.popped.Tie as tie
+use Rattle.lists.specs.Positions.{byteFrom}
 
 abbrev Inv-loop : tie.InvT-loop
 Inv-loop stack top arity numbers₀ k₀ numbers k = (k ≤ arity) × Filled (byteFrom stack top) k numbers

@@ -6,7 +6,7 @@ use borrow.Author.Needs.{needs}
 use Rattle.text.proofs.Heads.{length-blank}
 use Rattle.text.proofs.Lines.{form-closed, form-headless, form-refused, form-refused-fits, form-tree-fits}
 use Rattle.text.proofs.Lines.{form-tree-inside, head-inside}
-use Rattle.text.proofs.Readers.{part-length}
+use Rattle.lists.proofs.Parts.{part-length}
 use Rattle.text.proofs.read_form.Statement.{statement}
 use Rattle.text.proofs.read_form.Tie as tie
 

@@ -2,7 +2,7 @@ use native.Mathlib.Omega.{arith}
 use lib.ListN.{length}
 use mathlib.Core.Path.{_≡_, _∙_, refl}
 use Prim.Native.Nat.{_-_, _≤_}
-use Rattle.distinguish.proofs.Marking.{led-then}
+use Rattle.marking.proofs.Spreading.{led-then}
 use borrow.Author.Needs.{needs}
 use Rattle.distinguish.proofs.ordering.tell_in_order.Statement.{statement}
 use Rattle.distinguish.proofs.ordering.tell_in_order.Tie as tie

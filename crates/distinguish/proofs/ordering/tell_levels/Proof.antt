@@ -1,9 +1,9 @@
 use native.Mathlib.Omega.{arith}
 use mathlib.Core.Path.{_∙_}
 use Prim.Native.Nat.{_-_, _≤_}
-use Rattle.distinguish.specs.Telling.{Led, nthTell}
-use Rattle.distinguish.proofs.Marking.{led-none, led-then}
-use Rattle.validity.specs.Spread.{UpTo}
+use Rattle.marking.specs.Spread.{Led, UpTo}
+use Rattle.distinguish.specs.Telling.{nthTell}
+use Rattle.marking.proofs.Spreading.{led-none, led-then}
 use borrow.Author.Needs.{needs}
 use Rattle.distinguish.proofs.ordering.tell_levels.Statement.{statement}
 use Rattle.distinguish.proofs.ordering.tell_levels.Tie as tie

@@ -1,5 +1,5 @@
 use native.Mathlib.Omega.{arith}
-use Rattle.distinguish.proofs.Marking.{led-none, led-spread}
+use Rattle.marking.proofs.Spreading.{led-none, led-spread}
 use borrow.Author.Needs.{needs}
 use Rattle.distinguish.proofs.ordering.tell_there.Statement.{statement}
 use Rattle.distinguish.proofs.ordering.tell_there.Tie as tie

@@ -1,7 +1,7 @@
 use native.Mathlib.Omega.{arith}
 use mathlib.Core.List.{[]}
 use mathlib.Core.Path.{sym}
-use Rattle.validity.proofs.Views.{viewed-class}
+use Rattle.fields.proofs.Views.{viewed-class}
 use borrow.Author.Needs.{needs}
 use Rattle.distinguish.proofs.seeds.class_of.Statement.{statement}
 use Rattle.distinguish.proofs.seeds.class_of.Tie as tie

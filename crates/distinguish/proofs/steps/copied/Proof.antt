@@ -1,21 +1,21 @@
+use Prim.Native.Nat.{_-_}
 use native.Mathlib.Omega.{arith}
-use mathlib.Core.Path.{_≡_, _∙_}
-use Prim.Native.Nat.{ℕ, _+_, _-_, _<_, _≤_}
-use lib.ListN.{getD, length, length-set}
-use Rattle.distinguish.proofs.Marking.{copied-next}
+use mathlib.Core.Path.{refl}
+use Rattle.format.specs.Format.{transitionBytes}
+use Rattle.lists.specs.Positions.{byteFrom}
+use Rattle.lists.proofs.Filling.{FilledTo, filled-next, filled-start}
 use borrow.Author.Needs.{needs}
 use Rattle.distinguish.proofs.steps.copied.Statement.{statement}
 use Rattle.distinguish.proofs.steps.copied.Tie as tie
 
 abbrev Inv-loop : tie.InvT-loop
-Inv-loop run at entry₀ j₀ entry j =
-    (j ≤ 11) × (length entry ≡ 11) × ((i : ℕ) → i < j → getD entry i 0 ≡ getD run (at + i) 0)
+Inv-loop run at entry₀ j₀ entry j = FilledTo transitionBytes (byteFrom run at) entry j
 
 abbrev μ-loop : tie.MeasureT-loop
 μ-loop run at entry₀ j₀ entry j = 11 - j
 
 loop-holds : tie.Need-loop-holds Inv-loop μ-loop
-loop-holds c = search needs
+loop-holds c = filled-start refl
 
 add-entry : tie.Need-add-entry Inv-loop μ-loop
 add-entry c = search needs
@@ -33,21 +33,11 @@ loop-less : tie.Need-loop-less Inv-loop μ-loop
 loop-less c = search needs
 
 loop-again : tie.Need-loop-again Inv-loop μ-loop
-loop-again c =
-    let at-loop = c .before .before in
-    let start = at-loop .before in (
-      omega arith,
-      (length-set (at-loop .loop .entry) (at-loop .loop .j) _ ∙ at-loop .loop .inv .1),
-      copied-next
-          (start .args .run .now) (start .args .at) (at-loop .loop .entry) (at-loop .loop .j) (omega (
-            arith,
-            at-loop
-                .loop .inv .1,
-          )) (at-loop .loop .inv .2),
-    )
+loop-again c = filled-next (c .before .before .loop .inv) (c .before .loop-test .taken) refl
 
 returns : tie.Need-returns Inv-loop μ-loop
-returns c = record { size = c .before .loop .inv .1; bytes = λ i h. (c .before .loop) .inv .2 i (omega arith) }
+returns c = let loop = c .before .loop in
+    record { size = loop .inv .size; bytes = λ i h. loop .inv .same i (omega (arith, c .loop-test .left)) }
 
 pub copied-spec : {M : Type 1} → statement M
 copied-spec =

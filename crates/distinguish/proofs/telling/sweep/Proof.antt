@@ -2,8 +2,8 @@ use native.Mathlib.Omega.{arith}
 use mathlib.Core.Path.{_≡_, _∙_}
 use Prim.Native.Nat.{_-_, _≤_}
 use Rattle.distinguish.specs.Telling.{nthTell}
-use Rattle.validity.specs.Spread.{Spread, UpTo, fromLast}
-use Rattle.validity.proofs.Spreading.{spread-back, spread-begin, spread-next}
+use Rattle.marking.specs.Spread.{Spread, UpTo, fromLast}
+use Rattle.marking.proofs.Spreading.{spread-back, spread-begin, spread-next}
 use borrow.Author.Needs.{needs}
 use Rattle.distinguish.proofs.telling.sweep.Statement.{statement}
 use Rattle.distinguish.proofs.telling.sweep.Tie as tie

@@ -2,8 +2,8 @@ use native.Mathlib.Omega.{arith}
 use mathlib.Core.Path.{_≡_, _∙_}
 use Prim.Native.Nat.{_%_, _*_, _+_, _-_, _≤_}
 use Rattle.distinguish.specs.Telling.{Tell}
-use Rattle.validity.specs.Spread.{Spread, UpTo}
-use Rattle.validity.proofs.Spreading.{spread-begin, spread-next}
+use Rattle.marking.specs.Spread.{Spread, UpTo}
+use Rattle.marking.proofs.Spreading.{spread-begin, spread-next}
 use borrow.Author.Needs.{needs}
 use Rattle.distinguish.proofs.telling.tell_arg.Statement.{statement}
 use Rattle.distinguish.proofs.telling.tell_arg.Tie as tie

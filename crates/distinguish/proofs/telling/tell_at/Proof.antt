@@ -4,8 +4,8 @@ use mathlib.Core.Path.{_≡_, _∙_, ap}
 use Prim.Native.Nat.{_*_, _+_, _-_, _≤_, ℕ}
 use Rattle.distinguish.specs.Telling.{TellArg}
 use Rattle.table.specs.Layout.{arityOf}
-use Rattle.validity.specs.Spread.{Spread, UpTo}
-use Rattle.validity.proofs.Spreading.{spread-begin, spread-next}
+use Rattle.marking.specs.Spread.{Spread, UpTo}
+use Rattle.marking.proofs.Spreading.{spread-begin, spread-next}
 use borrow.Author.Needs.{needs}
 use Rattle.distinguish.proofs.telling.tell_at.Statement.{statement}
 use Rattle.distinguish.proofs.telling.tell_at.Tie as tie

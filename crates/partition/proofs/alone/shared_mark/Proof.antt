@@ -1,8 +1,8 @@
 use native.Mathlib.Omega.{arith}
 use mathlib.Core.Path.{_∙_, ap, sym}
 use Prim.Native.Nat.{_+_, _-_}
+use Rattle.lists.specs.Tests.{bit}
 use Rattle.lists.proofs.Loops.{AnyFrom, any-end, any-found, any-next, any-start}
-use Rattle.marking.specs.Marks.{bit}
 use Rattle.partition.specs.Parts.{besides, shared}
 use borrow.Author.Needs.{needs}
 use Rattle.partition.proofs.alone.shared_mark.Statement.{statement}

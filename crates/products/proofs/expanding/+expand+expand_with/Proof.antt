@@ -10,7 +10,7 @@ use borrow.Fn.PlainCycle.{Measures, and, falls, is}
 use Rattle.marking.specs.Marks.{marked}
 use Rattle.table.specs.Layout.{transitionsIn}
 use Rattle.products.specs.Choices.{ChosenWith, Over, candidate}
-use Rattle.products.specs.Growth.{Added, UpTo}
+use Rattle.products.specs.Growth.{Added, SomeBelow}
 use Rattle.products.proofs.Choosing.{over-all, over-last, over-many, over-next, over-no}
 use Rattle.products.proofs.Entries.{put-arity, put-entry}
 use Rattle.products.proofs.Growing.{added-begin, added-end, added-next, overflow-next, overflowed, returned}
@@ -48,7 +48,7 @@ expand-with-below t =
 
 abbrev expand-Inv-loop : expand-lts.InvT-loop
 expand-Inv-loop n m states nodes found marks k scratch₀ count entry made₀ x₀ scratch made x =
-    Added (UpTo (λ y. Over (ChosenWith (candidate (marked marks) states n) m entry k y) (transitionsIn nodes found)
+    Added (SomeBelow (λ y. Over (ChosenWith (candidate (marked marks) states n) m entry k y) (transitionsIn nodes found)
     entry) x) scratch₀ scratch count made × (x ≤ m + 1)
 
 abbrev expand-μ-loop : expand-lts.MeasureT-loop

@@ -6,7 +6,7 @@ use Rattle.marking.specs.Marks.{marked}
 use Rattle.table.specs.Layout.{nthTransition, transitionsIn}
 use Rattle.fields.proofs.Transitions.{readable}
 use Rattle.products.specs.Choices.{candidate, nthExpands}
-use Rattle.products.specs.Growth.{Added, UpTo}
+use Rattle.products.specs.Growth.{Added, SomeBelow}
 use Rattle.products.proofs.Choosing.{over-first}
 use Rattle.products.proofs.Entries.{copied-entry}
 use Rattle.products.proofs.Growing.{added-begin, added-end, added-next, live-none, overflow-next, overflowed}
@@ -16,7 +16,7 @@ use Rattle.products.proofs.expanding.expand_all.Tie as tie
 
 abbrev Inv-loop : tie.InvT-loop
 Inv-loop run count n m states nodes found marks scratch₀ made₀ i₀ scratch made i =
-    Added (UpTo (nthExpands run (candidate (marked marks) states n) m (transitionsIn nodes found)) i) scratch₀
+    Added (SomeBelow (nthExpands run (candidate (marked marks) states n) m (transitionsIn nodes found)) i) scratch₀
     scratch 0 made × (i ≤ count)
 
 abbrev μ-loop : tie.MeasureT-loop

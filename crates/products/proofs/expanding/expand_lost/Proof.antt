@@ -2,7 +2,7 @@
 use Prim.Native.Nat.{_-_, _≤_}
 use native.Mathlib.Omega.{arith}
 use borrow.Author.Needs.{needs}
-use Rattle.products.specs.Growth.{Added, UpTo}
+use Rattle.products.specs.Growth.{Added, SomeBelow}
 use Rattle.products.specs.Pairs.{LostAt}
 use Rattle.products.proofs.Growing.{added-begin, added-end, added-next, overflow-next, overflowed, returned}
 use Rattle.products.proofs.expanding.expand_lost.Statement.{statement}
@@ -10,7 +10,7 @@ use Rattle.products.proofs.expanding.expand_lost.Tie as tie
 
 abbrev Inv-loop : tie.InvT-loop
 Inv-loop n m labels arities children states scratch₀ count made₀ j₀ scratch made j =
-    Added (UpTo (LostAt n labels arities children states) j) scratch₀ scratch count made × (j ≤ m)
+    Added (SomeBelow (LostAt n labels arities children states) j) scratch₀ scratch count made × (j ≤ m)
 
 abbrev μ-loop : tie.MeasureT-loop
 μ-loop n m labels arities children states scratch₀ count made₀ j₀ scratch made j = m - j

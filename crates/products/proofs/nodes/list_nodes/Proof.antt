@@ -3,7 +3,7 @@ use mathlib.Core.Path.{_∙_, sym}
 use Prim.Native.Nat.{_-_, _≤_}
 use native.Mathlib.Omega.{arith}
 use borrow.Author.Needs.{needs}
-use Rattle.products.specs.Growth.{Added, UpTo}
+use Rattle.products.specs.Growth.{Added, SomeBelow}
 use Rattle.products.specs.Pairs.{NodeAt}
 use Rattle.products.proofs.Growing.{added-begin, added-end, added-next, added-same, live-none}
 use Rattle.products.proofs.nodes.list_nodes.Statement.{statement}
@@ -11,7 +11,7 @@ use Rattle.products.proofs.nodes.list_nodes.Tie as tie
 
 abbrev Inv-loop : tie.InvT-loop
 Inv-loop n m labels arities children run₀ count₀ j₀ run count j =
-    Added (UpTo (NodeAt n labels arities children) j) run₀ run 0 count × ((count ≤ j) × (j ≤ m))
+    Added (SomeBelow (NodeAt n labels arities children) j) run₀ run 0 count × ((count ≤ j) × (j ≤ m))
 
 abbrev μ-loop : tie.MeasureT-loop
 μ-loop n m labels arities children run₀ count₀ j₀ run count j = m - j

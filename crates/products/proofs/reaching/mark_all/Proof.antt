@@ -1,20 +1,20 @@
 -- `products::reaching::mark_all` meets its contract: the transitions passed are the steps of the rule.
-use mathlib.Core.Bool.{true}
 use mathlib.Core.Path.{_∙_, _≡_}
 use Prim.Native.Nat.{_-_, _≤_}
 use native.Mathlib.Omega.{arith}
 use lib.ListN.{length}
 use borrow.Author.Needs.{needs}
-use Rattle.table.specs.Layout.{nthTransition, transitionsIn}
+use Rattle.table.specs.Layout.{transitionsIn}
 use Rattle.fields.proofs.Transitions.{readable}
-use Rattle.products.specs.Reached.{Each, Spread, nthReaches}
-use Rattle.products.proofs.Spreading.{all-reach, spread-begin, spread-end, spread-next}
+use Rattle.marking.specs.Spread.{Spread, UpTo}
+use Rattle.products.specs.Reached.{nthReaches}
+use Rattle.marking.proofs.Spreading.{spread-begin, spread-end, spread-next}
 use Rattle.products.proofs.reaching.mark_all.Statement.{statement}
 use Rattle.products.proofs.reaching.mark_all.Tie as tie
 
 abbrev Inv-loop : tie.InvT-loop
 Inv-loop run count n m states nodes found marks₀ changed₀ i₀ marks changed i =
-    Spread (Each (nthReaches run states n m (transitionsIn nodes found)) i) marks₀ marks changed × ((i ≤ count) ×
+    Spread (UpTo (nthReaches run states n m (transitionsIn nodes found)) i) marks₀ marks changed × ((i ≤ count) ×
     (length marks ≡ 256))
 
 abbrev μ-loop : tie.MeasureT-loop
@@ -25,7 +25,7 @@ loop-holds c =
     let start = c .before .before in
     let T = transitionsIn (start .args .nodes .now) (start .args .found) in (
       spread-begin (nthReaches (start .args .run .now) (start .args .states .now) (start .args .n) (start .args .m)
-          T) (start .args .marks .now),
+          T),
       (omega arith, start .pre .1 .1 .1 .1),
     )
 
@@ -61,10 +61,7 @@ loop-again c =
           (loop .i) (loop .inv .0) (c .mark .ensures),
       (
         omega arith,
-        c .mark .ensures .swept (λ j. true) (all-reach (start
-            .args .states .now) (start .args .n) (start .args .m) T (nthTransition (start .args .run .now) (loop
-            .i))) .size
-            ∙ loop .inv .1 .1,
+        c .mark .ensures .swept .size ∙ loop .inv .1 .1,
       ),
     )
 

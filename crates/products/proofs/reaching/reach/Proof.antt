@@ -4,15 +4,17 @@ use Prim.Native.Nat.{_-_}
 use lib.ListN.{length}
 use borrow.Author.Needs.{needs}
 use Rattle.marking.specs.Marks.{marks as marksOf}
-use Rattle.table.specs.Layout.{nthTransition, transitionsIn}
-use Rattle.products.specs.Reached.{Each, nthReaches}
-use Rattle.products.proofs.Spreading.{Rounds, all-reach, rounds-end, rounds-less, rounds-next, rounds-start}
+use Rattle.marking.specs.Spread.{Led, UpTo}
+use Rattle.table.specs.Layout.{transitionsIn}
+use Rattle.marking.proofs.Spreading.{growing-less, led-none, led-spread, led-then}
+use Rattle.products.specs.Reached.{nthReaches}
+use Rattle.products.proofs.Spreading.{rounds-end}
 use Rattle.products.proofs.reaching.reach.Statement.{statement}
 use Rattle.products.proofs.reaching.reach.Tie as tie
 
 abbrev Inv-loop : tie.InvT-loop
 Inv-loop run count n m states nodes found marks₀ marks =
-    Rounds (Each (nthReaches run states n m (transitionsIn nodes found)) count) marks₀ marks
+    Led (UpTo (nthReaches run states n m (transitionsIn nodes found)) count) marks₀ marks
 
 abbrev μ-loop : tie.MeasureT-loop
 μ-loop run count n m states nodes found marks₀ marks = length marks - marksOf marks
@@ -21,7 +23,7 @@ loop-holds : tie.Need-loop-holds Inv-loop μ-loop
 loop-holds c =
     let start = c .before .before in
     let T = transitionsIn (start .args .nodes .now) (start .args .found) in
-    rounds-start (Each (nthReaches (start .args .run .now) (start .args .states .now) (start .args .n) (start .args
+    led-none (UpTo (nthReaches (start .args .run .now) (start .args .states .now) (start .args .n) (start .args
     .m) T) (start .args .count)) (start .args .marks .now)
 
 mark-all-requires : tie.Need-mark-all-requires Inv-loop μ-loop
@@ -42,28 +44,13 @@ mark-all-requires c κs =
     )
 
 loop-less : tie.Need-loop-less Inv-loop μ-loop
-loop-less c =
-    let start = c .before .before .before .before .before .before in
-    let loop = c .before .before .before .loop in
-    let T = transitionsIn (start .args .nodes .now) (start .args .found) in
-    rounds-less (λ i h. all-reach (start .args .states .now) (start .args .n) (start .args .m) T (nthTransition
-    (start .args .run .now) i)) (loop .inv) (c .before .mark-all .ensures) (c .if1 .taken)
+loop-less c = growing-less (c .before .mark-all .ensures) (c .if1 .taken)
 
 loop-again : tie.Need-loop-again Inv-loop μ-loop
-loop-again c =
-    let start = c .before .before .before .before .before .before in
-    let loop = c .before .before .before .loop in
-    let T = transitionsIn (start .args .nodes .now) (start .args .found) in
-    rounds-next (λ i h. all-reach (start .args .states .now) (start .args .n) (start .args .m) T (nthTransition
-    (start .args .run .now) i)) (loop .inv) (c .before .mark-all .ensures)
+loop-again c = led-then (c .before .before .before .loop .inv) (led-spread (c .before .mark-all .ensures))
 
 returns : tie.Need-returns Inv-loop μ-loop
-returns c =
-    let start = c .before .before .before .before .before .before in
-    let loop = c .before .before .before .loop in
-    let T = transitionsIn (start .args .nodes .now) (start .args .found) in
-    rounds-end (λ i h. all-reach (start .args .states .now) (start .args .n) (start .args .m) T (nthTransition
-    (start .args .run .now) i)) (loop .inv) (c .before .mark-all .ensures) (c .if1 .left)
+returns c = rounds-end (c .before .before .before .loop .inv) (c .before .mark-all .ensures) (c .if1 .left)
 
 pub reach-spec : {M : Type 1} → statement M
 reach-spec =

@@ -1,19 +1,22 @@
 use native.Mathlib.Omega.{arith}
 use Prim.Native.Nat.{_-_}
-use Rattle.scalebench.proofs.Typed.{CopiedTo, copied-end, copied-next, copied-start}
-use mathlib.Core.Path.{_∙_, sym}
+use lib.ListN.{getD}
+use Rattle.format.specs.Format.{listingBytes}
+use Rattle.lists.proofs.Filling.{FilledTo, filled-next, filled-start}
+use Rattle.scalebench.proofs.Typed.{copied-end}
+use mathlib.Core.Path.{_∙_, refl, sym}
 use borrow.Author.Needs.{needs}
 use Rattle.scalebench.proofs.lines.copy.Statement.{statement}
 use Rattle.scalebench.proofs.lines.copy.Tie as tie
 
 abbrev Inv-loop : tie.InvT-loop
-Inv-loop from to₀ i₀ to i = CopiedTo from to i
+Inv-loop from to₀ i₀ to i = FilledTo listingBytes (λ j. getD from j 0) to i
 
 abbrev μ-loop : tie.MeasureT-loop
 μ-loop from to₀ i₀ to i = 252 - i
 
 loop-holds : tie.Need-loop-holds Inv-loop μ-loop
-loop-holds c = copied-start (c .pre .1)
+loop-holds c = filled-start (c .pre .1)
 
 element-copy-out-to : tie.Need-element-copy-out-to Inv-loop μ-loop
 element-copy-out-to c = search needs
@@ -28,13 +31,13 @@ loop-less : tie.Need-loop-less Inv-loop μ-loop
 loop-less c = omega arith
 
 loop-again : tie.Need-loop-again Inv-loop μ-loop
-loop-again c = copied-next (c .before .before .loop .inv) (omega arith)
+loop-again c = filled-next (c .before .before .loop .inv) (omega arith) refl
 
 same-length : tie.Need-same-length Inv-loop μ-loop
 same-length c = c .before .loop .inv .size ∙ sym (c .before .before .pre .1)
 
 returns : tie.Need-returns Inv-loop μ-loop
-returns c = copied-end (c .before .loop .inv) (omega arith) (c .before .before .pre .0)
+returns c = copied-end (c .before .before .args .from .now) (c .before .loop .inv) (omega arith) (c .before .before .pre .0)
 
 pub copy-spec : {M : Type 1} → statement M
 copy-spec =

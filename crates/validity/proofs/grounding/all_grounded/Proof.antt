@@ -7,15 +7,16 @@ use native.Mathlib.Omega.{arith}
 use lib.ListN.{length}
 use borrow.Author.Needs.{needs}
 use Rattle.fields.specs.View.{viewed}
+use Rattle.format.specs.Format.{byteValues}
 use Rattle.marking.specs.Marks.{marks as marksOf}
 use Rattle.automata.proofs.Grounded.{returnless}
 use Rattle.validity.proofs.Fixpoints.{acyclic-end, returnless-ground}
-use Rattle.validity.proofs.Spreading.{Growing, growing-less, growing-more, growing-none}
+use Rattle.marking.proofs.Spreading.{Growing, growing-less, growing-more, growing-none}
 use Rattle.validity.proofs.grounding.all_grounded.Statement.{statement}
 use Rattle.validity.proofs.grounding.all_grounded.Tie as tie
 
 abbrev Inv-loop : tie.InvT-loop
-Inv-loop run count n marks₀ marks = (cl : List ℕ) → Growing (returnless (viewed cl run n count)) marks
+Inv-loop run count n marks₀ marks = (cl : List ℕ) → Growing byteValues (returnless (viewed cl run n count)) marks
 
 abbrev μ-loop : tie.MeasureT-loop
 μ-loop run count n marks₀ marks = length marks - marksOf marks

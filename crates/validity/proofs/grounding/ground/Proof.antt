@@ -5,7 +5,7 @@ use Prim.Native.Nat.{_+_}
 use native.Mathlib.Omega.{arith}
 use borrow.Author.Needs.{needs}
 use Rattle.marking.proofs.Sweeps.{nonzero-false, nonzero-true}
-use Rattle.validity.proofs.Spreading.{spread-mark, spread-none}
+use Rattle.marking.proofs.Spreading.{spread-mark, spread-none}
 use Rattle.validity.proofs.grounding.ground.Statement.{statement}
 use Rattle.validity.proofs.grounding.ground.Tie as tie
 

@@ -4,8 +4,8 @@ use Prim.Native.Nat.{_-_, _≤_}
 use native.Mathlib.Omega.{arith}
 use borrow.Author.Needs.{needs}
 use Rattle.validity.specs.Rules.{Unblocked}
-use Rattle.validity.specs.Spread.{Spread, UpTo}
-use Rattle.validity.proofs.Spreading.{spread-begin, spread-next}
+use Rattle.marking.specs.Spread.{Spread, UpTo}
+use Rattle.marking.proofs.Spreading.{spread-begin, spread-next}
 use Rattle.validity.proofs.grounding.ground_unblocked.Statement.{statement}
 use Rattle.validity.proofs.grounding.ground_unblocked.Tie as tie
 

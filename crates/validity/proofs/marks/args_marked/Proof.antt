@@ -1,21 +1,21 @@
 -- `validity::marks::args_marked` meets its contract: the answer is that of the arguments left.
-use mathlib.Core.Path.{_≡_}
+use mathlib.Core.Path.{_≡_, refl}
 use Prim.Native.Nat.{_-_}
 use native.Mathlib.Omega.{arith}
 use borrow.Author.Needs.{needs}
 use Rattle.lists.specs.Tests.{every}
 use Rattle.marking.specs.Marks.{marked}
-use Rattle.table.specs.Layout.{arityOf, transitionAt}
+use Rattle.table.specs.Layout.{argOf, arityOf, transitionAt}
+use Rattle.fields.proofs.Transitions.{args-every}
 use Rattle.lists.proofs.Loops.{EveryFrom, every-broken, every-end, every-next}
 use Rattle.marking.proofs.Sweeps.{nonzero-false, nonzero-true}
-use Rattle.validity.proofs.Arguments.{argPasses, args-start}
 use Rattle.validity.proofs.marks.args_marked.Statement.{statement}
 use Rattle.validity.proofs.marks.args_marked.Tie as tie
 
 abbrev Inv-loop : tie.InvT-loop
 Inv-loop run at marks arity k₀ k =
-    (arity ≡ arityOf run at) × EveryFrom (every (marked marks) (transitionAt run at .args)) (argPasses (marked marks) run at)
-    (arityOf run at) k
+    (arity ≡ arityOf run at) × EveryFrom (every (marked marks) (transitionAt run at .args))
+    (λ j. marked marks (argOf run at j)) (arityOf run at) k
 
 abbrev μ-loop : tie.MeasureT-loop
 μ-loop run at marks arity k₀ k = arity - k
@@ -26,7 +26,7 @@ arity-of-requires c κs = search needs
 loop-holds : tie.Need-loop-holds Inv-loop μ-loop
 loop-holds c =
     let start = c .before .before in
-    (c .arity-of .ensures, args-start (marked (start .args .marks .now)) (start .args .run .now) (start .args .at))
+    (c .arity-of .ensures, args-every (marked (start .args .marks .now)) (start .args .run .now) (start .args .at) refl)
 
 arg-of-requires : tie.Need-arg-of-requires Inv-loop μ-loop
 arg-of-requires c κs = search needs

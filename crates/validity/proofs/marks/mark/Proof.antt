@@ -2,7 +2,7 @@
 use native.Mathlib.Omega.{arith}
 use borrow.Author.Needs.{needs}
 use Rattle.marking.proofs.Sweeps.{nonzero-false, nonzero-true}
-use Rattle.validity.proofs.Spreading.{spread-mark, spread-none}
+use Rattle.marking.proofs.Spreading.{spread-mark, spread-none}
 use Rattle.validity.proofs.marks.mark.Statement.{statement}
 use Rattle.validity.proofs.marks.mark.Tie as tie
 

@@ -6,7 +6,7 @@ use native.Mathlib.Omega.{arith}
 use borrow.Author.Needs.{needs}
 use Rattle.marking.specs.Marks.{marked}
 use Rattle.marking.proofs.Sweeps.{nonzero-false}
-use Rattle.lists.proofs.Loops.{at-every}
+use Rattle.lists.proofs.Intervals.{at-every}
 use Rattle.validity.proofs.Passing.{every-missed, spanned}
 use Rattle.validity.proofs.numbering.all_seen.Statement.{statement}
 use Rattle.validity.proofs.numbering.all_seen.Tie as tie

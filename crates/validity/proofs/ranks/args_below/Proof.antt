@@ -1,22 +1,22 @@
 -- `validity::ranks::args_below` meets its contract: the answer is that of the arguments left.
-use mathlib.Core.Path.{_≡_}
+use mathlib.Core.Path.{_≡_, refl}
 use Prim.Native.Nat.{_-_}
 use native.Mathlib.Omega.{arith}
 use lib.Dec.{ltb}
 use borrow.Author.Tests.{le-ltb, lt-ltb}
 use borrow.Author.Needs.{needs}
 use Rattle.lists.specs.Tests.{every}
-use Rattle.table.specs.Layout.{arityOf, transitionAt}
+use Rattle.table.specs.Layout.{argOf, arityOf, transitionAt}
+use Rattle.fields.proofs.Transitions.{args-every}
 use Rattle.lists.proofs.Loops.{EveryFrom, every-broken, every-end, every-next}
 use Rattle.validity.specs.Ranks.{rankOf}
-use Rattle.validity.proofs.Arguments.{argPasses, args-start}
 use Rattle.validity.proofs.ranks.args_below.Statement.{statement}
 use Rattle.validity.proofs.ranks.args_below.Tie as tie
 
 abbrev Inv-loop : tie.InvT-loop
 Inv-loop run at ranks bound arity k₀ k =
     (arity ≡ arityOf run at) × EveryFrom (every (λ q. ltb (rankOf ranks q) bound) (transitionAt run at .args))
-    (argPasses (λ q. ltb (rankOf ranks q) bound) run at) (arityOf run at) k
+    (λ j. ltb (rankOf ranks (argOf run at j)) bound) (arityOf run at) k
 
 abbrev μ-loop : tie.MeasureT-loop
 μ-loop run at ranks bound arity k₀ k = arity - k
@@ -28,8 +28,8 @@ loop-holds : tie.Need-loop-holds Inv-loop μ-loop
 loop-holds c =
     let start = c .before .before in (
       c .arity-of .ensures,
-      args-start (λ q. ltb (rankOf (start .args .ranks .now) q) (start .args .bound))
-          (start .args .run .now) (start .args .at),
+      args-every (λ q. ltb (rankOf (start .args .ranks .now) q) (start .args .bound))
+          (start .args .run .now) (start .args .at) refl,
     )
 
 arg-of-requires : tie.Need-arg-of-requires Inv-loop μ-loop

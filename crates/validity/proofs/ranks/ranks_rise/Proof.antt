@@ -8,9 +8,8 @@ use Rattle.lists.specs.Tests.{every}
 use Rattle.format.specs.Format.{transitionBytes}
 use Rattle.table.specs.Layout.{nthTransition, transitionsIn}
 use Rattle.lists.proofs.Loops.{EveryFrom, every-broken, every-end, every-next}
-use Rattle.fields.proofs.Transitions.{readable}
+use Rattle.fields.proofs.Transitions.{readable, transitions-every}
 use Rattle.validity.specs.Ranks.{rankOf, risesBy}
-use Rattle.validity.proofs.Arguments.{transitions-start}
 use Rattle.validity.proofs.ranks.ranks_rise.Statement.{statement}
 use Rattle.validity.proofs.ranks.ranks_rise.Tie as tie
 
@@ -24,7 +23,7 @@ abbrev μ-loop : tie.MeasureT-loop
 
 loop-holds : tie.Need-loop-holds Inv-loop μ-loop
 loop-holds c =
-    transitions-start (risesBy (rankOf (c .before .args .ranks .now))) (c .before .args .run .now)
+    transitions-every (risesBy (rankOf (c .before .args .ranks .now))) (c .before .args .run .now)
     (c .before .args .count)
 
 mul-out-of : tie.Need-mul-out-of Inv-loop μ-loop

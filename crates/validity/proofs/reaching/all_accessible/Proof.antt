@@ -8,14 +8,15 @@ use lib.ListN.{length}
 use borrow.Author.Needs.{needs}
 use Rattle.automata.specs.Accessible.{accessible}
 use Rattle.fields.specs.View.{viewed}
+use Rattle.format.specs.Format.{byteValues}
 use Rattle.marking.specs.Marks.{marks as marksOf}
 use Rattle.validity.proofs.Fixpoints.{accessible-up, all-accessible-end}
-use Rattle.validity.proofs.Spreading.{Growing, growing-less, growing-more, growing-none}
+use Rattle.marking.proofs.Spreading.{Growing, growing-less, growing-more, growing-none}
 use Rattle.validity.proofs.reaching.all_accessible.Statement.{statement}
 use Rattle.validity.proofs.reaching.all_accessible.Tie as tie
 
 abbrev Inv-loop : tie.InvT-loop
-Inv-loop run count n marks₀ marks = (cl : List ℕ) → Growing (accessible (viewed cl run n count)) marks
+Inv-loop run count n marks₀ marks = (cl : List ℕ) → Growing byteValues (accessible (viewed cl run n count)) marks
 
 abbrev μ-loop : tie.MeasureT-loop
 μ-loop run count n marks₀ marks = length marks - marksOf marks

@@ -5,7 +5,7 @@ use native.Mathlib.Omega.{arith}
 use borrow.Author.Needs.{needs}
 use borrow.Author.Tests.{not-false, not-true}
 use Rattle.marking.proofs.Sweeps.{nonzero-false, nonzero-true}
-use Rattle.validity.proofs.Spreading.{spread-none}
+use Rattle.marking.proofs.Spreading.{spread-none}
 use Rattle.validity.proofs.Sweeping.{spread-up}
 use Rattle.validity.proofs.reaching.reach.Statement.{statement}
 use Rattle.validity.proofs.reaching.reach.Tie as tie

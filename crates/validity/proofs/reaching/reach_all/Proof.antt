@@ -4,9 +4,9 @@ use Prim.Native.Nat.{_-_, _≤_}
 use native.Mathlib.Omega.{arith}
 use borrow.Author.Needs.{needs}
 use Rattle.validity.specs.Rules.{nthUp}
-use Rattle.validity.specs.Spread.{Spread, UpTo}
+use Rattle.marking.specs.Spread.{Spread, UpTo}
 use Rattle.fields.proofs.Transitions.{readable}
-use Rattle.validity.proofs.Spreading.{spread-begin, spread-next}
+use Rattle.marking.proofs.Spreading.{spread-begin, spread-next}
 use Rattle.validity.proofs.reaching.reach_all.Statement.{statement}
 use Rattle.validity.proofs.reaching.reach_all.Tie as tie
 

@@ -10,9 +10,9 @@ use Rattle.automata.specs.Automaton.{accepting}
 use Rattle.fields.specs.View.{viewed}
 use Rattle.format.specs.Format.{byteValues}
 use Rattle.marking.specs.Marks.{marked}
-use Rattle.validity.proofs.Spreading.{unmarked}
+use Rattle.marking.proofs.Spreading.{unmarked}
 use Rattle.validity.proofs.Sweeping.{filled-above, filled-all, filled-next, filled-start}
-use Rattle.validity.proofs.Views.{viewed-beyond}
+use Rattle.fields.proofs.Views.{viewed-beyond}
 use Rattle.validity.proofs.usefulness.accepting_marks.Statement.{statement}
 use Rattle.validity.proofs.usefulness.accepting_marks.Tie as tie
 

@@ -4,8 +4,8 @@ use mathlib.Core.Path.{_∙_, ap, sym}
 use native.Mathlib.Omega.{arith}
 use borrow.Author.Tests.{eq-eqb, ne-eqb}
 use borrow.Author.Needs.{needs}
-use Rattle.marking.specs.Marks.{bit}
-use Rattle.validity.proofs.Views.{viewed-class}
+use Rattle.lists.specs.Tests.{bit}
+use Rattle.fields.proofs.Views.{viewed-class}
 use Rattle.validity.proofs.usefulness.class_mark.Statement.{statement}
 use Rattle.validity.proofs.usefulness.class_mark.Tie as tie
 

@@ -4,9 +4,9 @@ use Prim.Native.Nat.{_-_, _≤_}
 use native.Mathlib.Omega.{arith}
 use borrow.Author.Needs.{needs}
 use Rattle.validity.specs.Rules.{nthDown}
-use Rattle.validity.specs.Spread.{Spread, UpTo, fromLast}
+use Rattle.marking.specs.Spread.{Spread, UpTo, fromLast}
 use Rattle.fields.proofs.Transitions.{readable}
-use Rattle.validity.proofs.Spreading.{spread-back, spread-begin, spread-next}
+use Rattle.marking.proofs.Spreading.{spread-back, spread-begin, spread-next}
 use Rattle.validity.proofs.usefulness.use_all.Statement.{statement}
 use Rattle.validity.proofs.usefulness.use_all.Tie as tie
 

@@ -6,8 +6,8 @@ use native.Mathlib.Omega.{arith}
 use borrow.Author.Needs.{needs}
 use Rattle.table.specs.Layout.{arityOf, outOf}
 use Rattle.validity.specs.Rules.{DownTo}
-use Rattle.validity.specs.Spread.{Spread, UpTo}
-use Rattle.validity.proofs.Spreading.{spread-begin, spread-next}
+use Rattle.marking.specs.Spread.{Spread, UpTo}
+use Rattle.marking.proofs.Spreading.{spread-begin, spread-next}
 use Rattle.validity.proofs.Sweeping.{spread-down}
 use Rattle.validity.proofs.usefulness.use_args.Statement.{statement}
 use Rattle.validity.proofs.usefulness.use_args.Tie as tie

@@ -3,7 +3,7 @@ use mathlib.Core.Bool.{true≢false}
 use mathlib.Core.Path.{_∙_, sym}
 use borrow.Author.Needs.{needs}
 use Rattle.marking.proofs.Sweeps.{nonzero-false, nonzero-true}
-use Rattle.validity.proofs.Spreading.{spread-none}
+use Rattle.marking.proofs.Spreading.{spread-none}
 use Rattle.validity.proofs.usefulness.use_transition.Statement.{statement}
 use Rattle.validity.proofs.usefulness.use_transition.Tie as tie
 

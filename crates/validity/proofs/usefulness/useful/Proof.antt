@@ -6,7 +6,7 @@ use lib.ListN.{length}
 use Rattle.fields.specs.View.{viewed}
 use Rattle.marking.specs.Marks.{marks as marksOf}
 use Rattle.validity.proofs.Fixpoints.{Using, using-end, using-more, using-start}
-use Rattle.validity.proofs.Spreading.{growing-less}
+use Rattle.marking.proofs.Spreading.{growing-less}
 use Rattle.validity.proofs.usefulness.useful.Statement.{statement}
 use Rattle.validity.proofs.usefulness.useful.Tie as tie
 

@@ -1,34 +1,23 @@
--- The pairs that some context tells apart are closed under the rules, and closed marks have all of them.
-use mathlib.Core.Bool.{Bool, Bool·beq, false, false≢true, not, true}
+-- Telling states apart goes both ways, and 0 is not told apart from itself.
+use mathlib.Core.Bool.{Bool, Bool·beq, not, true}
 use mathlib.Core.Logic.{_⊎_, inl, inr}
-use mathlib.Core.Path.{_∙_, _≡_, ap, refl, subst}
-use Prim.Native.Nat.{_%_, _/_, _<_, suc, ℕ}
-use native.Mathlib.Omega.{arith}
+use mathlib.Core.Path.{_∙_, _≡_, ap, refl, subst, sym}
+use Prim.Native.Nat.{suc, ℕ}
 use Rattle.automata.specs.Automaton.{Automaton, accepting, states}
 use Rattle.automata.specs.Distinguishable.{distinguishable, distinguishablePairs, distinguishableRule, pairs, slots}
 use Rattle.automata.specs.Distinguishable.{stepSlot}
-use Rattle.distinguish.specs.Telling.{pairAt}
 use Rattle.lists.specs.Closure.{elem}
 use Rattle.lists.specs.Positions.{Pair, eqPair, upFrom}
 use Rattle.lists.specs.Tests.{_∈_, any}
+use Rattle.automata.proofs.Distinguishable.{differ, differs}
 use Rattle.automata.proofs.Steps.{step-zero}
 use Rattle.lists.proofs.Closure.{closed, closure-all}
 use Rattle.lists.proofs.Distinct.{grid-in}
 use Rattle.lists.proofs.Positions.{eqPair-same, eqPair-true, in-grid}
 use Rattle.lists.proofs.Tests.{any-in, in-any, or-cases, or-left, or-right}
 
-half : (x y : ℕ) → y < 256 → (pairAt x y / 256 ≡ x) × (pairAt x y % 256 ≡ y)
-half x y h = (omega arith, omega arith)
-
 differ-sym : (a b : Bool) → not (Bool·beq a b) ≡ true → not (Bool·beq b a) ≡ true
-differ-sym true true e = e
-differ-sym true false e = refl
-differ-sym false true e = refl
-differ-sym false false e = e
-
-differ-same : (a : Bool) → not (Bool·beq a a) ≡ true → ⊥
-differ-same true e = false≢true e
-differ-same false e = false≢true e
+differ-sym a b e = differs b a (λ q. differ a b e (sym q))
 
 module _ (A : Automaton) where
   -- telling apart goes both ways
@@ -72,8 +61,8 @@ module _ (A : Automaton) where
         where
           go : (not (Bool·beq (accepting A (k .0)) (accepting A (k .1))) ≡ true) ⊎
               (any (λ s. m (stepSlot A s (k .0), stepSlot A s (k .1))) (slots (A .transitions)) ≡ true) → ⊥
-          go (inl d) = differ-same (accepting A 0) (subst (λ (j : Pair). not (Bool·beq (accepting A (j .0))
-              (accepting A (j .1))) ≡ true) z d)
+          go (inl d) = differ (accepting A 0) (accepting A 0) (subst (λ (j : Pair). not (Bool·beq (accepting A (j .0))
+              (accepting A (j .1))) ≡ true) z d) refl
           go (inr d) =
               let (s, j, f) = any-in (λ s. m (stepSlot A s (k .0), stepSlot A s (k .1))) (slots (A .transitions)) d in
               let u : stepSlot A s 0 ≡ 0 = step-zero A (s .label) (s .before) (s .after) in

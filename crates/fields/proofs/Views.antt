@@ -8,17 +8,17 @@ use lib.Dec.{leb}
 use borrow.Author.Tests.{leb-false, leb-true}
 use Rattle.automata.specs.Automaton.{Automaton, Transition, accepting, states}
 use Rattle.automata.specs.Valid.{inRange, statesInRange}
 use Rattle.fields.specs.Fields.{RunsOver}
 use Rattle.fields.specs.View.{viewed}
 use Rattle.format.specs.Format.{transitionBytes}
 use Rattle.lists.specs.Tests.{_∈_, every}
 use Rattle.table.specs.Layout.{argOf, arityOf, classAt, nthTransition, outOf, transitionsIn}
 use Rattle.automata.proofs.Valid.{range-in}
-use Rattle.fields.proofs.Transitions.{in-args, in-transitionsIn}
-use Rattle.lists.proofs.Intervals.{length-tabulated}
-use Rattle.lists.proofs.Loops.{tabulated-at}
+use Rattle.fields.proofs.Transitions.{in-args}
+use Rattle.lists.proofs.Intervals.{getD-tabulated, length-tabulated}
 use Rattle.lists.proofs.Tests.{and-both, in-every}
 use Rattle.table.proofs.Limits.{accepting-beyond}
+use Rattle.table.proofs.Decoded.{transitionsIn-in}
 
 module _ (cl s : List ℕ) (n c : ℕ) where
   pub viewed-states : states (viewed cl s n c) ≡ n
@@ -32,7 +32,7 @@ module _ (cl s : List ℕ) (n c : ℕ) where
   pub viewed-class : (q : ℕ) → 1 ≤ q → q ≤ n → accepting (viewed cl s n c) q ≡ classAt cl q
   viewed-class zero h l = absurd (omega arith)
   viewed-class (suc q) h l = let e : 1 + q ≡ suc q = omega arith in
-      tabulated-at (classAt cl) 1 n q false (omega arith) ∙ ap (classAt cl) e
+      getD-tabulated (classAt cl) 1 n q false (omega arith) ∙ ap (classAt cl) e
 
   pub viewed-beyond : (q : ℕ) → n < q → accepting (viewed cl s n c) q ≡ false
   viewed-beyond q h = accepting-beyond (viewed cl s n c) q (omega (arith, viewed-states))
@@ -56,7 +56,7 @@ module _ (cl s : List ℕ) (n c : ℕ) where
     pub viewed-ranged : statesInRange (viewed cl s n c) ≡ true
     viewed-ranged =
         in-every (λ τ. every (inRange (states A)) (τ .args) && inRange (states A) (τ .out)) (transitionsIn s c)
-        (λ τ m. good τ (in-transitionsIn s c τ m))
+        (λ τ m. good τ (transitionsIn-in s c τ m))
       where
         A : Automaton
         A = viewed cl s n c
