@@ -4,7 +4,8 @@ use mathlib.Core.Logic.{_⊎_, inl, inr}
 use mathlib.Core.Path.{_∙_, _≡_, ap, refl, subst, sym}
 use Prim.Native.Nat.{suc, ℕ}
 use Rattle.automata.specs.Automaton.{Automaton, accepting, states}
-use Rattle.automata.specs.Distinguishable.{distinguishable, distinguishablePairs, distinguishableRule, pairs, slots}
+use Rattle.automata.specs.Distinguishable.{distinguishable, distinguishablePairs, distinguishableRule, pairs}
+use Rattle.automata.specs.Distinguishable.{slots}
 use Rattle.automata.specs.Distinguishable.{stepSlot}
 use Rattle.lists.specs.Closure.{elem}
 use Rattle.lists.specs.Positions.{Pair, eqPair, upFrom}

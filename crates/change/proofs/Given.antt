@@ -59,7 +59,8 @@ pub record Given (s b : List ℕ) (k n : ℕ) (r : Subtrees) : Type 0 where
 
 pub given : (s b : List ℕ) → listingRefusal s ≡ 0 → tableRefusal b ≡ 0 → AllBytes s → (k n : ℕ) →
     k ≡ transitionCount b → n ≡ stateCount b → (r : Subtrees) → ((A : Automaton) →
-    A .transitions ≡ transitionsIn (part b headBytes) k → Lists A (readTree s) (bottomUp (readTree s)) r) → Given s b k n r
+    A .transitions ≡ transitionsIn (part b headBytes) k → Lists A (readTree s) (bottomUp (readTree s)) r) →
+    Given s b k n r
 unfolding listingRefusal
 given s b e passed bytes k n c m r lists =
     let table = given-table b passed k n c m in

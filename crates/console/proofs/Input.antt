@@ -14,7 +14,8 @@ input-lines (b ∷ s) = go (eqb b newline) refl (input-lines s)
   where
     more : (ss : List (List ℕ)) (l : List ℕ) → eqb b newline ≡ false → AllUnbroken ss → Unbroken l →
         s ≡ ended ss ++ l → Lines (b ∷ s)
-    more [] l e h k p = record { whole = []; last = b ∷ l; unbroken = (tt, (e, k)); bytes = ap (λ (t : List ℕ). b ∷ t) p }
+    more [] l e h k p =
+        record { whole = []; last = b ∷ l; unbroken = (tt, (e, k)); bytes = ap (λ (t : List ℕ). b ∷ t) p }
     more (r ∷ ss) l e h k p = record {
       whole = (b ∷ r) ∷ ss;
       last = l;

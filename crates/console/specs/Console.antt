@@ -1,4 +1,5 @@
--- The bench program as a console: what it prints for a whole input, and the same a byte at a time, as it meets its input.
+-- The bench program as a console: what it prints for a whole input, and the same a byte at a time, as it
+-- meets its input.
 use mathlib.Core.Bool.{cond}
 use mathlib.Core.List.{List, [], _++_, _∷_}
 use Prim.Native.Nat.{_+_, suc, ℕ}

@@ -232,7 +232,8 @@ module _ (cl s : List ℕ) (n c : ℕ) (view : Viewed cl s n c) (rises : rising 
           0 0) e)
 
       own : (p q : ℕ) → p ≤ n → q ≤ n → Seed (viewed cl s n c) p q (marked m)
-      own p q h l e = seeds p q h l (subst₂ (λ (a b : Bool). not (Bool·beq a b) ≡ true) (sym (viewed-classes cl s n c p)) (sym
+      own p q h l e = seeds p q h l (subst₂ (λ (a b : Bool). not (Bool·beq a b) ≡ true)
+          (sym (viewed-classes cl s n c p)) (sym
           (viewed-classes cl s n c q)) e)
 
       exact : (p q : ℕ) → p ≤ n → q ≤ n → marked m (pairAt p q) ≡ distinguishable (viewed cl s n c) p q

@@ -40,8 +40,8 @@ pub fn transition_count(table: &[u8]) -> usize
     256 * high + low
 }
 
-// Whether the bytes from one up to, not including, another are at most a bound. No byte ends the loop, so that a machine
-// may look at many at once: on small tables these are nearly all bytes that there are.
+// Whether the bytes from one up to, not including, another are at most a bound. No byte ends the loop, so that a
+// machine may look at many at once: on small tables these are nearly all bytes that there are.
 fn at_most(run: &[u8], from: usize, end: usize, bound: u8) -> bool
     requires { ⌜ end ≤ length (now run) ⌝ }
     ensures { λ r. ⌜ r ≡ every (atMost (now (run .entry)) bound) (upFrom from (end - from)) ⌝ }

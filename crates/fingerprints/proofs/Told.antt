@@ -24,7 +24,8 @@ sound-start A n = record { equal = λ p q b e d. getD-zeros n p ∙ sym (getD-ze
 -- where every state is coaccessible all marks are right
 pub all-useful : (A : Automaton) → states A ≤ 255 → allCoaccessible A ≡ true → UsefulMarks A (replicate 256 1)
 all-useful A h e = record {
-  each = λ q a b. ap nonzero (getD-replicate 256 q 1 0 (omega arith)) ∙ sym (every-at (coaccessible A) 1 (states A) e q a (omega arith));
+  each = λ q a b. ap nonzero (getD-replicate 256 q 1 0 (omega arith)) ∙ sym
+      (every-at (coaccessible A) 1 (states A) e q a (omega arith));
 }
 
 -- different states differ

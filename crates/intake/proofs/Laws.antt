@@ -122,7 +122,8 @@ pub table-runs : (b : List ℕ) {k : ℕ} → length b ≡ tableBytes → layout
     Runs (part b headBytes) k
 table-runs b h e c = subst₂ Runs (sym (part-body b)) (sym c) (layout-runs b h e)
 
-pub table-rises : (b : List ℕ) {k : ℕ} {r : Bool} → k ≡ transitionCount b → r ≡ rising (transitionsIn (part b headBytes) k) →
+pub table-rises : (b : List ℕ) {k : ℕ} {r : Bool} → k ≡ transitionCount b →
+    r ≡ rising (transitionsIn (part b headBytes) k) →
     r ≡ rising (transitionsIn (body b) (transitionCount b))
 table-rises b c e = e ∙ ap₂ (λ (s : List ℕ) (k : ℕ). rising (transitionsIn s k)) (part-body b) c
 

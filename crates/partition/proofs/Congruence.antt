@@ -10,7 +10,8 @@ use lib.ListN.{length-replicate, replicate}
 use borrow.Author.Tests.{eq-eqb, eqb-true, ne-eqb}
 use Rattle.automata.specs.Automaton.{Automaton, Transition, accepting, states}
 use Rattle.automata.specs.Coaccessible.{coaccessible}
-use Rattle.automata.specs.Distinguishable.{Slot, allDistinguishable, distinguishable, distinguishableRule, pairs, slots}
+use Rattle.automata.specs.Distinguishable.{Slot, allDistinguishable, distinguishable, distinguishableRule, pairs}
+use Rattle.automata.specs.Distinguishable.{slots}
 use Rattle.automata.specs.Distinguishable.{stepSlot}
 use Rattle.automata.specs.Order.{rising}
 use Rattle.automata.specs.Valid.{statesInRange}

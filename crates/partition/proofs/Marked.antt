@@ -1,17 +1,15 @@
 -- What the loops that mark shared states and rows of pairs know.
-use mathlib.Core.Bool.{Bool, _||_, false, or-assoc, or-false, true}
+use mathlib.Core.Bool.{Bool, false, true}
 use mathlib.Core.List.{List}
 use mathlib.Core.Logic.{_≢_}
 use mathlib.Core.Path.{_∙_, _≡_, ap, ap₂, refl, sym}
-use Prim.Native.Nat.{_*_, _+_, _-_, _<_, _≤_, ℕ}
-use native.Mathlib.Nat.{zero-add}
+use Prim.Native.Nat.{_*_, _+_, _<_, _≤_, ℕ}
 use native.Mathlib.Omega.{arith}
 use lib.Dec.{eqb}
 use lib.ListN.{getD, length, length-set, set}
 use lib.Seq.{getD-set-other, getD-set-same}
 use borrow.Author.Tests.{eq-eqb, eqb-false, eqb-true, ne-eqb}
-use Rattle.lists.specs.Positions.{upFrom}
-use Rattle.lists.specs.Tests.{any, bit}
+use Rattle.lists.specs.Tests.{bit}
 use Rattle.distinguish.specs.Telling.{pairAt, stepAt}
 use Rattle.fingerprints.specs.Fingerprints.{differs}
 use Rattle.format.specs.Format.{bytePairs, transitionBytes}
@@ -20,27 +18,8 @@ use Rattle.partition.specs.Parts.{PartsMarked, RowMarked, SharedMarks, a
 use Rattle.table.specs.Layout.{argOf, outOf}
 use Rattle.marking.proofs.Sweeps.{nonzero-bit}
 use Rattle.lists.proofs.Filling.{set-next}
-use Rattle.lists.proofs.Loops.{upFrom-next, upFrom-none, upFrom-whole}
 
 -- ---- shared states
-
--- a loop at i, with n its end: s says whether some number passed so far, which b says, or passes among those left
-pub record FoundFrom (s b : Bool) (p : ℕ → Bool) (n i : ℕ) : Type 0 where
-  pub within : i ≤ n
-  pub left : s ≡ (b || any p (upFrom i (n - i)))
-
-module _ {p : ℕ → Bool} {n : ℕ} where
-  pub found-start : FoundFrom (any p (upFrom 0 n)) false p n 0
-  found-start = record { within = omega arith; left = ap (any p) (upFrom-whole 0 n n (zero-add n)) }
-
-  pub found-next : {s b r : Bool} {i : ℕ} → FoundFrom s b p n i → i < n → r ≡ p i → FoundFrom s (b || r) p n (i + 1)
-  found-next {s} {b} {r} {i} inv h e = record {
-    within = omega arith;
-    left = inv .left ∙ rw (upFrom-next i n h, ← e) (sym (or-assoc b r (any p (upFrom (i + 1) (n - (i + 1))))));
-  }
-
-  pub found-end : {s b : Bool} {i : ℕ} → FoundFrom s b p n i → n ≤ i → b ≡ s
-  found-end {s} {b} {i} inv h = sym (inv .left ∙ rw (upFrom-none i n h) (or-false b))
 
 pub record SharedBelow (m : List ℕ) (n k : ℕ) (f : List ℕ) : Type 0 where
   pub size : length f ≡ 256

@@ -11,25 +11,10 @@ fn is_besides(prints: &[usize; BYTE_VALUES], p: usize, q: usize) -> bool
     requires { ⌜ q ≤ 255 ⌝ }
     ensures { λ r. ⌜ r ≡ besides (now (prints .entry)) p q ⌝ }
 {
-    let other = p != q;
-    let same = prints[p] == prints[q];
-    other & same
-}
-
-// Whether p shares its part. No state ends the loop, so that a machine may look at several at once.
-fn is_shared(prints: &[usize; BYTE_VALUES], n: usize, p: usize) -> bool
-    requires { ⌜ n ≤ 255 ⌝ }
-    requires { ⌜ p ≤ n ⌝ }
-    ensures { λ r. ⌜ r ≡ shared (now (prints .entry)) n p ⌝ }
-{
-    let mut found = false;
-    let mut q = 0;
-    while q < n + 1 {
-        let r = is_besides(prints, p, q);
-        found = found | r;
-        q += 1;
+    if p == q {
+        return false;
     }
-    found
+    prints[p] == prints[q]
 }
 
 // 1 where p shares its part, else 0.
@@ -38,8 +23,12 @@ fn shared_mark(prints: &[usize; BYTE_VALUES], n: usize, p: usize) -> u8
     requires { ⌜ p ≤ n ⌝ }
     ensures { λ r. ⌜ r ≡ bit (shared (now (prints .entry)) n p) ⌝ }
 {
-    if is_shared(prints, n, p) {
-        return 1;
+    let mut q = 0;
+    while q < n + 1 {
+        if is_besides(prints, p, q) {
+            return 1;
+        }
+        q += 1;
     }
     0
 }

@@ -209,7 +209,8 @@ module _ (cand : ℕ → ℕ → ℕ) (m : ℕ) where
           Added (Over (ChosenFrom cand m e k) T e) s t n r
       over-all = added-same over-with with-over
 
-      pub over-many : {s : List ℕ} {n : ℕ} → Overflow (SomeBelow (λ x. Over (ChosenWith cand m e k x) T e) (m + 1)) s n →
+      pub over-many : {s : List ℕ} {n : ℕ} → Overflow (SomeBelow (λ x. Over (ChosenWith cand m e k x) T e) (m + 1))
+          s n →
           Overflow (Over (ChosenFrom cand m e k) T e) s n
       over-many = overflow-more over-with
 

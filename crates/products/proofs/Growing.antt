@@ -130,7 +130,8 @@ module _ (W : ℕ → Transition → Type 0) where
       Added (SomeBelow W (i + 1)) s u n r
   added-next i a b = added-same (upTo-next i) (upTo-last i) (added-then a (W i) b)
 
-  pub overflow-next : (i m : ℕ) → i < m → {s t : List ℕ} {n k : ℕ} → Added (SomeBelow W i) s t n k → Overflow (W i) t k →
+  pub overflow-next : (i m : ℕ) → i < m → {s t : List ℕ} {n k : ℕ} → Added (SomeBelow W i) s t n k →
+      Overflow (W i) t k →
       Overflow (SomeBelow W m) s n
   overflow-next i m h a o = overflow-more (λ τ w. up τ (upTo-next i τ w)) (overflow-then a (W i) o)
     where

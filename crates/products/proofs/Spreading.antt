@@ -47,6 +47,7 @@ module _ (q : List ℕ) (n m : ℕ) (T : List Transition) (k e : List ℕ) {σ :
 
 -- ---- rounds
 
-pub rounds-end : {C : Rule} {k k' k'' : List ℕ} {r : Bool} → Led C k k' → Spread C k' k'' r → r ≡ false → Reached C k k''
+pub rounds-end : {C : Rule} {k k' k'' : List ℕ} {r : Bool} → Led C k k' → Spread C k' k'' r → r ≡ false →
+    Reached C k k''
 rounds-end inv s h = let led = led-then inv (led-spread s) in
     record { size = led .size; closed = growing-closed s h; sound = led .sound }

@@ -255,7 +255,8 @@ pub fn expand_lost(
     requires { ⌜ Live (now scratch) count ⌝ }
     requires { ⌜ length (now scratch) ≡ scratchBytes ⌝ }
     ensures { λ r. ⌜ Outcome
-        (SomeBelow (LostAt n (now (labels .entry)) (now (arities .entry)) (now (children .entry)) (now (states .entry))) m)
+        (SomeBelow (LostAt n (now (labels .entry)) (now (arities .entry)) (now (children .entry))
+        (now (states .entry))) m)
         (now (scratch .entry)) (now (scratch .exit)) count r ⌝ }
 {
     let mut made = count;

@@ -9,7 +9,8 @@ use lib.Dec.{eqb, leb}
 use lib.ListN.{length}
 use borrow.Author.Tests.{eq-eqb, eqb-true, leb-true, ne-eqb}
 use Rattle.automata.specs.Automaton.{Automaton, accepts, states}
-use Rattle.calls.specs.Calls.{Answer, accepted, acceptedWith, approval, approved, askAnswer, askRefusal, done, doneWith}
+use Rattle.calls.specs.Calls.{Answer, accepted, acceptedWith, approval, approved, askAnswer, askRefusal, done}
+use Rattle.calls.specs.Calls.{doneWith}
 use Rattle.calls.specs.Calls.{intakeAnswer, notApproved, refused, refusedOr}
 use Rattle.fields.specs.Fields.{InTable}
 use Rattle.format.specs.Format.{maxStates, maxTransitions}

@@ -22,7 +22,8 @@ use Rattle.lists.proofs.Filling.{FilledTo}
 
 -- ---- copying
 
-pub copied-end : (from : List ℕ) {to : List ℕ} {i : ℕ} → FilledTo listingBytes (λ j. getD from j 0) to i → listingBytes ≤ i →
+pub copied-end : (from : List ℕ) {to : List ℕ} {i : ℕ} → FilledTo listingBytes (λ j. getD from j 0) to i →
+    listingBytes ≤ i →
     length from ≡ listingBytes → to ≡ from
 copied-end from {to} x h e =
     ext-getD 0 to from (x .size ∙ sym e) (λ j l. x .same j (omega (arith, x .size)))

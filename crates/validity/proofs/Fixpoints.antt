@@ -73,10 +73,12 @@ module _ (cl s : List ℕ) (n c : ℕ) (over : RunsOver s c n) where
           subst (λ (x : ℕ). m x ≡ true) (sym (o ∙ ap (λ (υ : Transition). υ .out) f))
           (up i h (subst (λ (υ : Transition). every m (υ .args) ≡ true) f v))
 
-  pub all-accessible-end : {m m' : List ℕ} {r : Bool} → Growing byteValues (accessible A) m → Spread (UpTo (nthUp s) c) m m' r →
+  pub all-accessible-end : {m m' : List ℕ} {r : Bool} → Growing byteValues (accessible A) m →
+      Spread (UpTo (nthUp s) c) m m' r →
       r ≡ false → every (marked m') (upFrom 1 n) ≡ allAccessible A
   all-accessible-end {m' = m'} g t e =
-      every-same-in (marked m') (accessible A) (upFrom 1 n) (λ q _. same-test _ _ (growing-more accessible-up g t .within q)
+      every-same-in (marked m') (accessible A) (upFrom 1 n)
+      (λ q _. same-test _ _ (growing-more accessible-up g t .within q)
       (accessible-marked (marked m') (growing-closed t e) q))
       ∙ ap (λ k. every (accessible A) (upFrom 1 k)) (sym (viewed-states cl s n c))
 
@@ -153,7 +155,8 @@ module _ (cl s : List ℕ) (n c : ℕ) (over : RunsOver s c n) where
   pub all-coaccessible-end : {m : List ℕ} → Exactly (coaccessible A) m →
       every (marked m) (upFrom 1 n) ≡ allCoaccessible A
   all-coaccessible-end {m} x =
-      every-same-in (marked m) (coaccessible A) (upFrom 1 n) (λ q _. x .each q) ∙ ap (λ k. every (coaccessible A) (upFrom 1 k)) (sym (viewed-states cl s n c))
+      every-same-in (marked m) (coaccessible A) (upFrom 1 n) (λ q _. x .each q)
+      ∙ ap (λ k. every (coaccessible A) (upFrom 1 k)) (sym (viewed-states cl s n c))
 
   -- marks that are not closed are all there are where every state has one
   pub all-coaccessible-early : {m : List ℕ} {r : Bool} → Using A m → r ≡ every (marked m) (upFrom 1 n) → r ≡ true →
@@ -178,7 +181,8 @@ module _ (cl s : List ℕ) (n c : ℕ) (over : RunsOver s c n) where
   returnless-ground k h f =
       grounded-returnless A (viewed-ranged cl s n c over) (k + 1) (clear-grounded (returnless A) (k + 1) f)
 
-  pub acyclic-end : {m m' : List ℕ} {r : Bool} → Growing byteValues (returnless A) m → Spread (UpTo (Ground s c) n) m m' r →
+  pub acyclic-end : {m m' : List ℕ} {r : Bool} → Growing byteValues (returnless A) m →
+      Spread (UpTo (Ground s c) n) m m' r →
       r ≡ false → every (marked m') (upFrom 1 n) ≡ acyclic A
   acyclic-end {m' = m'} g t e =
       ap (λ k. every (marked m') (upFrom 1 k)) (sym (viewed-states cl s n c))

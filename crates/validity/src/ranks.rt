@@ -1,7 +1,7 @@
 // Ranks of states. Where they rise from arguments to outputs in every transition, no state comes back to itself. That
 // is tested of whatever ranks there are, so how they were found has no contract: bad ranks cost time and no answer.
 ghost use mathlib.Core.Path.{_≡_};
-ghost use Prim.Native.Nat.{_*_, _<_, _≤_};
+ghost use Prim.Native.Nat.{_*_, _+_, _<_, _≤_};
 ghost use lib.Dec.{ltb};
 ghost use lib.ListN.{getD, length};
 ghost use Rattle.fields.specs.Fields.{Readable, Runs};
@@ -119,6 +119,26 @@ fn unranked_arg(run: &[u8], at: usize, ranks: &[u8; BYTE_VALUES]) -> usize
     0
 }
 
+// Goes on to state q. Answers the new depth.
+fn enter(
+    q: usize,
+    path: &mut [u8; BYTE_VALUES],
+    depth: usize,
+    ranks: &mut [u8; BYTE_VALUES],
+) -> usize
+    requires { ⌜ q < byteValues ⌝ }
+    requires { ⌜ depth < byteValues ⌝ }
+    requires { ⌜ length (now path) ≡ byteValues ⌝ }
+    requires { ⌜ length (now ranks) ≡ byteValues ⌝ }
+    ensures { λ r. ⌜ r ≡ depth + 1 ⌝ }
+    ensures { λ _. ⌜ length (now (path .exit)) ≡ byteValues ⌝ }
+    ensures { λ _. ⌜ length (now (ranks .exit)) ≡ byteValues ⌝ }
+{
+    ranks[q] = SEEN;
+    path[depth] = q as u8;
+    depth + 1
+}
+
 // Goes from states to the arguments of the transitions into them, as deep as it can, and ranks a state when it has come
 // back from all of them. `first` loses the transitions that are done.
 fn rank_all(
@@ -148,9 +168,7 @@ fn rank_all(
             }
             start += 1;
             if ranks[start] == 0 {
-                ranks[start] = SEEN;
-                path[0] = start as u8;
-                depth = 1;
+                depth = enter(start, &mut path, 0, ranks);
             }
             continue;
         }
@@ -170,9 +188,7 @@ fn rank_all(
         if depth == BYTE_VALUES {
             return;
         }
-        ranks[a] = SEEN;
-        path[depth] = a as u8;
-        depth += 1;
+        depth = enter(a, &mut path, depth, ranks);
     }
 }
 

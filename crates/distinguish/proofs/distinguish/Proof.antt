@@ -16,7 +16,8 @@ use Rattle.distinguish.proofs.distinguish.Tie as tie
 
 abbrev Inv-loop : tie.InvT-loop
 Inv-loop classes run count n marks₀ marks =
-    (v : Viewed classes run n count) (r : rising (transitionsIn run count) ≡ true) → Growing bytePairs (told classes run n count
+    (v : Viewed classes run n count) (r : rising (transitionsIn run count) ≡ true) → Growing bytePairs
+    (told classes run n count
     v r) marks
 
 abbrev μ-loop : tie.MeasureT-loop
@@ -24,7 +25,8 @@ abbrev μ-loop : tie.MeasureT-loop
 
 abbrev Inv-loop2 : tie.InvT-loop2
 Inv-loop2 classes run count n marks₀ marks =
-    ((v : Viewed classes run n count) (r : rising (transitionsIn run count) ≡ true) → Growing bytePairs (told classes run n
+    ((v : Viewed classes run n count) (r : rising (transitionsIn run count) ≡ true) → Growing bytePairs
+    (told classes run n
     count v r) marks) × Seeded classes n marks
 
 abbrev μ-loop2 : tie.MeasureT-loop2

@@ -2,7 +2,8 @@ use native.Mathlib.Omega.{arith}
 use Prim.Native.Nat.{_-_, _≤_}
 use Rattle.table.specs.Layout.{transitionsIn}
 use Rattle.fingerprints.specs.Fingerprints.{gains, printOf}
-use Rattle.fingerprints.proofs.Adding.{Filling, filling-end, filling-next, filling-start, gainsFrom, gains-end, gains-next, gains-start}
+use Rattle.fingerprints.proofs.Adding.{Filling, filling-end, filling-next, filling-start, gainsFrom}
+use Rattle.fingerprints.proofs.Adding.{gains-end, gains-next, gains-start}
 use Rattle.marking.specs.Marks.{marked}
 use borrow.Author.Needs.{needs}
 use Rattle.fingerprints.proofs.rounds.add_all_uses.Statement.{statement}

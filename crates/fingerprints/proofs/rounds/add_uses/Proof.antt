@@ -1,6 +1,8 @@
 use lib.ListN.{getD}
 use Rattle.fields.proofs.Transitions.{readable}
-use Rattle.fingerprints.proofs.Adding.{Filling, argsFrom, argsTo, filling-end, filling-next, filling-start, gainFrom, gain-end, gain-start, gain-step, folded-next, packed-next, packed-whole}
+use Rattle.fingerprints.proofs.Adding.{Filling, argsFrom, argsTo, filling-end, filling-next, filling-start}
+use Rattle.fingerprints.proofs.Adding.{gainFrom, gain-end, gain-start, gain-step, folded-next, packed-next}
+use Rattle.fingerprints.proofs.Adding.{packed-whole}
 use native.Mathlib.Omega.{arith}
 use mathlib.Core.Path.{_≡_, _∙_, ap, refl, sym}
 use Prim.Native.Nat.{_*_, _+_, _-_, _/_, _<_, _≤_, ℕ}

@@ -41,7 +41,8 @@ loop-again c =
 returns : tie.Need-returns Inv-loop μ-loop
 returns c =
     let start = c .before .before in
-    copied-end (start .args .run .now) (start .args .at) (c .before .loop .inv) (c .loop-test .left) (start .pre .narrow)
+    copied-end (start .args .run .now) (start .args .at) (c .before .loop .inv) (c .loop-test .left)
+    (start .pre .narrow)
 
 pub transition-spec : {M : Type 1} → statement M
 transition-spec =

@@ -37,7 +37,8 @@ same-length : tie.Need-same-length Inv-loop μ-loop
 same-length c = c .before .loop .inv .size ∙ sym (c .before .before .pre .1)
 
 returns : tie.Need-returns Inv-loop μ-loop
-returns c = copied-end (c .before .before .args .from .now) (c .before .loop .inv) (omega arith) (c .before .before .pre .0)
+returns c = copied-end (c .before .before .args .from .now) (c .before .loop .inv) (omega arith)
+    (c .before .before .pre .0)
 
 pub copy-spec : {M : Type 1} → statement M
 copy-spec =

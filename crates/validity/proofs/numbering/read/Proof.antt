@@ -20,7 +20,11 @@ returns : tie.Need-returns
 returns c =
     let start = c .before .before .before .before in (
       read-low (start .args .run .now) (start .args .i) (start .args .seen .now) (start .pre .1 .0)
-          (start .pre .1 .1 .0) (omega (arith, c .before .before .top-argument .ensures, c .before .out-of .ensures .0)),
+          (start .pre .1 .1 .0) (omega (
+            arith,
+            c .before .before .top-argument .ensures,
+            c .before .out-of .ensures .0,
+          )),
       start .pre .1 .1 .1,
     )
 

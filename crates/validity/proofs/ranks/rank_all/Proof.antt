@@ -39,14 +39,8 @@ add-start c = search needs
 element-copy-out-if3 : tie.Need-element-copy-out-if3 Inv-loop μ-loop
 element-copy-out-if3 c = search needs
 
-element-write-ranks : tie.Need-element-write-ranks Inv-loop μ-loop
-element-write-ranks c = search needs
-
-cast-path : tie.Need-cast-path Inv-loop μ-loop
-cast-path c = search needs
-
-array-write-path : tie.Need-array-write-path Inv-loop μ-loop
-array-write-path c = search needs
+enter-requires : tie.Need-enter-requires Inv-loop μ-loop
+enter-requires c κs = search needs
 
 loop-less : tie.Need-loop-less Inv-loop μ-loop
 loop-less c = search needs
@@ -78,8 +72,8 @@ sub-depth c = search needs
 wrapping-add-u8-requires : tie.Need-wrapping-add-u8-requires Inv-loop μ-loop
 wrapping-add-u8-requires c κs = search needs
 
-element-write-ranks-2 : tie.Need-element-write-ranks-2 Inv-loop μ-loop
-element-write-ranks-2 c = search needs
+element-write-ranks : tie.Need-element-write-ranks Inv-loop μ-loop
+element-write-ranks c = search needs
 
 loop-less-3 : tie.Need-loop-less-3 Inv-loop μ-loop
 loop-less-3 c = search needs
@@ -133,33 +127,14 @@ loop-again-4 c = search needs
 returns-2 : tie.Need-returns-2 Inv-loop μ-loop
 returns-2 c = search needs
 
-element-write-ranks-3 : tie.Need-element-write-ranks-3 Inv-loop μ-loop
-element-write-ranks-3 c = search needs
-
-cast-path-2 : tie.Need-cast-path-2 Inv-loop μ-loop
-cast-path-2 c = search needs
-
-array-write-path-2 : tie.Need-array-write-path-2 Inv-loop μ-loop
-array-write-path-2 c = search needs
-
-add-depth : tie.Need-add-depth Inv-loop μ-loop
-add-depth c = search needs
+enter-requires-2 : tie.Need-enter-requires-2 Inv-loop μ-loop
+enter-requires-2 c κs = search needs
 
 loop-less-5 : tie.Need-loop-less-5 Inv-loop μ-loop
 loop-less-5 c = search needs
 
 loop-again-5 : tie.Need-loop-again-5 Inv-loop μ-loop
-loop-again-5 c =
-    let now = c .before .before .before .before .before .before .before .before .before .before in
-    let at-unranked-arg = c .before .before in (
-      omega arith,
-      now .loop .inv .1,
-      length-set {A = ℕ} (now .loop .path) (now .loop .depth)
-          (at-unranked-arg .unranked-arg .result) ∙ now .loop .inv .2,
-      now .loop .inv .3,
-      length-set {A = ℕ}
-          (now .loop .ranks) (at-unranked-arg .unranked-arg .result) 255 ∙ now .loop .inv .4,
-    )
+loop-again-5 c = search needs
 
 returns-3 : tie.Need-returns-3 Inv-loop μ-loop
 returns-3 c = search needs
@@ -177,9 +152,7 @@ rank-all-spec =
     returns
     add-start
     element-copy-out-if3
-    element-write-ranks
-    cast-path
-    array-write-path
+    enter-requires
     loop-less
     loop-again
     loop-less-2
@@ -190,7 +163,7 @@ rank-all-spec =
     first-into-requires
     sub-depth
     wrapping-add-u8-requires
-    element-write-ranks-2
+    element-write-ranks
     loop-less-3
     loop-again-3
     sub-unranked-arg
@@ -204,10 +177,7 @@ rank-all-spec =
     loop-less-4
     loop-again-4
     returns-2
-    element-write-ranks-3
-    cast-path-2
-    array-write-path-2
-    add-depth
+    enter-requires-2
     loop-less-5
     loop-again-5
     returns-3)

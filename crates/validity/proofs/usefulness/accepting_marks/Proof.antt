@@ -1,4 +1,5 @@
--- `validity::usefulness::accepting_marks` meets its contract: the entries before q are as the classes say, the others 0.
+-- `validity::usefulness::accepting_marks` meets its contract: the entries before q are as the classes say, the
+-- others 0.
 use mathlib.Core.Bool.{false}
 use mathlib.Core.List.{[]}
 use mathlib.Core.Path.{_∙_, _≡_}
