@@ -19,7 +19,7 @@ pub mod Product
 pub mod Subtrees
 pub mod Change
 pub mod Valid
-pub mod Kept
+pub mod CanonicalChange
 pub mod Bounded
 pub mod BoundedChange
 pub mod Legal

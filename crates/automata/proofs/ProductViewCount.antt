@@ -21,7 +21,7 @@ use Rattle.automata.proofs.Steps.{Fits}
 use Rattle.lists.proofs.Distinct.{Distinct, distinct-length, map-distinct}
 use Rattle.lists.proofs.Tests.{and-both, and-left, and-right, in-map, map-in}
 
--- lists of numbers in use are told apart by their pairs
+-- lists of numbers in use are separated by their pairs
 pairs-inj : (δ : ℕ → Pair) (acc : ℕ → Bool) →
     ((p q : ℕ) → acc p ≡ true → acc q ≡ true → δ p ≡ δ q → p ≡ q) → (ps qs : List ℕ) → every acc ps ≡ true →
     every acc qs ≡ true → map δ ps ≡ map δ qs → ps ≡ qs

@@ -1,4 +1,4 @@
--- Telling states apart goes both ways, and 0 is not told apart from itself.
+-- Telling states apart goes both ways, and 0 is not separated from itself.
 use mathlib.Core.Bool.{Bool, Bool·beq, not, true}
 use mathlib.Core.Logic.{_⊎_, inl, inr}
 use mathlib.Core.Path.{_∙_, _≡_, ap, refl, subst, sym}
@@ -21,9 +21,9 @@ differ-sym : (a b : Bool) → not (Bool·beq a b) ≡ true → not (Bool·beq b 
 differ-sym a b e = differs b a (λ q. differ a b e (sym q))
 
 module _ (A : Automaton) where
-  -- telling apart goes both ways
-  pub told-sym : (p q : ℕ) → distinguishable A p q ≡ true → distinguishable A q p ≡ true
-  told-sym p q e = closure-all eqPair eqPair-true eqPair-same (distinguishableRule A) (pairs A) Turned made (p, q) e
+  -- separating apart goes both ways
+  pub separated-sym : (p q : ℕ) → distinguishable A p q ≡ true → distinguishable A q p ≡ true
+  separated-sym p q e = closure-all eqPair eqPair-true eqPair-same (distinguishableRule A) (pairs A) Turned made (p, q) e
     where
       Turned : Pair → Type 0
       Turned k = distinguishable A (k .1) (k .0) ≡ true
@@ -48,9 +48,9 @@ module _ (A : Automaton) where
               (in-any (λ s. distinguishable A (stepSlot A s (k .1)) (stepSlot A s (k .0))) (slots (A .transitions)) s j
               (ih (stepSlot A s (k .0), stepSlot A s (k .1)) f))
 
-  -- 0 is not told apart from itself
-  pub zero-not-told : distinguishable A 0 0 ≡ true → ⊥
-  zero-not-told e =
+  -- 0 is not separated from itself
+  pub zero-not-separated : distinguishable A 0 0 ≡ true → ⊥
+  zero-not-separated e =
       closure-all eqPair eqPair-true eqPair-same (distinguishableRule A) (pairs A) Other made (0, 0) e refl
     where
       Other : Pair → Type 0

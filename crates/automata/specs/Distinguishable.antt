@@ -1,4 +1,4 @@
--- The pairs of states that some context tells apart (01, refusal 12); 0 takes part.
+-- The pairs of states that some context separates (01, refusal 12); 0 takes part.
 use mathlib.Core.Bool.{Bool, Bool·beq, _||_, not}
 use mathlib.Core.List.{List, [], _++_, _∷_, map}
 use Prim.Native.Nat.{suc, ℕ}

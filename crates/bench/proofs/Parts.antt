@@ -5,7 +5,7 @@ use Prim.Native.Nat.{_*_, _+_, _-_, _<_, _^_, _≤_, ℕ}
 use native.Mathlib.Omega.{arith}
 use lib.ListN.{length, take}
 use lib.Seq.{take-add, take-all}
-use Rattle.console.specs.Buffers.{FedTo, Ready, Room, emptyScratch, emptyTable, outBytes, console}
+use Rattle.console.specs.Buffers.{FedTo, Buffered, ProgressRoom, emptyScratch, emptyTable, outBytes, console}
 use Rattle.console.specs.Console.{Console, fed, heldBytes, start, written}
 use Rattle.console.specs.declared.Fed.{Fed}
 use Rattle.console.specs.declared.Progress.{Progress}
@@ -18,13 +18,13 @@ use Rattle.lists.proofs.Parts.{part, part-drop, part-length}
 
 -- the first bytes of s, up to a place, were taken
 pub record Taking (p : Progress) (x : Console) (s : List ℕ) (at : ℕ) (q : Progress) (l b w o : List ℕ) : Type 0 where
-  pub ready : Ready q l o
+  pub ready : Buffered q l o
   pub printed : q .printed ≡ 0
   pub within : at ≤ length s
   pub lines : q .lines ≤ p .lines + at
   pub equal : console q l b w o ≡ written (fed x (take at s))
 
-pub taking-start : (p : Progress) (l b w o s : List ℕ) → Ready p l o → Idle p (length s) →
+pub taking-start : (p : Progress) (l b w o s : List ℕ) → Buffered p l o → Idle p (length s) →
     Taking p (console p l b w o) s 0 p l b w o
 taking-start p l b w o s R I = record {
   ready = R;
@@ -38,7 +38,7 @@ taking-start p l b w o s R I = record {
 module _ {p : Progress} {x : Console} {s : List ℕ} {at : ℕ} {q : Progress} {l b w o : List ℕ}
     (T : Taking p x s at q l b w o) where
   -- there is room for the next piece
-  pub taking-room : Idle p (length s) → Room q (length (part s at)) 1
+  pub taking-room : Idle p (length s) → ProgressRoom q (length (part s at)) 1
   taking-room I = record {
     lines = omega (arith, part-length s at, T .lines, T .within, I .lines);
     printed = omega (arith, T .printed);
@@ -85,7 +85,7 @@ came-taken p x s (More r) l b w o h T = record { input = s; few = h; takes = T }
 came-taken p x s (Ended r) l b w o h T = absurd T
 came-taken p x s Failed l b w o h T = tt
 
-pub stayed : (p : Progress) (l b w o : List ℕ) (n : ℕ) → Ready p l o → Idle p n →
+pub stayed : (p : Progress) (l b w o : List ℕ) (n : ℕ) → Buffered p l o → Idle p n →
     Turned p (console p l b w o) (Ended p) l b w o
 unfolding Turned
 stayed p l b w o n R I =
@@ -94,7 +94,7 @@ stayed p l b w o n R I =
 -- from the start the console took some input, and so many reads can follow
 pub record Meeting (reads : ℕ) (p : Progress) (l b w o : List ℕ) : Type 0 where
   pub input : List ℕ
-  pub ready : Ready p l o
+  pub ready : Buffered p l o
   pub printed : p .printed ≡ 0
   pub lines : p .lines + chunkBytes * reads + chunkBytes ≤ 2 ^ 64
   pub equal : console p l b w o ≡ written (fed start input)

@@ -4,7 +4,7 @@ use mathlib.Core.List.{List}
 use mathlib.Core.Path.{_≡_}
 use Prim.Native.Nat.{_+_, _<_, _^_, _≤_, ℕ}
 use lib.ListN.{length}
-use Rattle.console.specs.Buffers.{Ready, Room, console}
+use Rattle.console.specs.Buffers.{Buffered, ProgressRoom, console}
 use Rattle.console.specs.Console.{Console, fed, start, written}
 use Rattle.console.specs.declared.Progress.{Progress}
 use Rattle.bench.specs.declared.Turn.{Turn}
@@ -21,7 +21,7 @@ pub record Idle (p : Progress) (n : ℕ) : Type 0 where
 
 -- ready for the next part, with at most n lines more than before
 pub record Rested (p : Progress) (n : ℕ) (r : Progress) (l o : List ℕ) : Type 0 where
-  pub ready : Ready r l o
+  pub ready : Buffered r l o
   pub printed : r .printed ≡ 0
   pub lines : r .lines ≤ p .lines + n
 
@@ -55,8 +55,8 @@ Turned p x Failed l b w o = Unit {0}
 -- from the start the console took some input, wrote what it printed, and has room for the end
 pub record Met (r : Progress) (l b w o : List ℕ) : Type 0 where
   pub input : List ℕ
-  pub ready : Ready r l o
-  pub room : Room r 1 2
+  pub ready : Buffered r l o
+  pub room : ProgressRoom r 1 2
   pub equal : console r l b w o ≡ written (fed start input)
 
 unfoldable pub MetAll : Turn → List ℕ → List ℕ → List ℕ → List ℕ → Type 0

@@ -3,7 +3,7 @@
 ghost use mathlib.Core.Path.{_≡_};
 ghost use Prim.Native.Nat.{_≤_};
 ghost use lib.ListN.{length};
-ghost use Rattle.console.specs.Buffers.{Ready, emptyScratch, emptyTable, outBytes, console};
+ghost use Rattle.console.specs.Buffers.{Buffered, emptyScratch, emptyTable, outBytes, console};
 ghost use Rattle.console.specs.Console.{heldBytes};
 ghost use Rattle.bench.specs.Turns.{Idle, MetAll, Took, Turned, chunkBytes};
 use console::HELD_BYTES;
@@ -47,7 +47,7 @@ fn take(
     scratch: &mut [u8],
     out: &mut [u8; OUT_BYTES],
 ) -> Turn
-    requires { ⌜ Ready p (now line) (now out) ⌝ }
+    requires { ⌜ Buffered p (now line) (now out) ⌝ }
     requires { ⌜ Idle p (length (now input)) ⌝ }
     ensures { λ r. ⌜ Took p (console p (now (line .entry)) (now (table .entry)) (now (scratch .entry))
         (now (out .entry))) (now (input .entry)) r (now (line .exit)) (now (table .exit)) (now (scratch .exit))
@@ -81,7 +81,7 @@ fn read_some(
     scratch: &mut [u8],
     out: &mut [u8; OUT_BYTES],
 ) -> Turn
-    requires { ⌜ Ready p (now line) (now out) ⌝ }
+    requires { ⌜ Buffered p (now line) (now out) ⌝ }
     requires { ⌜ Idle p chunkBytes ⌝ }
     requires { ⌜ length (now chunk) ≡ chunkBytes ⌝ }
     ensures { λ r. ⌜ Turned p (console p (now (line .entry)) (now (table .entry)) (now (scratch .entry))

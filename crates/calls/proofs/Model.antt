@@ -16,7 +16,7 @@ use Rattle.trees.specs.Listing.{listingConditions, listingRefusal, readTree}
 use Rattle.trees.specs.Tree.{Tree, eqTree}
 use Rattle.automata.proofs.BoundedChange.{delete-bounded, insert-bounded}
 use Rattle.automata.proofs.CanonicalRun.{canonical-accepts}
-use Rattle.automata.proofs.Kept.{delete-kept, insert-kept}
+use Rattle.automata.proofs.CanonicalChange.{delete-kept, insert-kept}
 use Rattle.automata.proofs.Unique.{unique}
 use Rattle.lists.proofs.Tests.{and-left, or-cases}
 use Rattle.trees.proofs.Trees.{eqTree-true}

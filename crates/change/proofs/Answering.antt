@@ -31,7 +31,7 @@ use Rattle.table.specs.Layout.{decode, encode, transitionsIn}
 use Rattle.trees.specs.Listing.{readTree}
 use Rattle.trees.specs.Tree.{Tree}
 use Rattle.change.proofs.Exact.{exact-changed, exact-rises, exact-viewed}
-use Rattle.change.proofs.Given.{Given}
+use Rattle.change.proofs.Inputs.{Given}
 use Rattle.lists.proofs.Tests.{or-right}
 
 -- the answer for what was written

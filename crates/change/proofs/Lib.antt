@@ -1,4 +1,4 @@
 pub mod Pairs
-pub mod Given
+pub mod Inputs
 pub mod Exact
 pub mod Answering

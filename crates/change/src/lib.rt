@@ -43,18 +43,18 @@ fn clear(scratch: &mut [u8])
     }
 }
 
-// Writes the minimal automaton of a run to a table; where the table cannot hold it, leaves the table as it is.
-fn minimize(run: &mut [u8], count: usize, classes: &[u8], n: usize, table: &mut [u8]) -> Made
-    requires { ⌜ Viewed (now classes) (now run) n count ⌝ }
-    requires { ⌜ rising (transitionsIn (now run) count) ≡ true ⌝ }
+// Writes the minimal automaton of a transitions to a table; where the table cannot hold it, leaves the table as it is.
+fn minimize(transitions: &mut [u8], count: usize, classes: &[u8], n: usize, table: &mut [u8]) -> Made
+    requires { ⌜ Viewed (now classes) (now transitions) n count ⌝ }
+    requires { ⌜ rising (transitionsIn (now transitions) count) ≡ true ⌝ }
     requires { ⌜ length (now table) ≡ tableBytes ⌝ }
-    ensures { λ r. ⌜ r ≡ madeOf (minimal (viewed (now (classes .entry)) (now (run .entry)) n count)) ⌝ }
+    ensures { λ r. ⌜ r ≡ madeOf (minimal (viewed (now (classes .entry)) (now (transitions .entry)) n count)) ⌝ }
     ensures { λ _. ⌜ now (table .exit) ≡
-        writtenTo (minimal (viewed (now (classes .entry)) (now (run .entry)) n count)) (now (table .entry)) ⌝ }
+        writtenTo (minimal (viewed (now (classes .entry)) (now (transitions .entry)) n count)) (now (table .entry)) ⌝ }
 {
     let mut marks = blank();
-    distinguish(classes, run, count, n, &mut marks);
-    write(run, count, classes, n, &marks, table)
+    distinguish(classes, transitions, count, n, &mut marks);
+    write(transitions, count, classes, n, &marks, table)
 }
 
 // Puts the tree in or takes it out, and leaves anything in the scratch.

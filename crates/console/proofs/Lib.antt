@@ -1,5 +1,5 @@
 pub mod Input
-pub mod Whole
+pub mod Printed
 pub mod Feeding
 pub mod Moves
 pub mod Parts

@@ -6,7 +6,7 @@ use Prim.Native.Nat.{_<_, _≤_, suc, zero, ℕ}
 use native.Mathlib.Omega.{arith}
 use lib.ListN.{getD, length, length-append, replicate}
 use Rattle.format.specs.Format.{AllBytes, maxLine}
-use Rattle.text.proofs.Laws.{line-formed}
+use Rattle.text.proofs.LineMeaning.{line-formed}
 use Rattle.text.proofs.Sizes.{forest-size}
 use Rattle.text.specs.Grammar.{AllLabelled, Command, Labelled, childrenText, closeBracket, head, labelText, treeText}
 use Rattle.text.specs.Reader.{formed, readLine}

@@ -15,7 +15,7 @@ use Rattle.format.specs.Format.{AllBytes, maxLine, scratchBytes, tableBytes}
 use Rattle.report.specs.Report.{lineText}
 use Rattle.serving.specs.Serving.{called, closing, closingFor, handled, outcomeOf, served}
 use Rattle.table.proofs.Intake.{zero-table}
-use Rattle.text.proofs.Laws.{line-long}
+use Rattle.text.proofs.LineMeaning.{line-long}
 use Rattle.text.specs.Grammar.{Command, toAdd, toAsk, toDrop}
 use Rattle.text.specs.Reader.{Line, form, formed, long, readLine}
 use Rattle.console.specs.Input.{linesOf}

@@ -12,7 +12,7 @@ use borrow.Author.Tests.{eq-eqb, le-ltb, lt-ltb, ne-eqb}
 use Rattle.report.specs.Printing.{Printed, Put, lineBytes}
 use Rattle.serving.specs.Answering.{Serves}
 use Rattle.serving.specs.Serving.{Served, closing, served}
-use Rattle.console.specs.Buffers.{ClosedTo, FedTo, Kept, Moved, Ready, Room, outBytes, console}
+use Rattle.console.specs.Buffers.{ClosedTo, FedTo, LineKept, Moved, Buffered, ProgressRoom, outBytes, console}
 use Rattle.console.specs.Input.{isEmpty, newline}
 use Rattle.console.specs.Console.{Console, after, closed, fed, heldBytes, holding, inputEnded, kept, lineEnded}
 use Rattle.console.specs.Console.{stepped}
@@ -21,13 +21,13 @@ use Rattle.console.proofs.Feeding.{fed-next}
 
 -- ---- a byte kept
 
-pub kept-full : (l : List ℕ) (n b : ℕ) → length l ≡ heldBytes → n ≤ heldBytes → heldBytes ≤ n → Kept l n b l n
+pub kept-full : (l : List ℕ) (n b : ℕ) → length l ≡ heldBytes → n ≤ heldBytes → heldBytes ≤ n → LineKept l n b l n
 unfolding holding
 kept-full l n b e h k =
     let f : length (take n l) ≡ heldBytes = simp length-take (omega arith) in
     record { size = refl; within = h; bytes = rw (le-ltb (length (take n l)) heldBytes (omega arith)) }
 
-pub kept-more : (l : List ℕ) (n b : ℕ) → length l ≡ heldBytes → n < heldBytes → Kept l n b (set l n b) (n + 1)
+pub kept-more : (l : List ℕ) (n b : ℕ) → length l ≡ heldBytes → n < heldBytes → LineKept l n b (set l n b) (n + 1)
 unfolding holding
 kept-more l n b e h =
     let f : length (take n l) ≡ n = simp length-take (omega arith) in
@@ -52,7 +52,7 @@ unfolding stepped
 stepped-kept x b e = rw (ne-eqb b newline e)
 
 module _ (p : Progress) (l b w o : List ℕ) where
-  pub line-moved : (t b' w' o' : List ℕ) (k r : ℕ) → Ready p l o →
+  pub line-moved : (t b' w' o' : List ℕ) (k r : ℕ) → Buffered p l o →
       Serves (p .lines + 1) (take (p .held - 0) (drop 0 l)) b w t k b' w' →
       Put o o' (p .printed) (take (k - 0) (drop 0 t)) r →
       Moved p (lineEnded (console p l b w o)) (record { held = 0; lines = p .lines + 1; printed = r }) l b' w' o'
@@ -73,7 +73,7 @@ module _ (p : Progress) (l b w o : List ℕ) where
             ap (after (console p l b w o)) s;
       }
 
-  pub keep-moved : (byte : ℕ) (m : List ℕ) (r : ℕ) → Ready p l o → Kept l (p .held) byte m r →
+  pub keep-moved : (byte : ℕ) (m : List ℕ) (r : ℕ) → Buffered p l o → LineKept l (p .held) byte m r →
       Moved p (kept (console p l b w o) byte) (record { held = r; lines = p .lines; printed = p .printed }) m b w o
   keep-moved byte m r R K = record {
     ready = record { line = K .size ∙ R .line; out = R .out; held = K .within };
@@ -85,7 +85,7 @@ module _ (p : Progress) (l b w o : List ℕ) where
 
   -- ---- the end of the input
 
-  pub ended-without : Ready p l o → p .held ≡ 0 → Moved p (inputEnded (console p l b w o)) p l b w o
+  pub ended-without : Buffered p l o → p .held ≡ 0 → Moved p (inputEnded (console p l b w o)) p l b w o
   unfolding inputEnded
   ended-without R e = record {
     ready = R;
@@ -94,7 +94,7 @@ module _ (p : Progress) (l b w o : List ℕ) where
     equal = sym (ap (λ (n : ℕ). cond (isEmpty (take n l)) (console p l b w o) (lineEnded (console p l b w o))) e);
   }
 
-  pub ended-with : Ready p l o → (p .held ≡ 0 → ⊥) →
+  pub ended-with : Buffered p l o → (p .held ≡ 0 → ⊥) →
       lineEnded (console p l b w o) ≡ inputEnded (console p l b w o)
   unfolding inputEnded
   ended-with R h =
@@ -106,7 +106,7 @@ module _ (p : Progress) (l b w o : List ℕ) where
       go (suc n) [] h k = absurd (omega arith)
       go (suc n) (x ∷ l) h k = refl
 
-pub close-moved : (p q : Progress) (x : Console) (l b w o t o' : List ℕ) (k r : ℕ) → Room p 1 2 →
+pub close-moved : (p q : Progress) (x : Console) (l b w o t o' : List ℕ) (k r : ℕ) → ProgressRoom p 1 2 →
     Moved p (inputEnded x) q l b w o → Printed t (closing (q .lines) b) k →
     Put o o' (q .printed) (take (k - 0) (drop 0 t)) r → ClosedTo x r o'
 unfolding closed
@@ -125,14 +125,14 @@ close-moved p q x l b w o t o' k r room M T P =
 -- ---- a part of the input fed, up to byte i
 
 pub record Feeding (p : Progress) (x : Console) (s : List ℕ) (i : ℕ) (q : Progress) (l b w o : List ℕ) : Type 0 where
-  pub ready : Ready q l o
+  pub ready : Buffered q l o
   pub within : i ≤ length s
   pub lines : q .lines ≤ p .lines + i
   pub printed : q .printed ≤ outBytes
   pub first : i ≡ 0 → q .printed ≤ p .printed
   pub equal : console q l b w o ≡ fed x (take i s)
 
-pub feeding-start : (p : Progress) (l b w o s : List ℕ) (n : ℕ) → Ready p l o → Room p n 1 →
+pub feeding-start : (p : Progress) (l b w o s : List ℕ) (n : ℕ) → Buffered p l o → ProgressRoom p n 1 →
     Feeding p (console p l b w o) s 0 p l b w o
 feeding-start p l b w o s n R room = record {
   ready = R;
@@ -157,7 +157,7 @@ module _ {p : Progress} {x : Console} {s : List ℕ} {i : ℕ} {q : Progress} {l
     equal = M .equal ∙ (ap (λ (y : Console). stepped y (getD s i 0)) (F .equal) ∙ fed-next x s i h);
   }
 
-  pub feeding-full : (n : ℕ) → Room p n 1 → outBytes < q .printed + lineBytes →
+  pub feeding-full : (n : ℕ) → ProgressRoom p n 1 → outBytes < q .printed + lineBytes →
       FedTo p x s (record { taken = i; progress = q }) l b w o
   feeding-full n room h = record {
     ready = F .ready;

@@ -9,7 +9,7 @@ use Rattle.console.specs.Console.{Console, closed, fed, inputEnded, join
 use Rattle.console.specs.Console.{stepped, written, writtenFor}
 use Rattle.serving.specs.Serving.{closing, served}
 use Rattle.console.proofs.Feeding.{fed-append}
-use Rattle.console.proofs.Whole.{fed-printed}
+use Rattle.console.proofs.Printed.{fed-printed}
 
 -- a console that printed t before all that it has printed
 abbrev pub behind : List ℕ → Console → Console

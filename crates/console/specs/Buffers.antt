@@ -32,32 +32,32 @@ console p l b w o = record {
 }
 
 -- the buffers have their sizes, and the line's bytes are within its buffer
-pub record Ready (p : Progress) (l o : List ℕ) : Type 0 where
+pub record Buffered (p : Progress) (l o : List ℕ) : Type 0 where
   pub line : length l ≡ heldBytes
   pub out : length o ≡ outBytes
   pub held : p .held ≤ heldBytes
 
 -- n lines more can be counted, and k texts more have room
-pub record Room (p : Progress) (n k : ℕ) : Type 0 where
+pub record ProgressRoom (p : Progress) (n k : ℕ) : Type 0 where
   pub lines : p .lines + n < 2 ^ 64
   pub printed : p .printed + k * lineBytes ≤ outBytes
 
 -- a line became m: it holds one byte more, where it has room
-pub record Kept (l : List ℕ) (n b : ℕ) (m : List ℕ) (r : ℕ) : Type 0 where
+pub record LineKept (l : List ℕ) (n b : ℕ) (m : List ℕ) (r : ℕ) : Type 0 where
   pub size : length m ≡ length l
   pub within : r ≤ heldBytes
   pub bytes : take r m ≡ holding (take n l) b
 
 -- from numbers p the console became x with at most one line and one text more, in numbers r and these buffers
 pub record Moved (p : Progress) (x : Console) (r : Progress) (l b w o : List ℕ) : Type 0 where
-  pub ready : Ready r l o
+  pub ready : Buffered r l o
   pub lines : r .lines ≤ p .lines + 1
   pub printed : r .printed ≤ p .printed + lineBytes
   pub equal : console r l b w o ≡ x
 
 -- A part s of the input was fed to the console x as far as the room for texts reached: all of it, or at least one byte.
 pub record FedTo (p : Progress) (x : Console) (s : List ℕ) (r : code.Fed) (l b w o : List ℕ) : Type 0 where
-  pub ready : Ready (r .progress) l o
+  pub ready : Buffered (r .progress) l o
   pub within : r .taken ≤ length s
   pub some : 0 < length s → 0 < r .taken
   pub lines : r .progress .lines ≤ p .lines + r .taken

@@ -4,7 +4,7 @@ ghost use mathlib.Core.Path.{_≡_};
 ghost use Prim.Native.Nat.{_+_, _<_, _^_, _≤_};
 ghost use lib.ListN.{length};
 ghost use Rattle.report.specs.Printing.{Put, lineBytes};
-ghost use Rattle.console.specs.Buffers.{ClosedTo, FedTo, Kept, Moved, Ready, Room, emptyScratch, emptyTable};
+ghost use Rattle.console.specs.Buffers.{ClosedTo, FedTo, LineKept, Moved, Buffered, ProgressRoom, emptyScratch, emptyTable};
 ghost use Rattle.console.specs.Buffers.{outBytes, console};
 ghost use Rattle.console.specs.Console.{heldBytes, inputEnded, lineEnded, stepped};
 use format::MAX_LINE;
@@ -64,7 +64,7 @@ fn append(out: &mut [u8; OUT_BYTES], at: usize, text: &[u8]) -> usize
 fn keep(line: &mut [u8; HELD_BYTES], held: usize, byte: u8) -> usize
     requires { ⌜ length (now line) ≡ heldBytes ⌝ }
     requires { ⌜ held ≤ heldBytes ⌝ }
-    ensures { λ r. ⌜ Kept (now (line .entry)) held byte (now (line .exit)) r ⌝ }
+    ensures { λ r. ⌜ LineKept (now (line .entry)) held byte (now (line .exit)) r ⌝ }
 {
     if held >= HELD_BYTES {
         return held;
@@ -81,8 +81,8 @@ fn end_line(
     scratch: &mut [u8],
     out: &mut [u8; OUT_BYTES],
 ) -> Progress
-    requires { ⌜ Ready p (now line) (now out) ⌝ }
-    requires { ⌜ Room p 1 1 ⌝ }
+    requires { ⌜ Buffered p (now line) (now out) ⌝ }
+    requires { ⌜ ProgressRoom p 1 1 ⌝ }
     ensures { λ r. ⌜ Moved p (lineEnded (console p (now (line .entry)) (now (table .entry)) (now (scratch .entry))
         (now (out .entry)))) r (now (line .entry)) (now (table .exit)) (now (scratch .exit)) (now (out .exit)) ⌝ }
 {
@@ -107,8 +107,8 @@ fn step(
     scratch: &mut [u8],
     out: &mut [u8; OUT_BYTES],
 ) -> Progress
-    requires { ⌜ Ready p (now line) (now out) ⌝ }
-    requires { ⌜ Room p 1 1 ⌝ }
+    requires { ⌜ Buffered p (now line) (now out) ⌝ }
+    requires { ⌜ ProgressRoom p 1 1 ⌝ }
     ensures { λ r. ⌜ Moved p (stepped (console p (now (line .entry)) (now (table .entry)) (now (scratch .entry))
         (now (out .entry))) byte) r (now (line .exit)) (now (table .exit)) (now (scratch .exit)) (now (out .exit)) ⌝ }
 {
@@ -132,8 +132,8 @@ pub fn feed(
     scratch: &mut [u8],
     out: &mut [u8; OUT_BYTES],
 ) -> Fed
-    requires { ⌜ Ready p (now line) (now out) ⌝ }
-    requires { ⌜ Room p (length (now input)) 1 ⌝ }
+    requires { ⌜ Buffered p (now line) (now out) ⌝ }
+    requires { ⌜ ProgressRoom p (length (now input)) 1 ⌝ }
     ensures { λ r. ⌜ FedTo p (console p (now (line .entry)) (now (table .entry)) (now (scratch .entry))
         (now (out .entry))) (now (input .entry)) r (now (line .exit)) (now (table .exit)) (now (scratch .exit))
         (now (out .exit)) ⌝ }
@@ -164,8 +164,8 @@ fn end_input(
     scratch: &mut [u8],
     out: &mut [u8; OUT_BYTES],
 ) -> Progress
-    requires { ⌜ Ready p (now line) (now out) ⌝ }
-    requires { ⌜ Room p 1 2 ⌝ }
+    requires { ⌜ Buffered p (now line) (now out) ⌝ }
+    requires { ⌜ ProgressRoom p 1 2 ⌝ }
     ensures { λ r. ⌜ Moved p (inputEnded (console p (now (line .entry)) (now (table .entry)) (now (scratch .entry))
         (now (out .entry)))) r (now (line .entry)) (now (table .exit)) (now (scratch .exit)) (now (out .exit)) ⌝ }
 {
@@ -183,8 +183,8 @@ pub fn close(
     scratch: &mut [u8],
     out: &mut [u8; OUT_BYTES],
 ) -> usize
-    requires { ⌜ Ready p (now line) (now out) ⌝ }
-    requires { ⌜ Room p 1 2 ⌝ }
+    requires { ⌜ Buffered p (now line) (now out) ⌝ }
+    requires { ⌜ ProgressRoom p 1 2 ⌝ }
     ensures { λ r. ⌜ ClosedTo (console p (now (line .entry)) (now (table .entry)) (now (scratch .entry))
         (now (out .entry))) r (now (out .exit)) ⌝ }
 {

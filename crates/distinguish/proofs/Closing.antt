@@ -1,4 +1,4 @@
--- The rules of the marks against the pairs that some context tells apart: these are closed under the rules, and
+-- The rules of the marks against the pairs that some context separates: these are closed under the rules, and
 -- marks that are closed and have the seeds have every such pair.
 use mathlib.Core.Bool.{Bool, Bool·beq, _||_, not, true}
 use mathlib.Core.List.{List, [], _++_, _∷_}
@@ -13,8 +13,8 @@ use Rattle.automata.specs.Distinguishable.{Slot, allDistinguishable, distinguis
 use Rattle.automata.specs.Distinguishable.{distinguishableRule, pairs, slots, stepSlot}
 use Rattle.automata.specs.Order.{rising}
 use Rattle.automata.specs.Valid.{statesInRange}
-use Rattle.distinguish.specs.Telling.{MarksOf, Seed, SeedRow, Tell, allToldApart, nthTell, pairAt, slotAt}
-use Rattle.distinguish.specs.Telling.{stepAt, toldApart}
+use Rattle.distinguish.specs.Separating.{MarksOf, Seed, SeedRow, Separate, allApart, nthSeparate, pairAt, slotAt}
+use Rattle.distinguish.specs.Separating.{stepAt, apart}
 use Rattle.fields.specs.View.{Viewed, viewed}
 use Rattle.format.specs.Format.{transitionBytes}
 use Rattle.lists.specs.Closure.{elem}
@@ -26,7 +26,7 @@ use Rattle.marking.specs.Spread.{Covers, UpTo}
 use Rattle.automata.proofs.Distinguishable.{in-slots, pairs-in, step-fits}
 use Rattle.automata.proofs.Order.{lookup-transition}
 use Rattle.automata.proofs.Steps.{Fits, Taken, step-view}
-use Rattle.automata.proofs.Symmetry.{told-sym, zero-not-told}
+use Rattle.automata.proofs.Symmetry.{separated-sym, zero-not-separated}
 use Rattle.automata.proofs.Valid.{ranged-fits}
 use Rattle.distinguish.proofs.Slots.{args-around, slot-is}
 use Rattle.lists.proofs.Closure.{closed, closure-all}
@@ -48,13 +48,13 @@ module _ (cl s : List ℕ) (n c : ℕ) (view : Viewed cl s n c) (rises : rising 
   many : states A ≡ n
   many = viewed-states cl s n c
 
-  -- the pairs that some context tells apart, as entries
-  unfoldable pub told : ℕ → Bool
-  told x = distinguishable A (x / 256) (x % 256)
+  -- the pairs that some context separates, as entries
+  unfoldable pub separated : ℕ → Bool
+  separated x = distinguishable A (x / 256) (x % 256)
 
-  pub told-at : (p q : ℕ) → q < 256 → told (pairAt p q) ≡ distinguishable A p q
-  unfolding told
-  told-at p q h = let r : (pairAt p q / 256 ≡ p) × (pairAt p q % 256 ≡ q) = (omega arith, omega arith) in rw (
+  pub separated-at : (p q : ℕ) → q < 256 → separated (pairAt p q) ≡ distinguishable A p q
+  unfolding separated
+  separated-at p q h = let r : (pairAt p q / 256 ≡ p) × (pairAt p q % 256 ≡ q) = (omega arith, omega arith) in rw (
     r .0,
     r .1,
   )
@@ -88,11 +88,11 @@ module _ (cl s : List ℕ) (n c : ℕ) (view : Viewed cl s n c) (rises : rising 
       ∙ rw z (lookup-transition (transitionsIn s c) rises (nthTransition s i) (in-transitionsIn s c i h))
 
   -- a rule's step, one way or the other
-  told-tell : (i k q : ℕ) → i < c → k < arityOf s (transitionBytes * i) → q < n + 1 → Tell s c (transitionBytes * i)
-      k q told
-  told-tell i k q h l b e = record {
-    there = told-at a q (omega (arith, view .states)) ∙ there;
-    back = told-at q a (omega (arith, view .states, arg-small)) ∙ told-sym A a q there;
+  separated-separate : (i k q : ℕ) → i < c → k < arityOf s (transitionBytes * i) → q < n + 1 → Separate s c (transitionBytes * i)
+      k q separated
+  separated-separate i k q h l b e = record {
+    there = separated-at a q (omega (arith, view .states)) ∙ there;
+    back = separated-at q a (omega (arith, view .states, arg-small)) ∙ separated-sym A a q there;
   }
     where
       at : ℕ
@@ -114,11 +114,11 @@ module _ (cl s : List ℕ) (n c : ℕ) (view : Viewed cl s n c) (rises : rising 
       y = stepAt s c (transitionBytes * i) k q
 
       apart : distinguishable A x y ≡ true
-      apart = go (or-cases (told (pairAt x y)) (told (pairAt y x)) e)
+      apart = go (or-cases (separated (pairAt x y)) (separated (pairAt y x)) e)
         where
-          go : (told (pairAt x y) ≡ true) ⊎ (told (pairAt y x) ≡ true) → distinguishable A x y ≡ true
-          go (inl d) = sym (told-at x y (omega (arith, view .states, step-small (transitionBytes * i) k q))) ∙ d
-          go (inr d) = told-sym A y x (sym (told-at y x (omega (arith, view .states, out-small))) ∙ d)
+          go : (separated (pairAt x y) ≡ true) ⊎ (separated (pairAt y x) ≡ true) → distinguishable A x y ≡ true
+          go (inl d) = sym (separated-at x y (omega (arith, view .states, step-small (transitionBytes * i) k q))) ∙ d
+          go (inr d) = separated-sym A y x (sym (separated-at y x (omega (arith, view .states, out-small))) ∙ d)
 
       there : distinguishable A a q ≡ true
       there =
@@ -131,12 +131,12 @@ module _ (cl s : List ℕ) (n c : ℕ) (view : Viewed cl s n c) (rises : rising 
           k l))
           (subst (λ (z : ℕ). distinguishable A z y ≡ true) (sym (own-step i k h l)) apart)))
 
-  pub told-closed : UpTo (nthTell s c n) c told
-  told-closed i h k l q b = told-tell i k q h l b
+  pub separated-closed : UpTo (nthSeparate s c n) c separated
+  separated-closed i h k l q b = separated-separate i k q h l b
 
-  -- pairs of different classes are told apart
-  pub told-seed : (p q : ℕ) → p ≤ n → q ≤ n → Seed A p q told
-  told-seed p q h l e = told-at p q (omega (arith, view .states)) ∙ by-rule p q h l (or-left _ _ e)
+  -- pairs of different classes are separated
+  pub separated-seed : (p q : ℕ) → p ≤ n → q ≤ n → Seed A p q separated
+  separated-seed p q h l e = separated-at p q (omega (arith, view .states)) ∙ by-rule p q h l (or-left _ _ e)
 
   -- a step that is taken is a transition with this argument at this place
   abbrev pub Through : Slot → ℕ → Type 0
@@ -152,20 +152,20 @@ module _ (cl s : List ℕ) (n c : ℕ) (view : Viewed cl s n c) (rises : rising 
       (i, h, length (z .before), x .0, x .1, x .2, ap (λ (υ : Transition). υ .out) (sym e) ∙ o)
 
   -- marks that are closed under the rules, have the seeds, and do not have the pair of 0 with itself
-  module _ (m : ℕ → Bool) (tell : UpTo (nthTell s c n) c m) (seeds : (p q : ℕ) → p ≤ n → q ≤ n → Seed A p q m)
+  module _ (m : ℕ → Bool) (separate : UpTo (nthSeparate s c n) c m) (seeds : (p q : ℕ) → p ≤ n → q ≤ n → Seed A p q m)
       (none : m (pairAt 0 0) ≡ true → ⊥) where
     through-there : (z : Slot) (p q : ℕ) → q ≤ n → Through z p → m (pairAt (stepSlot A z p) (stepSlot A z q)) ≡ true →
         m (pairAt p q) ≡ true
     through-there z p q l (i, h, k, b, e, a, o) d =
         subst (λ (x : ℕ). m (pairAt x q) ≡ true) a
-        (tell i h k b q (omega arith)
+        (separate i h k b q (omega arith)
         (or-left _ _ (subst₂ (λ (x : ℕ) (y : Slot). m (pairAt x (stepSlot A y q)) ≡ true) (sym o) (sym e) d)) .there)
 
     through-back : (z : Slot) (p q : ℕ) → p ≤ n → Through z q → m (pairAt (stepSlot A z p) (stepSlot A z q)) ≡ true →
         m (pairAt p q) ≡ true
     through-back z p q l (i, h, k, b, e, a, o) d =
         subst (λ (x : ℕ). m (pairAt p x) ≡ true) a
-        (tell i h k b p (omega arith)
+        (separate i h k b p (omega arith)
         (or-right (m (pairAt (outOf s (transitionBytes * i)) (stepAt s c (transitionBytes * i) k p))) _
         (subst₂ (λ (x : ℕ) (y : Slot). m (pairAt (stepSlot A y p) x) ≡ true) (sym o) (sym e) d)) .back)
 
@@ -180,8 +180,8 @@ module _ (cl s : List ℕ) (n c : ℕ) (view : Viewed cl s n c) (rises : rising 
         go (inl x) (inr u) = through-back z p q h (taken-through z q u) d
         go (inl x) (inl y) = absurd (none (subst₂ (λ (a b : ℕ). m (pairAt a b) ≡ true) x y d))
 
-    pub told-marked : (p q : ℕ) → distinguishable A p q ≡ true → m (pairAt p q) ≡ true
-    told-marked p q e = closure-all eqPair eqPair-true eqPair-same (distinguishableRule A) (pairs A) Marked made (
+    pub separated-marked : (p q : ℕ) → distinguishable A p q ≡ true → m (pairAt p q) ≡ true
+    separated-marked p q e = closure-all eqPair eqPair-true eqPair-same (distinguishableRule A) (pairs A) Marked made (
       p,
       q,
     ) e
@@ -212,23 +212,23 @@ Seeded cl n m = (p q : ℕ) → p ≤ n → q ≤ n → Seed (viewed cl [] n 0) 
 
 module _ (cl s : List ℕ) (n c : ℕ) (view : Viewed cl s n c) (rises : rising (transitionsIn s c) ≡ true) where
   abbrev D : ℕ → Bool
-  D = told cl s n c view rises
+  D = separated cl s n c view rises
 
-  pub told-seeds : UpTo (SeedRow (viewed cl [] n 0) n) (n + 1) (told cl s n c view rises)
-  told-seeds p h q l e =
-      told-seed cl s n c view rises p q (omega arith) (omega arith)
+  pub separated-seeds : UpTo (SeedRow (viewed cl [] n 0) n) (n + 1) (separated cl s n c view rises)
+  separated-seeds p h q l e =
+      separated-seed cl s n c view rises p q (omega arith) (omega arith)
       (subst₂ (λ (a b : Bool). not (Bool·beq a b) ≡ true) (viewed-classes cl s n c p) (viewed-classes cl s n c q) e)
 
-  pub marks-of : {m : List ℕ} → Covers (told cl s n c view rises) m → Seeded cl n m → UpTo (nthTell s c n) c (marked
+  pub marks-of : {m : List ℕ} → Covers (separated cl s n c view rises) m → Seeded cl n m → UpTo (nthSeparate s c n) c (marked
       m) →
       MarksOf m (viewed cl s n c)
-  marks-of {m} within seeds tell = record {
+  marks-of {m} within seeds separate = record {
     marks = λ p q h l. exact p q (omega (arith, viewed-states cl s n c))
         (omega (arith, viewed-states cl s n c));
   }
     where
       none : marked m (pairAt 0 0) ≡ true → ⊥
-      none e = zero-not-told (viewed cl s n c) (sym (told-at cl s n c view rises 0 0 (omega arith)) ∙ within (pairAt
+      none e = zero-not-separated (viewed cl s n c) (sym (separated-at cl s n c view rises 0 0 (omega arith)) ∙ within (pairAt
           0 0) e)
 
       own : (p q : ℕ) → p ≤ n → q ≤ n → Seed (viewed cl s n c) p q (marked m)
@@ -239,18 +239,18 @@ module _ (cl s : List ℕ) (n c : ℕ) (view : Viewed cl s n c) (rises : rising 
       exact : (p q : ℕ) → p ≤ n → q ≤ n → marked m (pairAt p q) ≡ distinguishable (viewed cl s n c) p q
       exact p q h l =
           same-test (marked m (pairAt p q)) (distinguishable (viewed cl s n c) p q)
-          (λ e. sym (told-at cl s n c view rises p q (omega (arith, view .states))) ∙ within (pairAt p q) e)
-          (told-marked cl s n c view rises (marked m) tell own none p q)
+          (λ e. sym (separated-at cl s n c view rises p q (omega (arith, view .states))) ∙ within (pairAt p q) e)
+          (separated-marked cl s n c view rises (marked m) separate own none p q)
 
 -- all pairs of different states are marked exactly when condition 12 holds
-pub all-told-apart : (cl s m : List ℕ) (n c : ℕ) → MarksOf m (viewed cl s n c) →
-    allToldApart m n ≡ allDistinguishable (viewed cl s n c)
-unfolding allToldApart
-all-told-apart cl s m n c k =
-    ap (λ (j : ℕ). every (λ p. every (toldApart m p) (upFrom 1 j)) (upFrom 1 j)) (sym (viewed-states cl s n c))
-    ∙ every-same-in (λ p. every (toldApart m p) (upFrom 1 (states A)))
+pub all-apart : (cl s m : List ℕ) (n c : ℕ) → MarksOf m (viewed cl s n c) →
+    allApart m n ≡ allDistinguishable (viewed cl s n c)
+unfolding allApart
+all-apart cl s m n c k =
+    ap (λ (j : ℕ). every (λ p. every (apart m p) (upFrom 1 j)) (upFrom 1 j)) (sym (viewed-states cl s n c))
+    ∙ every-same-in (λ p. every (apart m p) (upFrom 1 (states A)))
     (λ p. every (λ q. eqb p q || distinguishable A p q) (upFrom 1 (states A))) (upFrom 1 (states A))
-    (λ p i. every-same-in (toldApart m p) (λ q. eqb p q || distinguishable A p q) (upFrom 1 (states A))
+    (λ p i. every-same-in (apart m p) (λ q. eqb p q || distinguishable A p q) (upFrom 1 (states A))
     (λ q j. ap (λ (b : Bool). eqb p q || b) (k .marks p q
     (omega (arith, upFrom-in 1 (states A) p i)) (omega (arith, upFrom-in 1 (states A) q j)))))
   where

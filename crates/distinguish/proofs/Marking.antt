@@ -10,9 +10,9 @@ use lib.ListN.{getD, length, set}
 use lib.Seq.{getD-set-other, getD-set-same}
 use borrow.Author.Tests.{eq-eqb, ne-eqb, not-false, not-true}
 use Rattle.automata.specs.Automaton.{Automaton, accepting, lookup}
-use Rattle.distinguish.specs.Telling.{Copied, Seed, Tell, eitherWay, pairAt, slotAt, stepAt}
-use Rattle.distinguish.specs.Telling.{toldApart, unmarked}
-use Rattle.fields.specs.Fields.{RunsOver}
+use Rattle.distinguish.specs.Separating.{Copied, Seed, Separate, eitherWay, pairAt, slotAt, stepAt}
+use Rattle.distinguish.specs.Separating.{apart, unmarked}
+use Rattle.fields.specs.Fields.{HasTransitionsOver}
 use Rattle.fields.specs.View.{viewed}
 use Rattle.format.specs.Format.{argsAt, bytePairs, maxArity, transitionBytes}
 use Rattle.lists.specs.Positions.{upFrom}
@@ -47,11 +47,11 @@ pub either-rest : (m : List ℕ) (x y : ℕ) → getD m (pairAt x y) 0 ≡ 0 →
     not (eqb (getD m (pairAt y x) 0) 0) ≡ eitherWay (marked m) x y
 either-rest m x y e = rw (nonzero-false _ e) (unequal-marked (getD m (pairAt y x) 0))
 
-pub told-same : (m : List ℕ) (p q : ℕ) → p ≡ q → true ≡ toldApart m p q
-told-same m p q e = rw (eq-eqb p q e)
+pub separated-same : (m : List ℕ) (p q : ℕ) → p ≡ q → true ≡ apart m p q
+separated-same m p q e = rw (eq-eqb p q e)
 
-pub told-other : (m : List ℕ) (p q : ℕ) → p ≢ q → not (eqb (getD m (pairAt p q) 0) 0) ≡ toldApart m p q
-told-other m p q e = rw (ne-eqb p q e) (unequal-marked (getD m (pairAt p q) 0))
+pub separated-other : (m : List ℕ) (p q : ℕ) → p ≢ q → not (eqb (getD m (pairAt p q) 0) 0) ≡ apart m p q
+separated-other m p q e = rw (ne-eqb p q e) (unequal-marked (getD m (pairAt p q) 0))
 
 -- ---- one entry
 
@@ -73,18 +73,18 @@ pub seed-some : (A : Automaton) (p q : ℕ) {m m' : List ℕ} {a b r : Bool} →
     Bool·beq a b ≡ false → Spread (Has (pairAt p q)) m m' r → Spread (Seed A p q) m m' r
 seed-some A p q e f g t = spread-if (λ r w s. s (ap not (sym (ap₂ Bool·beq e f) ∙ g))) (λ h d. h) t
 
--- ---- telling
+-- ---- separating
 
-pub tell-old : (s : List ℕ) (c at k q : ℕ) (m : List ℕ) →
-    (marked m (pairAt (argOf s at k) q) && marked m (pairAt q (argOf s at k))) ≡ true → Spread (Tell s c at k q) m m
+pub separate-old : (s : List ℕ) (c at k q : ℕ) (m : List ℕ) →
+    (marked m (pairAt (argOf s at k) q) && marked m (pairAt q (argOf s at k))) ≡ true → Spread (Separate s c at k q) m m
     false
-tell-old s c at k q m e =
+separate-old s c at k q m e =
     spread-none (λ d. record { there = and-left _ _ e; back = and-right (marked m (pairAt (argOf s at k) q)) _ e })
 
-pub tell-not : (s : List ℕ) (c at k q : ℕ) (m : List ℕ) → eitherWay (marked m) (outOf s at) (stepAt s c at k q) ≡
+pub separate-not : (s : List ℕ) (c at k q : ℕ) (m : List ℕ) → eitherWay (marked m) (outOf s at) (stepAt s c at k q) ≡
     false →
-    Spread (Tell s c at k q) m m false
-tell-not s c at k q m e = spread-none (λ d. absurd (true≢false (sym d ∙ e)))
+    Spread (Separate s c at k q) m m false
+separate-not s c at k q m e = spread-none (λ d. absurd (true≢false (sym d ∙ e)))
 
 either-covered : (p : ℕ → Bool) (m : List ℕ) (x y : ℕ) → Covers p m → eitherWay (marked m) x y ≡ true →
     eitherWay p x y ≡ true
@@ -94,10 +94,10 @@ either-covered p m x y w e = go (or-cases (marked m (pairAt x y)) (marked m (pai
     go (inl d) = or-left _ _ (w (pairAt x y) d)
     go (inr d) = or-right (p (pairAt x y)) _ (w (pairAt y x) d)
 
-pub tell-new : (s : List ℕ) (c at k q : ℕ) {m m' m'' : List ℕ} {x y : Bool} →
+pub separate-new : (s : List ℕ) (c at k q : ℕ) {m m' m'' : List ℕ} {x y : Bool} →
     eitherWay (marked m) (outOf s at) (stepAt s c at k q) ≡ true → Spread (Has (pairAt (argOf s at k) q)) m m' x →
-    Spread (Has (pairAt q (argOf s at k))) m' m'' y → Spread (Tell s c at k q) m m'' (x || y)
-tell-new s c at k q {m} e t u = record {
+    Spread (Has (pairAt q (argOf s at k))) m' m'' y → Spread (Separate s c at k q) m m'' (x || y)
+separate-new s c at k q {m} e t u = record {
   swept = swept-closed (λ (a, b) d. record { there = a; back = b }) (swept-then (t .swept) (u .swept));
   sound = λ p r w.
       let z = r (either-covered p m (outOf s at) (stepAt s c at k q) w e) in
@@ -178,7 +178,7 @@ replaced-output s c at k q r copied h small x =
 pub step-none : (s : List ℕ) (c at k : ℕ) → _≡_ {A = ℕ} 0 (stepAt s c at k 0)
 step-none s c at k = sym (step-zero (viewed [] s 0 c) (labelOf s at) (slotAt s at k .before) (slotAt s at k .after))
 
-pub step-some : (s : List ℕ) (c n i k q : ℕ) → RunsOver s c n → i < c → k < arityOf s (transitionBytes * i) → q ≢ 0 →
+pub step-some : (s : List ℕ) (c n i k q : ℕ) → HasTransitionsOver s c n → i < c → k < arityOf s (transitionBytes * i) → q ≢ 0 →
     {x : ℕ} → x ≡ lookup (labelOf s (transitionBytes * i))
     (slotAt s (transitionBytes * i) k .before ++ (q ∷ slotAt s (transitionBytes * i) k .after)) (transitionsIn s c) →
     x ≡ stepAt s c (transitionBytes * i) k q
@@ -206,25 +206,25 @@ step-some s c n i k q over h l ne e = rw z e
             go (inr (inl y)) = omega arith
             go (inr (inr y)) = all p (in-append-right (slotAt s (transitionBytes * i) k .before) _ p (inr y))
 
--- ---- telling, as code has its numbers: a and b the two states, x and y the two outputs
+-- ---- separating, as code has its numbers: a and b the two states, x and y the two outputs
 
 module _ (s : List ℕ) (c at k q : ℕ) (m : List ℕ) {a b : ℕ} (arg : a ≡ argOf s at k) (other : b ≡ q) where
-  pub tells-old : {r : Bool} → r ≡ (marked m (pairAt a b) && marked m (pairAt b a)) → r ≡ true →
-      Spread (Tell s c at k q) m m false
-  tells-old e d =
-      tell-old s c at k q m
+  pub separates-old : {r : Bool} → r ≡ (marked m (pairAt a b) && marked m (pairAt b a)) → r ≡ true →
+      Spread (Separate s c at k q) m m false
+  separates-old e d =
+      separate-old s c at k q m
       (subst₂ (λ (x y : ℕ). (marked m (pairAt x y) && marked m (pairAt y x)) ≡ true) arg other (sym e ∙ d))
 
   module _ {x y : ℕ} (out : x ≡ outOf s at) (to : y ≡ stepAt s c at k q) where
-    pub tells-not : {r : Bool} → r ≡ eitherWay (marked m) x y → not r ≡ true → Spread (Tell s c at k q) m m false
-    tells-not {r} e d =
-        tell-not s c at k q m
+    pub separates-not : {r : Bool} → r ≡ eitherWay (marked m) x y → not r ≡ true → Spread (Separate s c at k q) m m false
+    separates-not {r} e d =
+        separate-not s c at k q m
         (subst₂ (λ (u v : ℕ). eitherWay (marked m) u v ≡ false) out to (sym e ∙ not-true r d))
 
-    pub tells-new : {r : Bool} {m' m'' : List ℕ} {f g : Bool} → r ≡ eitherWay (marked m) x y → not r ≡ false →
-        Spread (Has (pairAt a b)) m m' f → Spread (Has (pairAt b a)) m' m'' g → Spread (Tell s c at k q) m m'' (f || g)
-    tells-new {r} {m'} {m''} {f} {g} e d t u =
-        tell-new s c at k q
+    pub separates-new : {r : Bool} {m' m'' : List ℕ} {f g : Bool} → r ≡ eitherWay (marked m) x y → not r ≡ false →
+        Spread (Has (pairAt a b)) m m' f → Spread (Has (pairAt b a)) m' m'' g → Spread (Separate s c at k q) m m'' (f || g)
+    separates-new {r} {m'} {m''} {f} {g} e d t u =
+        separate-new s c at k q
         (subst₂ (λ (u v : ℕ). eitherWay (marked m) u v ≡ true) out to (sym e ∙ not-false r d))
         (subst₂ (λ (i j : ℕ). Spread (Has (pairAt i j)) m m' f) arg other t)
         (subst₂ (λ (i j : ℕ). Spread (Has (pairAt j i)) m' m'' g) arg other u)

@@ -5,7 +5,7 @@ use Prim.Native.Nat.{_+_, _-_, _<_, suc, zero, ℕ}
 use native.Mathlib.Omega.{arith}
 use lib.ListN.{length, length-append}
 use Rattle.automata.specs.Distinguishable.{Slot}
-use Rattle.distinguish.specs.Telling.{slotAt}
+use Rattle.distinguish.specs.Separating.{slotAt}
 use Rattle.lists.specs.Positions.{upFrom}
 use Rattle.table.specs.Layout.{argOf, arityOf, labelOf, transitionAt}
 use Rattle.fields.proofs.Transitions.{args-length}

@@ -1,10 +1,10 @@
-// Pairs of states that some context tells apart (condition 12), by marks that spread until nothing changes. `run` has
+// Pairs of states that some context separates (condition 12), by marks that spread until nothing changes. `transitions` has
 // `count` sorted transitions over the states 1 to n and stands in a table or in a scratch; `classes` has the class of
 // state q at byte q. 0, "no state", takes part.
 mod marks; // a mark for each pair
 mod steps; // a transition with another argument
 mod seeds; // pairs of different classes
-mod telling; // from outputs to arguments
+mod separating; // from outputs to arguments
 mod ordering; // a good order for a first pass
 
 ghost use mathlib.Core.Bool.{true};
@@ -17,36 +17,36 @@ ghost use Rattle.fields.specs.View.{Viewed, viewed};
 ghost use Rattle.lists.specs.Positions.{upFrom};
 ghost use Rattle.lists.specs.Tests.{every};
 ghost use Rattle.table.specs.Layout.{transitionsIn};
-ghost use Rattle.distinguish.specs.Telling.{MarksOf, allToldApart, toldApart, unmarked};
+ghost use Rattle.distinguish.specs.Separating.{MarksOf, allApart, apart, unmarked};
 use format::BYTE_PAIRS;
 use format::BYTE_VALUES;
 pub use marks::blank;
-use ordering::tell_in_order;
+use ordering::separate_in_order;
 use seeds::seed_all;
 pub use steps::stepped;
-use telling::sweep;
+use separating::sweep;
 
-// Marks the pairs of states that are told apart.
-pub fn distinguish(classes: &[u8], run: &[u8], count: usize, n: usize, marks: &mut [u8; BYTE_PAIRS])
-    requires { ⌜ Viewed (now classes) (now run) n count ⌝ }
-    requires { ⌜ rising (transitionsIn (now run) count) ≡ true ⌝ }
+// Marks the pairs of states that are separated.
+pub fn distinguish(classes: &[u8], transitions: &[u8], count: usize, n: usize, marks: &mut [u8; BYTE_PAIRS])
+    requires { ⌜ Viewed (now classes) (now transitions) n count ⌝ }
+    requires { ⌜ rising (transitionsIn (now transitions) count) ≡ true ⌝ }
     requires { ⌜ now marks ≡ unmarked ⌝ }
-    ensures { λ _. ⌜ MarksOf (now (marks .exit)) (viewed (now (classes .entry)) (now (run .entry)) n count) ⌝ }
+    ensures { λ _. ⌜ MarksOf (now (marks .exit)) (viewed (now (classes .entry)) (now (transitions .entry)) n count) ⌝ }
 {
     while seed_all(classes, n, marks) {}
-    tell_in_order(run, count, n, marks);
-    while sweep(run, count, n, marks) {}
+    separate_in_order(transitions, count, n, marks);
+    while sweep(transitions, count, n, marks) {}
 }
 
-// Whether p is told apart from each other state of 1 to n.
-fn told_from(marks: &[u8; BYTE_PAIRS], n: usize, p: usize) -> bool
+// Whether p is separated from each other state of 1 to n.
+fn separated_from(marks: &[u8; BYTE_PAIRS], n: usize, p: usize) -> bool
     requires { ⌜ n ≤ 255 ⌝ }
     requires { ⌜ p ≤ 255 ⌝ }
-    ensures { λ r. ⌜ r ≡ every (toldApart (now (marks .entry)) p) (upFrom 1 n) ⌝ }
+    ensures { λ r. ⌜ r ≡ every (apart (now (marks .entry)) p) (upFrom 1 n) ⌝ }
 {
     let mut q = 1;
     while q < n + 1 {
-        if !told(marks, p, q) {
+        if !separated(marks, p, q) {
             return false;
         }
         q += 1;
@@ -54,11 +54,11 @@ fn told_from(marks: &[u8; BYTE_PAIRS], n: usize, p: usize) -> bool
     true
 }
 
-// Whether p is told apart from q, or is q.
-fn told(marks: &[u8; BYTE_PAIRS], p: usize, q: usize) -> bool
+// Whether p is separated from q, or is q.
+fn separated(marks: &[u8; BYTE_PAIRS], p: usize, q: usize) -> bool
     requires { ⌜ p ≤ 255 ⌝ }
     requires { ⌜ q ≤ 255 ⌝ }
-    ensures { λ r. ⌜ r ≡ toldApart (now (marks .entry)) p q ⌝ }
+    ensures { λ r. ⌜ r ≡ apart (now (marks .entry)) p q ⌝ }
 {
     if p == q {
         return true;
@@ -66,14 +66,14 @@ fn told(marks: &[u8; BYTE_PAIRS], p: usize, q: usize) -> bool
     marks[BYTE_VALUES * p + q] != 0
 }
 
-// Whether each two states of 1 to n are told apart.
-fn all_told(marks: &[u8; BYTE_PAIRS], n: usize) -> bool
+// Whether each two states of 1 to n are separated.
+fn all_separated(marks: &[u8; BYTE_PAIRS], n: usize) -> bool
     requires { ⌜ n ≤ 255 ⌝ }
-    ensures { λ r. ⌜ r ≡ allToldApart (now (marks .entry)) n ⌝ }
+    ensures { λ r. ⌜ r ≡ allApart (now (marks .entry)) n ⌝ }
 {
     let mut p = 1;
     while p < n + 1 {
-        if !told_from(marks, n, p) {
+        if !separated_from(marks, n, p) {
             return false;
         }
         p += 1;
@@ -82,12 +82,12 @@ fn all_told(marks: &[u8; BYTE_PAIRS], n: usize) -> bool
 }
 
 // Condition 12: no two different states are equivalent.
-pub fn all_distinguishable(classes: &[u8], run: &[u8], count: usize, n: usize) -> bool
-    requires { ⌜ Viewed (now classes) (now run) n count ⌝ }
-    requires { ⌜ rising (transitionsIn (now run) count) ≡ true ⌝ }
-    ensures { λ r. ⌜ r ≡ allDistinguishable (viewed (now (classes .entry)) (now (run .entry)) n count) ⌝ }
+pub fn all_distinguishable(classes: &[u8], transitions: &[u8], count: usize, n: usize) -> bool
+    requires { ⌜ Viewed (now classes) (now transitions) n count ⌝ }
+    requires { ⌜ rising (transitionsIn (now transitions) count) ≡ true ⌝ }
+    ensures { λ r. ⌜ r ≡ allDistinguishable (viewed (now (classes .entry)) (now (transitions .entry)) n count) ⌝ }
 {
     let mut marks = blank();
-    distinguish(classes, run, count, n, &mut marks);
-    all_told(&marks, n)
+    distinguish(classes, transitions, count, n, &mut marks);
+    all_separated(&marks, n)
 }

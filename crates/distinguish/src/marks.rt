@@ -5,7 +5,7 @@ ghost use Prim.Native.Nat.{_<_, _≤_};
 ghost use lib.ListN.{length};
 ghost use Rattle.marking.specs.Marks.{marked};
 ghost use Rattle.marking.specs.Spread.{Has, Spread};
-ghost use Rattle.distinguish.specs.Telling.{eitherWay, pairAt, unmarked};
+ghost use Rattle.distinguish.specs.Separating.{eitherWay, pairAt, unmarked};
 ghost use Rattle.format.specs.Format.{bytePairs};
 use format::BYTE_PAIRS;
 use format::BYTE_VALUES;

@@ -3,12 +3,12 @@
 ghost use mathlib.Core.Path.{_≡_};
 ghost use Prim.Native.Nat.{_<_, _≤_};
 ghost use lib.ListN.{length};
-ghost use Rattle.fields.specs.Fields.{RunsOver};
+ghost use Rattle.fields.specs.Fields.{HasTransitionsOver};
 ghost use Rattle.sorted.specs.Sorted.{Sorted};
 ghost use Rattle.marking.specs.Spread.{Led, UpTo};
-ghost use Rattle.distinguish.specs.Telling.{nthTell};
+ghost use Rattle.distinguish.specs.Separating.{nthSeparate};
 ghost use Rattle.format.specs.Format.{bytePairs, byteValues};
-use crate::telling::tell_at;
+use crate::separating::separate_at;
 use format::ARGS_AT;
 use format::BYTE_PAIRS;
 use format::BYTE_VALUES;
@@ -35,19 +35,19 @@ fn put_below(depths: &mut [u8; BYTE_VALUES], a: usize, out: usize) -> bool
 }
 
 // Each argument of transition i is deeper than its output. Answers whether a depth has grown.
-fn deepen(run: &[u8], count: usize, n: usize, i: usize, depths: &mut [u8; BYTE_VALUES]) -> bool
-    requires { ⌜ RunsOver (now run) count n ⌝ }
+fn deepen(transitions: &[u8], count: usize, n: usize, i: usize, depths: &mut [u8; BYTE_VALUES]) -> bool
+    requires { ⌜ HasTransitionsOver (now transitions) count n ⌝ }
     requires { ⌜ n ≤ 255 ⌝ }
     requires { ⌜ i < count ⌝ }
     requires { ⌜ length (now depths) ≡ byteValues ⌝ }
     ensures { λ _. ⌜ length (now (depths .exit)) ≡ byteValues ⌝ }
 {
-    let arity = wide(run[TRANSITION_BYTES * i + ARGS_AT - 1]);
-    let out = wide(run[TRANSITION_BYTES * i + OUT_AT]);
+    let arity = wide(transitions[TRANSITION_BYTES * i + ARGS_AT - 1]);
+    let out = wide(transitions[TRANSITION_BYTES * i + OUT_AT]);
     let mut changed = false;
     let mut k = 0;
     while k < arity {
-        let a = wide(run[TRANSITION_BYTES * i + ARGS_AT + k]);
+        let a = wide(transitions[TRANSITION_BYTES * i + ARGS_AT + k]);
         let r = put_below(depths, a, out);
         changed = changed | r;
         k += 1;
@@ -55,8 +55,8 @@ fn deepen(run: &[u8], count: usize, n: usize, i: usize, depths: &mut [u8; BYTE_V
     changed
 }
 
-fn deepen_all(run: &[u8], count: usize, n: usize, depths: &mut [u8; BYTE_VALUES]) -> bool
-    requires { ⌜ RunsOver (now run) count n ⌝ }
+fn deepen_all(transitions: &[u8], count: usize, n: usize, depths: &mut [u8; BYTE_VALUES]) -> bool
+    requires { ⌜ HasTransitionsOver (now transitions) count n ⌝ }
     requires { ⌜ n ≤ 255 ⌝ }
     requires { ⌜ length (now depths) ≡ byteValues ⌝ }
     ensures { λ _. ⌜ length (now (depths .exit)) ≡ byteValues ⌝ }
@@ -64,7 +64,7 @@ fn deepen_all(run: &[u8], count: usize, n: usize, depths: &mut [u8; BYTE_VALUES]
     let mut changed = false;
     let mut i = 0;
     while i < count {
-        let r = deepen(run, count, n, i, depths);
+        let r = deepen(transitions, count, n, i, depths);
         changed = changed | r;
         i += 1;
     }
@@ -72,8 +72,8 @@ fn deepen_all(run: &[u8], count: usize, n: usize, depths: &mut [u8; BYTE_VALUES]
 }
 
 // Transition i, where its output is at this depth.
-fn tell_there(
-    run: &[u8],
+fn separate_there(
+    transitions: &[u8],
     count: usize,
     n: usize,
     depths: &[u8; BYTE_VALUES],
@@ -81,79 +81,79 @@ fn tell_there(
     i: usize,
     marks: &mut [u8; BYTE_PAIRS],
 )
-    requires { ⌜ Sorted (now run) count ⌝ }
-    requires { ⌜ RunsOver (now run) count n ⌝ }
+    requires { ⌜ Sorted (now transitions) count ⌝ }
+    requires { ⌜ HasTransitionsOver (now transitions) count n ⌝ }
     requires { ⌜ n ≤ 255 ⌝ }
     requires { ⌜ i < count ⌝ }
     requires { ⌜ length (now marks) ≡ bytePairs ⌝ }
-    ensures { λ _. ⌜ Led (nthTell (now (run .entry)) count n i) (now (marks .entry)) (now (marks .exit)) ⌝ }
+    ensures { λ _. ⌜ Led (nthSeparate (now (transitions .entry)) count n i) (now (marks .entry)) (now (marks .exit)) ⌝ }
 {
-    let out = wide(run[TRANSITION_BYTES * i + OUT_AT]);
+    let out = wide(transitions[TRANSITION_BYTES * i + OUT_AT]);
     if wide(depths[out]) != depth {
         return;
     }
-    tell_at(run, count, n, i, marks);
+    separate_at(transitions, count, n, i, marks);
 }
 
 // The transitions whose outputs are at one depth.
-fn tell_level(
-    run: &[u8],
+fn separate_level(
+    transitions: &[u8],
     count: usize,
     n: usize,
     depths: &[u8; BYTE_VALUES],
     depth: usize,
     marks: &mut [u8; BYTE_PAIRS],
 )
-    requires { ⌜ Sorted (now run) count ⌝ }
-    requires { ⌜ RunsOver (now run) count n ⌝ }
+    requires { ⌜ Sorted (now transitions) count ⌝ }
+    requires { ⌜ HasTransitionsOver (now transitions) count n ⌝ }
     requires { ⌜ n ≤ 255 ⌝ }
     requires { ⌜ length (now marks) ≡ bytePairs ⌝ }
-    ensures { λ _. ⌜ Led (UpTo (nthTell (now (run .entry)) count n) count) (now (marks .entry)) (now (marks .exit)) ⌝ }
+    ensures { λ _. ⌜ Led (UpTo (nthSeparate (now (transitions .entry)) count n) count) (now (marks .entry)) (now (marks .exit)) ⌝ }
 {
     let mut i = 0;
     while i < count {
-        tell_there(run, count, n, depths, depth, i, marks);
+        separate_there(transitions, count, n, depths, depth, i, marks);
         i += 1;
     }
 }
 
 // All transitions, the least depth first.
-fn tell_levels(
-    run: &[u8],
+fn separate_levels(
+    transitions: &[u8],
     count: usize,
     n: usize,
     depths: &[u8; BYTE_VALUES],
     marks: &mut [u8; BYTE_PAIRS],
 )
-    requires { ⌜ Sorted (now run) count ⌝ }
-    requires { ⌜ RunsOver (now run) count n ⌝ }
+    requires { ⌜ Sorted (now transitions) count ⌝ }
+    requires { ⌜ HasTransitionsOver (now transitions) count n ⌝ }
     requires { ⌜ n ≤ 255 ⌝ }
     requires { ⌜ length (now marks) ≡ bytePairs ⌝ }
-    ensures { λ _. ⌜ Led (UpTo (nthTell (now (run .entry)) count n) count) (now (marks .entry)) (now (marks .exit)) ⌝ }
+    ensures { λ _. ⌜ Led (UpTo (nthSeparate (now (transitions .entry)) count n) count) (now (marks .entry)) (now (marks .exit)) ⌝ }
 {
     let mut depth = 0;
     while depth < BYTE_VALUES {
-        tell_level(run, count, n, depths, depth, marks);
+        separate_level(transitions, count, n, depths, depth, marks);
         depth += 1;
     }
 }
 
-// Twice: the first time also tells every state from none, which may tell apart pairs that came too early.
-pub fn tell_in_order(run: &[u8], count: usize, n: usize, marks: &mut [u8; BYTE_PAIRS])
-    requires { ⌜ Sorted (now run) count ⌝ }
-    requires { ⌜ RunsOver (now run) count n ⌝ }
+// Twice: the first time also tells every state from none, which may separate pairs that came too early.
+pub fn separate_in_order(transitions: &[u8], count: usize, n: usize, marks: &mut [u8; BYTE_PAIRS])
+    requires { ⌜ Sorted (now transitions) count ⌝ }
+    requires { ⌜ HasTransitionsOver (now transitions) count n ⌝ }
     requires { ⌜ n ≤ 255 ⌝ }
     requires { ⌜ length (now marks) ≡ bytePairs ⌝ }
-    ensures { λ _. ⌜ Led (UpTo (nthTell (now (run .entry)) count n) count) (now (marks .entry)) (now (marks .exit)) ⌝ }
+    ensures { λ _. ⌜ Led (UpTo (nthSeparate (now (transitions .entry)) count n) count) (now (marks .entry)) (now (marks .exit)) ⌝ }
 {
     let mut depths = [0u8; BYTE_VALUES];
     let mut turn = 0;
     while turn < n {
-        if !deepen_all(run, count, n, &mut depths) {
+        if !deepen_all(transitions, count, n, &mut depths) {
             break;
         }
         turn += 1;
     }
-    tell_levels(run, count, n, &depths, marks);
-    tell_levels(run, count, n, &depths, marks);
+    separate_levels(transitions, count, n, &depths, marks);
+    separate_levels(transitions, count, n, &depths, marks);
 }

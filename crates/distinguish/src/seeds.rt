@@ -1,4 +1,4 @@
-// States of different classes are told apart.
+// States of different classes are separated.
 ghost use mathlib.Core.List.{[]};
 ghost use mathlib.Core.Path.{_≡_};
 ghost use Prim.Native.Nat.{_+_, _<_, _≤_};
@@ -6,7 +6,7 @@ ghost use lib.ListN.{length};
 ghost use Rattle.automata.specs.Automaton.{accepting};
 ghost use Rattle.fields.specs.View.{viewed};
 ghost use Rattle.marking.specs.Spread.{Spread, UpTo};
-ghost use Rattle.distinguish.specs.Telling.{Seed, SeedRow};
+ghost use Rattle.distinguish.specs.Separating.{Seed, SeedRow};
 ghost use Rattle.format.specs.Format.{bytePairs};
 use crate::marks::mark;
 use format::BYTE_PAIRS;

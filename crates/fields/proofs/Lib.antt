@@ -1,5 +1,5 @@
 pub mod Transitions
 pub mod Views
-pub mod Laws
-pub mod Returns
+pub mod Searching
+pub mod LayoutChecks
 pub mod Bounds

@@ -1,4 +1,4 @@
-// Fields of a table and of its transitions. `run` is a run of transitions, transition i at byte 11 i: the part
+// Fields of a table and of its transitions. `transitions` is a transitions of transitions, transition i at byte 11 i: the part
 // `&table[203..]` of a table, or a scratch. Layout and order are conditions 7 and 8.
 ghost use mathlib.Core.Path.{_≡_};
 ghost use Prim.Native.Nat.{_*_, _+_, _-_, _<_, _≤_};
@@ -11,7 +11,7 @@ ghost use Rattle.lists.specs.Positions.{upFrom};
 ghost use Rattle.lists.specs.Tests.{any, every};
 ghost use Rattle.table.specs.Layout.{argFits, classFits, layoutFits, nthFits, transitionAt, transitionCount};
 ghost use Rattle.table.specs.Layout.{stateCount, transitionFits, transitionsIn, zeroAt};
-ghost use Rattle.fields.specs.Fields.{Readable, Runs, atMost, firstArgs, foundState, isFound};
+ghost use Rattle.fields.specs.Fields.{Readable, HasTransitions, atMost, firstArgs, foundState, isFound};
 use format::ARGS_AT;
 use format::ARITY_AT;
 use format::COUNT_AT;
@@ -42,14 +42,14 @@ pub fn transition_count(table: &[u8]) -> usize
 
 // Whether the bytes from one up to, not including, another are at most a bound. No byte ends the loop, so that a
 // machine may look at many at once: on small tables these are nearly all bytes that there are.
-fn at_most(run: &[u8], from: usize, end: usize, bound: u8) -> bool
-    requires { ⌜ end ≤ length (now run) ⌝ }
-    ensures { λ r. ⌜ r ≡ every (atMost (now (run .entry)) bound) (upFrom from (end - from)) ⌝ }
+fn at_most(transitions: &[u8], from: usize, end: usize, bound: u8) -> bool
+    requires { ⌜ end ≤ length (now transitions) ⌝ }
+    ensures { λ r. ⌜ r ≡ every (atMost (now (transitions .entry)) bound) (upFrom from (end - from)) ⌝ }
 {
     let mut all = true;
     let mut j = from;
     while j < end {
-        let small = run[j] <= bound;
+        let small = transitions[j] <= bound;
         all = all & small;
         j += 1;
     }
@@ -80,25 +80,25 @@ fn in_range(states: usize, q: usize) -> bool
 }
 
 // Whether argument k of a transition is a state, and 0 beyond the number of arguments.
-fn arg_fits(run: &[u8], states: usize, at: usize, k: usize) -> bool
-    requires { ⌜ at + transitionBytes ≤ length (now run) ⌝ }
+fn arg_fits(transitions: &[u8], states: usize, at: usize, k: usize) -> bool
+    requires { ⌜ at + transitionBytes ≤ length (now transitions) ⌝ }
     requires { ⌜ k < maxArity ⌝ }
-    ensures { λ r. ⌜ r ≡ argFits (now (run .entry)) states at k ⌝ }
+    ensures { λ r. ⌜ r ≡ argFits (now (transitions .entry)) states at k ⌝ }
 {
-    let q = wide(run[at + ARGS_AT + k]);
-    if k < wide(run[at + ARITY_AT]) {
+    let q = wide(transitions[at + ARGS_AT + k]);
+    if k < wide(transitions[at + ARITY_AT]) {
         return in_range(states, q);
     }
     q == 0
 }
 
-fn args_fit(run: &[u8], states: usize, at: usize) -> bool
-    requires { ⌜ at + transitionBytes ≤ length (now run) ⌝ }
-    ensures { λ r. ⌜ r ≡ every (argFits (now (run .entry)) states at) (upFrom 0 maxArity) ⌝ }
+fn args_fit(transitions: &[u8], states: usize, at: usize) -> bool
+    requires { ⌜ at + transitionBytes ≤ length (now transitions) ⌝ }
+    ensures { λ r. ⌜ r ≡ every (argFits (now (transitions .entry)) states at) (upFrom 0 maxArity) ⌝ }
 {
     let mut k = 0;
     while k < MAX_ARITY {
-        if !arg_fits(run, states, at, k) {
+        if !arg_fits(transitions, states, at, k) {
             return false;
         }
         k += 1;
@@ -107,30 +107,30 @@ fn args_fit(run: &[u8], states: usize, at: usize) -> bool
 }
 
 // Whether the fields of the transition that starts at a byte are in their ranges.
-fn transition_fits(run: &[u8], states: usize, at: usize) -> bool
-    requires { ⌜ at + transitionBytes ≤ length (now run) ⌝ }
-    ensures { λ r. ⌜ r ≡ transitionFits (now (run .entry)) states at ⌝ }
+fn transition_fits(transitions: &[u8], states: usize, at: usize) -> bool
+    requires { ⌜ at + transitionBytes ≤ length (now transitions) ⌝ }
+    ensures { λ r. ⌜ r ≡ transitionFits (now (transitions .entry)) states at ⌝ }
 {
-    if run[at] < 1 {
+    if transitions[at] < 1 {
         return false;
     }
-    if wide(run[at + ARITY_AT]) > MAX_ARITY {
+    if wide(transitions[at + ARITY_AT]) > MAX_ARITY {
         return false;
     }
-    if !args_fit(run, states, at) {
+    if !args_fit(transitions, states, at) {
         return false;
     }
-    let out = wide(run[at + OUT_AT]);
+    let out = wide(transitions[at + OUT_AT]);
     in_range(states, out)
 }
 
-fn transitions_fit(run: &[u8], states: usize, count: usize) -> bool
-    requires { ⌜ transitionBytes * count ≤ length (now run) ⌝ }
-    ensures { λ r. ⌜ r ≡ every (nthFits (now (run .entry)) states) (upFrom 0 count) ⌝ }
+fn transitions_fit(transitions: &[u8], states: usize, count: usize) -> bool
+    requires { ⌜ transitionBytes * count ≤ length (now transitions) ⌝ }
+    ensures { λ r. ⌜ r ≡ every (nthFits (now (transitions .entry)) states) (upFrom 0 count) ⌝ }
 {
     let mut i = 0;
     while i < count {
-        if !transition_fits(run, states, TRANSITION_BYTES * i) {
+        if !transition_fits(transitions, states, TRANSITION_BYTES * i) {
             return false;
         }
         i += 1;
@@ -138,11 +138,11 @@ fn transitions_fit(run: &[u8], states: usize, count: usize) -> bool
     true
 }
 
-// Whether the bytes of a run from one on are all 0.
-fn zeros_from(run: &[u8], start: usize) -> bool
-    ensures { λ r. ⌜ r ≡ every (zeroAt (now (run .entry))) (upFrom start (length (now (run .entry)) - start)) ⌝ }
+// Whether the bytes of a transitions from one on are all 0.
+fn zeros_from(transitions: &[u8], start: usize) -> bool
+    ensures { λ r. ⌜ r ≡ every (zeroAt (now (transitions .entry))) (upFrom start (length (now (transitions .entry)) - start)) ⌝ }
 {
-    at_most(run, start, run.len(), 0)
+    at_most(transitions, start, transitions.len(), 0)
 }
 
 // Condition 7: every field of a table is in its range, and every byte that must be 0 is.
@@ -168,16 +168,16 @@ pub fn layout_fits(table: &[u8]) -> bool
 }
 
 // Whether the first n arguments of one transition come before those of another: the first that differ decide.
-fn args_precede(run: &[u8], a: usize, b: usize, n: usize) -> bool
-    requires { ⌜ Readable (now run) a ⌝ }
-    requires { ⌜ Readable (now run) b ⌝ }
+fn args_precede(transitions: &[u8], a: usize, b: usize, n: usize) -> bool
+    requires { ⌜ Readable (now transitions) a ⌝ }
+    requires { ⌜ Readable (now transitions) b ⌝ }
     requires { ⌜ n ≤ maxArity ⌝ }
-    ensures { λ r. ⌜ r ≡ lex (firstArgs (now (run .entry)) a n) (firstArgs (now (run .entry)) b n) ⌝ }
+    ensures { λ r. ⌜ r ≡ lex (firstArgs (now (transitions .entry)) a n) (firstArgs (now (transitions .entry)) b n) ⌝ }
 {
     let mut k = 0;
     while k < n {
-        let x = run[a + ARGS_AT + k];
-        let y = run[b + ARGS_AT + k];
+        let x = transitions[a + ARGS_AT + k];
+        let y = transitions[b + ARGS_AT + k];
         if x != y {
             return x < y;
         }
@@ -188,32 +188,32 @@ fn args_precede(run: &[u8], a: usize, b: usize, n: usize) -> bool
 
 // Whether the transition that starts at byte a comes before the one at byte b: by child count, then label, then
 // arguments.
-fn precedes_at(run: &[u8], a: usize, b: usize) -> bool
-    requires { ⌜ Readable (now run) a ⌝ }
-    requires { ⌜ Readable (now run) b ⌝ }
-    ensures { λ r. ⌜ r ≡ precedes (transitionAt (now (run .entry)) a) (transitionAt (now (run .entry)) b) ⌝ }
+fn precedes_at(transitions: &[u8], a: usize, b: usize) -> bool
+    requires { ⌜ Readable (now transitions) a ⌝ }
+    requires { ⌜ Readable (now transitions) b ⌝ }
+    ensures { λ r. ⌜ r ≡ precedes (transitionAt (now (transitions .entry)) a) (transitionAt (now (transitions .entry)) b) ⌝ }
 {
-    let n = wide(run[a + ARITY_AT]);
-    let m = wide(run[b + ARITY_AT]);
-    let first = wide(run[a]);
-    let second = wide(run[b]);
+    let n = wide(transitions[a + ARITY_AT]);
+    let m = wide(transitions[b + ARITY_AT]);
+    let first = wide(transitions[a]);
+    let second = wide(transitions[b]);
     if n != m {
         return n < m;
     }
     if first != second {
         return first < second;
     }
-    args_precede(run, a, b, n)
+    args_precede(transitions, a, b, n)
 }
 
 // Condition 8: each transition comes before the next.
-pub fn rises(run: &[u8], count: usize) -> bool
-    requires { ⌜ Runs (now run) count ⌝ }
-    ensures { λ r. ⌜ r ≡ rising (transitionsIn (now (run .entry)) count) ⌝ }
+pub fn rises(transitions: &[u8], count: usize) -> bool
+    requires { ⌜ HasTransitions (now transitions) count ⌝ }
+    ensures { λ r. ⌜ r ≡ rising (transitionsIn (now (transitions .entry)) count) ⌝ }
 {
     let mut i = 0;
     while i + 1 < count {
-        if !precedes_at(run, TRANSITION_BYTES * i, TRANSITION_BYTES * (i + 1)) {
+        if !precedes_at(transitions, TRANSITION_BYTES * i, TRANSITION_BYTES * (i + 1)) {
             return false;
         }
         i += 1;
@@ -222,11 +222,11 @@ pub fn rises(run: &[u8], count: usize) -> bool
 }
 
 // The output of the first transition that has this label and these arguments.
-pub fn find(run: &[u8], count: usize, label: u8, arity: usize, args: [u8; MAX_ARITY]) -> Found
-    requires { ⌜ Runs (now run) count ⌝ }
+pub fn find(transitions: &[u8], count: usize, label: u8, arity: usize, args: [u8; MAX_ARITY]) -> Found
+    requires { ⌜ HasTransitions (now transitions) count ⌝ }
     requires { ⌜ arity ≤ maxArity ⌝ }
-    ensures { λ r. ⌜ foundState r ≡ lookup label (take arity args) (transitionsIn (now (run .entry)) count) ⌝ }
-    ensures { λ r. ⌜ isFound r ≡ any (matches label (take arity args)) (transitionsIn (now (run .entry)) count) ⌝ }
+    ensures { λ r. ⌜ foundState r ≡ lookup label (take arity args) (transitionsIn (now (transitions .entry)) count) ⌝ }
+    ensures { λ r. ⌜ isFound r ≡ any (matches label (take arity args)) (transitionsIn (now (transitions .entry)) count) ⌝ }
 {
     let mut i = 0;
     let answer = 'search: loop {
@@ -235,20 +235,20 @@ pub fn find(run: &[u8], count: usize, label: u8, arity: usize, args: [u8; MAX_AR
         }
         let at = TRANSITION_BYTES * i;
         i += 1;
-        if run[at] != label {
+        if transitions[at] != label {
             continue 'search;
         }
-        if wide(run[at + ARITY_AT]) != arity {
+        if wide(transitions[at + ARITY_AT]) != arity {
             continue 'search;
         }
         let mut k = 0;
         'args: while k < arity {
-            if run[at + ARGS_AT + k] != args[k] {
+            if transitions[at + ARGS_AT + k] != args[k] {
                 continue 'search;
             }
             k += 1;
         }
-        break 'search Found::State(run[at + OUT_AT]);
+        break 'search Found::State(transitions[at + OUT_AT]);
     };
     answer
 }

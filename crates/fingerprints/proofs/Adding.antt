@@ -12,11 +12,11 @@ use borrow.Author.Tests.{eqb-false, eqb-true}
 use Rattle.automata.specs.Automaton.{Transition, accepting}
 use Rattle.automata.specs.Coaccessible.{coaccessible}
 use Rattle.automata.specs.Distinguishable.{Slot}
-use Rattle.fields.specs.Fields.{RunsOver}
+use Rattle.fields.specs.Fields.{HasTransitionsOver}
 use Rattle.fields.specs.View.{viewed}
 use Rattle.fingerprints.specs.Fingerprints.{ClassPrints, Gained, Prints, Round, UsefulMarks, cubed, fingerprint}
 use Rattle.fingerprints.specs.Fingerprints.{folded, gain, usefulGain}
-use Rattle.fingerprints.specs.Fingerprints.{gains, mixed, only, packed, places, prime, printOf}
+use Rattle.fingerprints.specs.Fingerprints.{gains, mixed, only, base256, places, prime, printOf}
 use Rattle.fingerprints.specs.Fingerprints.{salted, slotValue, total, valueAt}
 use Rattle.format.specs.Format.{byteValues, transitionBytes}
 use Rattle.lists.specs.Positions.{upFrom}
@@ -151,14 +151,14 @@ module _ (s : List ℕ) (at : ℕ) where
       go true = refl
       go false = omega arith
 
-  value-is : (x k : ℕ) {b c t v : ℕ} → b ≡ folded (argsTo k) 1 → c ≡ packed (argsFrom (k + 1)) →
+  value-is : (x k : ℕ) {b c t v : ℕ} → b ≡ folded (argsTo k) 1 → c ≡ base256 (argsFrom (k + 1)) →
       t ≡ salted (labelOf s at) x → v ≡ 2 * cubed (mixed b c t) → v ≡ valueAt x (slotOf k)
   unfolding slotValue
   value-is x k e f g h = h ∙ rw (e, f, g)
 
   -- a is argument k, and b, c and t are what its slot's value v is made of
   pub gain-step : (x k : ℕ) {a b c t v : ℕ} → k < arityOf s at → a ≡ argOf s at k → b ≡ folded (argsTo k) 1 →
-      c ≡ packed (argsFrom (k + 1)) → t ≡ salted (labelOf s at) x → v ≡ 2 * cubed (mixed b c t) → (q : ℕ) →
+      c ≡ base256 (argsFrom (k + 1)) → t ≡ salted (labelOf s at) x → v ≡ 2 * cubed (mixed b c t) → (q : ℕ) →
       gainFrom x k q ≡ only a v q + gainFrom x (k + 1) q
   gain-step x k h d e f g w q =
       gain-next x k q h
@@ -170,21 +170,21 @@ module _ (s : List ℕ) (at : ℕ) where
       ap₂ (λ (b q : ℕ). (b * 1566083941 + q) % prime) e f ∙ sym (folded-last (argsTo k) (argOf s at k) 1)
       ∙ ap (λ (l : List ℕ). folded l 1) (sym (argsTo-next k))
 
-  pub packed-whole : (k : ℕ) → k ≡ 0 → packed (argsFrom k) ≡ packed (transitionAt s at .args)
+  pub packed-whole : (k : ℕ) → k ≡ 0 → base256 (argsFrom k) ≡ base256 (transitionAt s at .args)
   packed-whole k e =
       let z : arityOf s at - 0 ≡ arityOf s at = omega arith in
-      ap (λ (j : ℕ). packed (argsFrom j)) e ∙ ap (λ (n : ℕ). packed (map (argOf s at) (upFrom 0 n))) z
+      ap (λ (j : ℕ). base256 (argsFrom j)) e ∙ ap (λ (n : ℕ). base256 (map (argOf s at) (upFrom 0 n))) z
 
   pub packed-before : (k : ℕ) → 1 ≤ k → k ≤ arityOf s at → {a b : ℕ} → a ≡ argOf s at (k - 1) →
-      b ≡ packed (argsFrom k) → a + 256 * b ≡ packed (argsFrom (k - 1))
+      b ≡ base256 (argsFrom k) → a + 256 * b ≡ base256 (argsFrom (k - 1))
   packed-before k h l e f =
       let z : k - 1 + 1 ≡ k = omega arith in
-      ap₂ (λ (x y : ℕ). x + 256 * y) e (f ∙ ap (λ (j : ℕ). packed (argsFrom j)) (sym z))
-      ∙ ap packed (sym (argsFrom-next (k - 1) (omega arith)))
+      ap₂ (λ (x y : ℕ). x + 256 * y) e (f ∙ ap (λ (j : ℕ). base256 (argsFrom j)) (sym z))
+      ∙ ap base256 (sym (argsFrom-next (k - 1) (omega arith)))
 
-  pub packed-next : (k : ℕ) → k < arityOf s at → argOf s at k ≤ 255 → packed (argsFrom k) / 256 ≡
-      packed (argsFrom (k + 1))
-  packed-next k h l = ap (λ (r : List ℕ). packed r / 256) (argsFrom-next k h) ∙ omega arith
+  pub packed-next : (k : ℕ) → k < arityOf s at → argOf s at k ≤ 255 → base256 (argsFrom k) / 256 ≡
+      base256 (argsFrom (k + 1))
+  packed-next k h l = ap (λ (r : List ℕ). base256 r / 256) (argsFrom-next k h) ∙ omega arith
 
 -- ---- the transitions of a run
 
@@ -262,7 +262,7 @@ class-end c h = record { prints = c .prints; none = c .none; each = λ p a b. c 
 
 -- ---- a round
 
-pub round-is : (cl s : List ℕ) (n c : ℕ) (u : List ℕ) (h : ℕ → ℕ) {m m' : List ℕ} → RunsOver s c n →
+pub round-is : (cl s : List ℕ) (n c : ℕ) (u : List ℕ) (h : ℕ → ℕ) {m m' : List ℕ} → HasTransitionsOver s c n →
     UsefulMarks (viewed cl s n c) u → ClassPrints cl n m → Gained (gains (transitionsIn s c) (marked u) h) m m' →
     Round (viewed cl s n c) h m'
 unfolding fingerprint

@@ -1,4 +1,4 @@
--- States that nothing tells apart have one fingerprint. They have the same uses that lead to coaccessible states: what
+-- States that nothing separates have one fingerprint. They have the same uses that lead to coaccessible states: what
 -- such a use leads to is told from 0 and from useless states, so the other state cannot lack it.
 use mathlib.Core.Bool.{Bool, Bool·beq, _&&_, _||_, cond, false, not, true, true≢false}
 use mathlib.Core.List.{List, [], _++_, _∷_}
@@ -23,7 +23,7 @@ use Rattle.automata.proofs.Distinguishable.{in-slots, step-fits}
 use Rattle.automata.proofs.Order.{lookup-transition}
 use Rattle.automata.proofs.Steps.{Fits, Taken, step-view}
 use Rattle.automata.proofs.Valid.{ranged-fits, ranged-transition}
-use Rattle.automata.proofs.Symmetry.{told-sym}
+use Rattle.automata.proofs.Symmetry.{separated-sym}
 use Rattle.fingerprints.proofs.Uses.{Used, in-uses, places-in, total-append, total-filter, total-members}
 use Rattle.fingerprints.proofs.Uses.{total-same, total-zero, uses, uses-distinct, uses-in}
 use Rattle.lists.proofs.Closure.{closed, closure-all, closure-fixed, elem-in, in-elem}
@@ -56,7 +56,7 @@ module _ (A : Automaton) (ranged : statesInRange A ≡ true) (rises : rising (A 
       let n = none-zero (τ .args) (λ p j. ranged-transition A ranged τ i .args p j .0) in
       rw (e, ← f, n) (lookup-transition (A .transitions) rises τ i)
 
-  -- states that a used slot takes to states told apart are told apart
+  -- states that a used slot takes to states separated are separated
   pub by-use : (x : ℕ) (z : Slot) → Used (A .transitions) x z → (p q : ℕ) → p ≤ states A → q ≤ states A →
       distinguishable A (stepSlot A z p) (stepSlot A z q) ≡ true → distinguishable A p q ≡ true
   by-use x z (τ, i, (e, f)) p q h l d =
@@ -122,14 +122,14 @@ module _ (A : Automaton) (ranged : statesInRange A ≡ true) (rises : rising (A 
       go (inr u) = taken u (coaccessible A (stepSlot A z q)) refl
 
   -- a useful state is told from a useless one
-  abbrev pub Told : ℕ → Type 0
-  Told x = (y : ℕ) → y ≤ states A → coaccessible A y ≡ false → distinguishable A x y ≡ true
+  abbrev pub Separated : ℕ → Type 0
+  Separated x = (y : ℕ) → y ≤ states A → coaccessible A y ≡ false → distinguishable A x y ≡ true
 
-  pub useful-told : (q : ℕ) → coaccessible A q ≡ true → Told q
-  useful-told = closure-all eqb eqb-true eqb-same (coaccessibleRule A) (upFrom 1 (states A)) Told made
+  pub useful-separated : (q : ℕ) → coaccessible A q ≡ true → Separated q
+  useful-separated = closure-all eqb eqb-true eqb-same (coaccessibleRule A) (upFrom 1 (states A)) Separated made
     where
-      made : (m : ℕ → Bool) → ((j : ℕ) → m j ≡ true → Told j) → (k : ℕ) → k ∈ upFrom 1 (states A) →
-          coaccessibleRule A m k ≡ true → Told k
+      made : (m : ℕ → Bool) → ((j : ℕ) → m j ≡ true → Separated j) → (k : ℕ) → k ∈ upFrom 1 (states A) →
+          coaccessibleRule A m k ≡ true → Separated k
       made m ih k i e y l d = go (or-cases (accepting A k) _ e)
         where
           small : k ≤ states A
@@ -200,18 +200,18 @@ module _ (A : Automaton) (ranged : statesInRange A ≡ true) (rises : rising (A 
           (stepSlot A z q ≡ 0) ⊎ Taken A (z .label) (z .before ++ (q ∷ z .after)) → z ∈ usefulUses q
       go false e t =
           absurd (d (by-use p z u p q k l
-          (useful-told (stepSlot A z p) (f .1) (stepSlot A z q)
+          (useful-separated (stepSlot A z p) (f .1) (stepSlot A z q)
           (step-fits A fit (z .label) (z .before ++ (q ∷ z .after))) e)))
       go true e (inl o) =
           absurd (true≢false (sym (subst (λ (x : ℕ). coaccessible A x ≡ true) o e) ∙ useless-zero))
       go true e (inr (n, (υ, j, a, b, o))) =
           in-filter (leadsOn q) (uses (A .transitions) q) z (in-uses (A .transitions) q z (υ, j, (sym a, b))) e
 
-  -- states that nothing tells apart, and whose uses lead to states with equal fingerprints
+  -- states that nothing separates, and whose uses lead to states with equal fingerprints
   module _ (h : ℕ → ℕ) (p q : ℕ) (k : p ≤ states A) (l : q ≤ states A) (d : distinguishable A p q ≡ true → ⊥)
       (near : (z : Slot) → z ∈ usefulUses p → h (stepSlot A z p) ≡ h (stepSlot A z q)) where
     turned : distinguishable A q p ≡ true → ⊥
-    turned e = d (told-sym A q p e)
+    turned e = d (separated-sym A q p e)
 
     value-too : (z : Slot) → z ∈ usefulUses p → stepValue h p z ≡ stepValue h q z
     value-too z i = ap (slotValue z) (near z i)

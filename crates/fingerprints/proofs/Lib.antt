@@ -1,5 +1,5 @@
 pub mod Uses
 pub mod Equivalent
-pub mod Told
+pub mod AllDiffer
 pub mod OneRound
 pub mod Adding

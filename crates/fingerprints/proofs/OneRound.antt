@@ -1,5 +1,5 @@
 -- Where no state comes back to itself one round is enough, whatever the fingerprints before it: from the last states
--- on, states that nothing tells apart have uses that lead to the same states, and so one fingerprint.
+-- on, states that nothing separates have uses that lead to the same states, and so one fingerprint.
 use mathlib.Core.Bool.{Bool, false, true}
 use mathlib.Core.List.{List, _∷_}
 use mathlib.Core.Logic.{_⊎_, inl, inr}
@@ -20,10 +20,10 @@ use Rattle.lists.specs.Positions.{upFrom}
 use Rattle.lists.specs.Tests.{_∈_, filter}
 use Rattle.automata.proofs.Leads.{Feeds, acyclic-iff, leads-before, leads-iff, once}
 use Rattle.automata.proofs.Valid.{ranged-transition}
-use Rattle.automata.proofs.Symmetry.{told-sym}
+use Rattle.automata.proofs.Symmetry.{separated-sym}
 use Rattle.fingerprints.proofs.Equivalent.{by-use, equal-fingerprint, leadsOn, use-too, used-step}
-use Rattle.fingerprints.proofs.Equivalent.{useful-told, usefulUses, useless-zero}
-use Rattle.fingerprints.proofs.Told.{all-differ-told, differ-apart}
+use Rattle.fingerprints.proofs.Equivalent.{useful-separated, usefulUses, useless-zero}
+use Rattle.fingerprints.proofs.AllDiffer.{all-differ-separated, differ-apart}
 use Rattle.fingerprints.proofs.Uses.{uses, uses-in}
 use Rattle.lists.proofs.Intervals.{every-at}
 use Rattle.lists.proofs.Positions.{in-upFrom}
@@ -88,17 +88,17 @@ module _ (A : Automaton) (ranged : statesInRange A ≡ true) (rises : rising (A 
         single-step p (λ o a b f. single k o (let l = height-less p o a b f in omega arith))
 
     pub one-round : allCoaccessible A ≡ true → allDistinguishable A ≡ true
-    one-round useful = all-differ-told A m (record { equal = same }) all
+    one-round useful = all-differ-separated A m (record { equal = same }) all
       where
-        zero-told : (p : ℕ) → 1 ≤ p → p ≤ states A → distinguishable A p 0 ≡ true
-        zero-told p a b =
-            useful-told A ranged rises p (every-at (coaccessible A) 1 (states A) useful p a (omega arith)) 0
+        zero-separated : (p : ℕ) → 1 ≤ p → p ≤ states A → distinguishable A p 0 ≡ true
+        zero-separated p a b =
+            useful-separated A ranged rises p (every-at (coaccessible A) 1 (states A) useful p a (omega arith)) 0
             (omega arith) (useless-zero A ranged rises)
 
         same : (p q : ℕ) → p ≤ states A → q ≤ states A → (distinguishable A p q ≡ true → ⊥) → printOf m p ≡ printOf m q
         same zero zero a b d = refl
-        same zero (suc q) a b d = absurd (d (told-sym A (suc q) 0 (zero-told (suc q) (omega arith) b)))
-        same (suc p) zero a b d = absurd (d (zero-told (suc p) (omega arith) a))
+        same zero (suc q) a b d = absurd (d (separated-sym A (suc q) 0 (zero-separated (suc q) (omega arith) b)))
+        same (suc p) zero a b d = absurd (d (zero-separated (suc p) (omega arith) a))
         same (suc p) (suc q) a b d =
             ap (printOf m)
             (single (suc (height (suc p))) (suc p) (omega arith) (suc q) (omega arith) a (omega arith) b d)

@@ -29,9 +29,9 @@ folded [] b = b
 folded (q ∷ qs) b = folded qs ((b * 1566083941 + q) % prime)
 
 -- arguments as digits to base 256
-abbrev pub packed : List ℕ → ℕ
-packed [] = 0
-packed (q ∷ qs) = q + 256 * packed qs
+abbrev pub base256 : List ℕ → ℕ
+base256 [] = 0
+base256 (q ∷ qs) = q + 256 * base256 qs
 
 -- what a label and the fingerprint of an output give
 unfoldable pub salted : ℕ → ℕ → ℕ
@@ -48,7 +48,7 @@ cubed t = t * t % prime * t % prime
 -- what a slot adds to the fingerprint of a state that stands in it, where its output's fingerprint is x; even, so that
 -- the class is the fingerprint's last bit
 unfoldable pub slotValue : Slot → ℕ → ℕ
-slotValue z x = 2 * cubed (mixed (folded (z .before) 1) (packed (z .after)) (salted (z .label) x))
+slotValue z x = 2 * cubed (mixed (folded (z .before) 1) (base256 (z .after)) (salted (z .label) x))
 
 abbrev pub valueAt : ℕ → Slot → ℕ
 valueAt x z = slotValue z x
@@ -115,7 +115,7 @@ pub record UsefulMarks (A : Automaton) (u : List ℕ) : Type 0 where
 pub record Round (A : Automaton) (h : ℕ → ℕ) (m : List ℕ) : Type 0 where
   pub each : (q : ℕ) → q ≤ states A → printOf m q ≡ fingerprint A h q
 
--- states that nothing tells apart have one fingerprint, 0 among them
+-- states that nothing separates have one fingerprint, 0 among them
 pub record Sound (A : Automaton) (h : ℕ → ℕ) : Type 0 where
   pub equal : (p q : ℕ) → p ≤ states A → q ≤ states A → (distinguishable A p q ≡ true → ⊥) → h p ≡ h q
 

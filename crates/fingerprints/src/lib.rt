@@ -1,4 +1,4 @@
-// Fingerprints of states: equivalent states have the same, so states whose fingerprints differ are told apart. `run`
+// Fingerprints of states: equivalent states have the same, so states whose fingerprints differ are separated. `run`
 // has `count` sorted transitions over the states 1 to n; `classes` has the class of state q at byte q. 0, "no state",
 // takes part.
 mod values; // what a use adds

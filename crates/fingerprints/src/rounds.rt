@@ -4,7 +4,7 @@ ghost use mathlib.Core.Path.{_≡_};
 ghost use Prim.Native.Nat.{_*_, _<_, _≤_};
 ghost use lib.ListN.{length};
 ghost use Rattle.lists.specs.Tests.{bit};
-ghost use Rattle.fields.specs.Fields.{RunsOver};
+ghost use Rattle.fields.specs.Fields.{HasTransitionsOver};
 ghost use Rattle.fields.specs.View.{Viewed, viewed};
 ghost use Rattle.marking.specs.Marks.{marked};
 ghost use Rattle.table.specs.Layout.{classAt, nthTransition, transitionsIn};
@@ -32,26 +32,26 @@ fn add(prints: &mut [usize; BYTE_VALUES], q: usize, v: usize)
 
 // The uses in transition i, whose output's fingerprint is x.
 fn add_uses(
-    run: &[u8],
+    transitions: &[u8],
     count: usize,
     n: usize,
     i: usize,
     x: usize,
     prints: &mut [usize; BYTE_VALUES],
 )
-    requires { ⌜ RunsOver (now run) count n ⌝ }
+    requires { ⌜ HasTransitionsOver (now transitions) count n ⌝ }
     requires { ⌜ n ≤ 255 ⌝ }
     requires { ⌜ i < count ⌝ }
     requires { ⌜ Prints (now prints) ⌝ }
-    ensures { λ _. ⌜ Gained (gain (nthTransition (now (run .entry)) i) x) (now (prints .entry)) (now (prints .exit)) ⌝ }
+    ensures { λ _. ⌜ Gained (gain (nthTransition (now (transitions .entry)) i) x) (now (prints .entry)) (now (prints .exit)) ⌝ }
 {
-    let arity = wide(run[TRANSITION_BYTES * i + ARGS_AT - 1]);
-    let s = salt(wide(run[TRANSITION_BYTES * i]), x);
+    let arity = wide(transitions[TRANSITION_BYTES * i + ARGS_AT - 1]);
+    let s = salt(wide(transitions[TRANSITION_BYTES * i]), x);
     let mut before = 1;
-    let mut after = packed_args(run, TRANSITION_BYTES * i);
+    let mut after = packed_args(transitions, TRANSITION_BYTES * i);
     let mut k = 0;
     while k < arity {
-        let q = wide(run[TRANSITION_BYTES * i + ARGS_AT + k]);
+        let q = wide(transitions[TRANSITION_BYTES * i + ARGS_AT + k]);
         after = after / 256;
         add(prints, q, value(before, after, s));
         before = fold(before, q);
@@ -61,7 +61,7 @@ fn add_uses(
 
 // The uses in transition i, where its output is useful.
 fn add_useful(
-    run: &[u8],
+    transitions: &[u8],
     count: usize,
     n: usize,
     i: usize,
@@ -69,38 +69,38 @@ fn add_useful(
     seen: &[usize; BYTE_VALUES],
     prints: &mut [usize; BYTE_VALUES],
 )
-    requires { ⌜ RunsOver (now run) count n ⌝ }
+    requires { ⌜ HasTransitionsOver (now transitions) count n ⌝ }
     requires { ⌜ n ≤ 255 ⌝ }
     requires { ⌜ i < count ⌝ }
     requires { ⌜ Prints (now prints) ⌝ }
-    ensures { λ _. ⌜ Gained (usefulGain (nthTransition (now (run .entry)) i) (marked (now (useful .entry)))
+    ensures { λ _. ⌜ Gained (usefulGain (nthTransition (now (transitions .entry)) i) (marked (now (useful .entry)))
         (printOf (now (seen .entry)))) (now (prints .entry)) (now (prints .exit)) ⌝ }
 {
-    let out = wide(run[TRANSITION_BYTES * i + OUT_AT]);
+    let out = wide(transitions[TRANSITION_BYTES * i + OUT_AT]);
     if useful[out] == 0 {
         return;
     }
-    add_uses(run, count, n, i, seen[out], prints);
+    add_uses(transitions, count, n, i, seen[out], prints);
 }
 
 // The uses in all transitions.
 fn add_all_uses(
-    run: &[u8],
+    transitions: &[u8],
     count: usize,
     n: usize,
     useful: &[u8; BYTE_VALUES],
     seen: &[usize; BYTE_VALUES],
     prints: &mut [usize; BYTE_VALUES],
 )
-    requires { ⌜ RunsOver (now run) count n ⌝ }
+    requires { ⌜ HasTransitionsOver (now transitions) count n ⌝ }
     requires { ⌜ n ≤ 255 ⌝ }
     requires { ⌜ Prints (now prints) ⌝ }
-    ensures { λ _. ⌜ Gained (gains (transitionsIn (now (run .entry)) count) (marked (now (useful .entry)))
+    ensures { λ _. ⌜ Gained (gains (transitionsIn (now (transitions .entry)) count) (marked (now (useful .entry)))
         (printOf (now (seen .entry)))) (now (prints .entry)) (now (prints .exit)) ⌝ }
 {
     let mut i = 0;
     while i < count {
-        add_useful(run, count, n, i, useful, seen, prints);
+        add_useful(transitions, count, n, i, useful, seen, prints);
         i += 1;
     }
 }
@@ -134,18 +134,18 @@ fn class_prints(classes: &[u8], n: usize) -> [usize; BYTE_VALUES]
 // The fingerprints of the states 0 to n. `useful` has a mark for each coaccessible state.
 pub fn round(
     classes: &[u8],
-    run: &[u8],
+    transitions: &[u8],
     count: usize,
     n: usize,
     useful: &[u8; BYTE_VALUES],
     seen: &[usize; BYTE_VALUES],
 ) -> [usize; BYTE_VALUES]
-    requires { ⌜ Viewed (now classes) (now run) n count ⌝ }
-    requires { ⌜ UsefulMarks (viewed (now classes) (now run) n count) (now useful) ⌝ }
-    ensures { λ r. ⌜ Round (viewed (now (classes .entry)) (now (run .entry)) n count)
+    requires { ⌜ Viewed (now classes) (now transitions) n count ⌝ }
+    requires { ⌜ UsefulMarks (viewed (now classes) (now transitions) n count) (now useful) ⌝ }
+    ensures { λ r. ⌜ Round (viewed (now (classes .entry)) (now (transitions .entry)) n count)
         (printOf (now (seen .entry))) r ⌝ }
 {
     let mut prints = class_prints(classes, n);
-    add_all_uses(run, count, n, useful, seen, &mut prints);
+    add_all_uses(transitions, count, n, useful, seen, &mut prints);
     prints
 }

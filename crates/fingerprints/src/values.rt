@@ -4,22 +4,22 @@ ghost use mathlib.Core.Path.{_≡_};
 ghost use Prim.Native.Nat.{_%_, _*_, _+_, _<_, _≤_};
 ghost use Rattle.fields.specs.Fields.{Readable};
 ghost use Rattle.table.specs.Layout.{transitionAt};
-ghost use Rattle.fingerprints.specs.Fingerprints.{cubed, folded, mixed, packed, prime, salted};
+ghost use Rattle.fingerprints.specs.Fingerprints.{cubed, folded, mixed, base256, prime, salted};
 use format::ARGS_AT;
 use format::wide;
 
 pub const PRIME: usize = 2147483629;
 
 // The arguments of the transition that starts at a byte, as one number.
-pub fn packed_args(run: &[u8], at: usize) -> usize
-    requires { ⌜ Readable (now run) at ⌝ }
-    ensures { λ r. ⌜ r ≡ packed (transitionAt (now (run .entry)) at .args) ⌝ }
+pub fn packed_args(transitions: &[u8], at: usize) -> usize
+    requires { ⌜ Readable (now transitions) at ⌝ }
+    ensures { λ r. ⌜ r ≡ base256 (transitionAt (now (transitions .entry)) at .args) ⌝ }
 {
-    let mut k = wide(run[at + ARGS_AT - 1]);
+    let mut k = wide(transitions[at + ARGS_AT - 1]);
     let mut sum = 0;
     while k > 0 {
         k -= 1;
-        sum = wide(run[at + ARGS_AT + k]) + 256 * sum;
+        sum = wide(transitions[at + ARGS_AT + k]) + 256 * sum;
     }
     sum
 }

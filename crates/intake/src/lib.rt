@@ -7,7 +7,7 @@ ghost use lib.ListN.{length};
 ghost use Rattle.automata.specs.Accessible.{allAccessible};
 ghost use Rattle.automata.specs.Numbered.{numbered};
 ghost use Rattle.automata.specs.Order.{rising};
-ghost use Rattle.fields.specs.Fields.{RunsOver};
+ghost use Rattle.fields.specs.Fields.{HasTransitionsOver};
 ghost use Rattle.fields.specs.View.{Viewed, viewed};
 ghost use Rattle.format.specs.Format.{tableBytes};
 ghost use Rattle.lists.specs.Conditions.{firstBroken};
@@ -27,36 +27,36 @@ use validity::all_coaccessible;
 use validity::numbered;
 
 // Condition 9. Where the states are numbered by the rule it holds, and no search is needed.
-fn reached(run: &[u8], count: usize, n: usize, in_order: bool) -> bool
-    requires { ⌜ RunsOver (now run) count n ⌝ }
+fn reached(transitions: &[u8], count: usize, n: usize, in_order: bool) -> bool
+    requires { ⌜ HasTransitionsOver (now transitions) count n ⌝ }
     requires { ⌜ n ≤ 255 ⌝ }
-    requires { ⌜ in_order ≡ numbered (viewed [] (now run) n count) ⌝ }
-    ensures { λ r. ⌜ ((cl : List ℕ) → r ≡ allAccessible (viewed cl (now (run .entry)) n count)) ⌝ }
+    requires { ⌜ in_order ≡ numbered (viewed [] (now transitions) n count) ⌝ }
+    ensures { λ r. ⌜ ((cl : List ℕ) → r ≡ allAccessible (viewed cl (now (transitions .entry)) n count)) ⌝ }
 {
     if in_order {
         return true;
     }
-    all_accessible(run, count, n)
+    all_accessible(transitions, count, n)
 }
 
 // Refusals 9 to 13 of an automaton whose fields are in range and whose transitions rise, or 0.
-fn automaton_refusal(classes: &[u8], run: &[u8], count: usize, n: usize) -> u8
-    requires { ⌜ Viewed (now classes) (now run) n count ⌝ }
-    requires { ⌜ rising (transitionsIn (now run) count) ≡ true ⌝ }
-    ensures { λ r. ⌜ r ≡ firstBroken (automatonConditions (viewed (now (classes .entry)) (now (run .entry)) n
+fn automaton_refusal(classes: &[u8], transitions: &[u8], count: usize, n: usize) -> u8
+    requires { ⌜ Viewed (now classes) (now transitions) n count ⌝ }
+    requires { ⌜ rising (transitionsIn (now transitions) count) ≡ true ⌝ }
+    ensures { λ r. ⌜ r ≡ firstBroken (automatonConditions (viewed (now (classes .entry)) (now (transitions .entry)) n
         count)) ⌝ }
 {
-    let in_order = numbered(run, count, n);
-    if !reached(run, count, n, in_order) {
+    let in_order = numbered(transitions, count, n);
+    if !reached(transitions, count, n, in_order) {
         return 9;
     }
-    if !all_coaccessible(classes, run, count, n) {
+    if !all_coaccessible(classes, transitions, count, n) {
         return 10;
     }
-    if !acyclic(run, count, n) {
+    if !acyclic(transitions, count, n) {
         return 11;
     }
-    if !all_distinguishable_useful(classes, run, count, n) {
+    if !all_distinguishable_useful(classes, transitions, count, n) {
         return 12;
     }
     if !in_order {

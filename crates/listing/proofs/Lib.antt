@@ -1,3 +1,3 @@
 pub mod Reader
 pub mod Checks
-pub mod Laws
+pub mod ReaderMeaning

@@ -17,7 +17,7 @@ use Rattle.lists.specs.Tests.{every}
 use Rattle.marking.specs.Marks.{marked}
 use Rattle.minimize.specs.Merged.{nameIn}
 use Rattle.table.specs.Layout.{argOf, arityOf, labelOf, transitionAt}
-use Rattle.fields.proofs.Laws.{LexFrom, lex-agrees, lex-differs, lex-start}
+use Rattle.fields.proofs.Searching.{LexFrom, lex-agrees, lex-differs, lex-start}
 use Rattle.fields.proofs.Transitions.{args-every, args-length}
 use Rattle.lists.proofs.Loops.{EveryFrom}
 

@@ -8,4 +8,4 @@ pub mod Ordering
 pub mod Renumbering
 pub mod Tables
 pub mod Quotient
-pub mod Whole
+pub mod MinimalWritten

@@ -11,10 +11,10 @@ use lib.ListN.{getD, length}
 use borrow.Author.Tests.{eq-eqb, ltb-false, ltb-true, ne-eqb}
 use Rattle.automata.specs.Automaton.{Transition}
 use Rattle.automata.specs.Renumber.{renumberBy}
-use Rattle.fields.specs.Fields.{Readable, Runs}
+use Rattle.fields.specs.Fields.{Readable, HasTransitions}
 use Rattle.format.specs.Format.{labelBytes, maxArity, outAt, transitionBytes}
 use Rattle.lists.specs.Tests.{filter}
-use Rattle.minimize.specs.Merged.{entryOf, mergedBy, nameIn, useful}
+use Rattle.minimize.specs.Merged.{entryOf, mergedBy, nameIn, hasOutput}
 use Rattle.sorted.specs.Sorted.{SameBytes, Written}
 use Rattle.table.specs.Layout.{arityOf, blank, nthTransition, transitionAt, transitionsIn}
 use Rattle.fields.proofs.Transitions.{transitionsIn-suc}
@@ -69,7 +69,7 @@ merging-start s count names = record {
 }
 
 module _ {s run : List ℕ} {count : ℕ} {names : List ℕ} {kept i : ℕ} (inv : Merging s run count names kept i)
-    (runs : Runs s count) where
+    (runs : HasTransitions s count) where
   unread-bytes : SameBytes run (transitionBytes * i) s (transitionBytes * i)
   unread-bytes = record { byte = λ k h. inv .unread (transitionBytes * i + k) (omega arith) }
 
@@ -79,7 +79,7 @@ module _ {s run : List ℕ} {count : ℕ} {names : List ℕ} {kept i : ℕ} (inv
     narrow = omega (arith, same-arity unread-bytes, runs .narrow i h);
   }
 
-  pub merging-runs : count ≤ i → Runs run kept
+  pub merging-runs : count ≤ i → HasTransitions run kept
   merging-runs h = record {
     inside = omega (arith, inv .size, inv .behind, inv .within, runs .inside);
     few = omega (arith, inv .behind, inv .within, runs .few);
@@ -109,12 +109,12 @@ module _ {s run : List ℕ} {count : ℕ} {names : List ℕ} {kept i : ℕ} (inv
     out-here : getD entry outAt 0 ≡ here .out
     out-here = ap (λ l. getD l outAt 0) entry-here ∙ entry-byte here outAt (omega arith)
 
-    more : renamedIn names s (i + 1) ≡ renamedIn names s i ++ cond (useful here) (here ∷ []) []
+    more : renamedIn names s (i + 1) ≡ renamedIn names s i ++ cond (hasOutput here) (here ∷ []) []
     unfolding here
     more =
         ap (renamedIn names s) (add-one i) ∙
         ap (mergedBy (nameIn names)) (transitionsIn-suc s i) ∙
-        filter-snoc useful (renumberBy (nameIn names)) (transitionsIn s i) (nthTransition s i)
+        filter-snoc hasOutput (renumberBy (nameIn names)) (transitionsIn s i) (nthTransition s i)
 
     pub merging-skip : getD entry outAt 0 ≡ 0 → Merging s run count names kept (i + 1)
     merging-skip z = let out : 0 ≡ here .out = sym z ∙ out-here in record {

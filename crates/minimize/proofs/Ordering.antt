@@ -20,7 +20,7 @@ use Rattle.lists.specs.Closure.{elem}
 use Rattle.lists.specs.Positions.{shift, upFrom}
 use Rattle.lists.specs.Tests.{_∈_, every}
 use Rattle.minimize.specs.Merged.{nameIn}
-use Rattle.minimize.specs.Numbering.{Numbered, NumbersOf, Outputs, Unnumbered, picked}
+use Rattle.minimize.specs.Numbering.{NumberingHeld, NumbersOf, Outputs, Unnumbered, picked}
 use Rattle.table.specs.Layout.{nthTransition, outOf, transitionsIn}
 use Rattle.automata.proofs.Numbering.{Best, BestView, best-view}
 use Rattle.lists.proofs.Closure.{in-elem}
@@ -117,7 +117,7 @@ module _ {s : List ℕ} {count : ℕ} {order numbers : List ℕ} {k b : ℕ}
   length-o : length o ≡ k
   length-o = length-take-le k order (omega (arith, inv .few, inv .room))
 
-  pub ordering-end : count ≤ b → Numbered (transitionsIn s count) order numbers k
+  pub ordering-end : count ≤ b → NumberingHeld (transitionsIn s count) order numbers k
   ordering-end h =
       let none-ready : best o Q ≡ none = sym (inv .next) ∙ rw (le-ltb b count h) in
       let e = sym (inv .left ∙ numbering-still Q (length Q - k) o none-ready) in record {

@@ -12,14 +12,14 @@ use Rattle.automata.specs.Automaton.{Automaton, Transition, states, step}
 use Rattle.automata.specs.Distinguishable.{distinguishablePairs}
 use Rattle.automata.specs.Minimal.{first, merge, quotient, representative}
 use Rattle.automata.specs.Renumber.{renumberBy}
-use Rattle.fields.specs.Fields.{RunsOver}
+use Rattle.fields.specs.Fields.{HasTransitionsOver}
 use Rattle.fields.specs.View.{viewed}
 use Rattle.format.specs.Format.{transitionBytes}
 use Rattle.lists.specs.Closure.{elem}
 use Rattle.lists.specs.Positions.{Pair, eqPair, upFrom}
 use Rattle.lists.specs.Tests.{_∈_, filter}
 use Rattle.minimize.specs.Made.{Minimizable}
-use Rattle.minimize.specs.Merged.{Named, chosen, mergedBy, nameIn, unmarked, useful}
+use Rattle.minimize.specs.Merged.{Named, chosen, mergedBy, nameIn, unmarked, hasOutput}
 use Rattle.table.specs.Layout.{argOf, arityOf, labelOf, nthTransition, outOf, transitionsIn}
 use Rattle.automata.proofs.Minimal.{first-same}
 use Rattle.automata.proofs.Order.{lookup-transition}
@@ -44,10 +44,10 @@ unfolding chosen
 chosen-le m n p = first-le (unmarked m p) (upFrom 0 (suc n)) n (λ x i. omega (arith, upFrom-in 0 (suc n) x i))
 
 -- names count for the states of a run only
-pub merged-names : {s : List ℕ} {n count : ℕ} → RunsOver s count n → (f : ℕ → ℕ) {names : List ℕ} →
+pub merged-names : {s : List ℕ} {n count : ℕ} → HasTransitionsOver s count n → (f : ℕ → ℕ) {names : List ℕ} →
     Named names f n → mergedBy (nameIn names) (transitionsIn s count) ≡ mergedBy f (transitionsIn s count)
 merged-names {s} {n} {count} over f {names} named =
-    ap (filter useful)
+    ap (filter hasOutput)
     (map-in-same (renumberBy (nameIn names)) (renumberBy f) (transitionsIn s count)
     (λ τ j. let (i, h, e) = transitionsIn-in s count τ j in
     subst (λ (σ : Transition). renumberBy (nameIn names) σ ≡ renumberBy f σ) (sym e) (here i h)))
@@ -110,13 +110,13 @@ module _ {cl s : List ℕ} {n count : ℕ} {m : List ℕ} (given : Minimizable c
     unfolding quotient
     merged-quotient =
         merged ∙
-        ap (filter useful)
+        ap (filter hasOutput)
         (map-in-same (renumberBy (chosen m n)) (merge P D) (transitionsIn s count) renamed-merge)
 
     -- what is left leads to states
     pub merged-output : (τ : Transition) → τ ∈ ρs → (1 ≤ τ .out) × (τ .out ≤ n)
     merged-output τ j =
-        let (there, useful-here) = filter-in useful (map (renumberBy (chosen m n)) (transitionsIn s count)) τ
+        let (there, useful-here) = filter-in hasOutput (map (renumberBy (chosen m n)) (transitionsIn s count)) τ
         (subst (λ (l : List Transition). τ ∈ l) (merged) j) in
         let (σ, k, e) = map-in (renumberBy (chosen m n)) (transitionsIn s count) τ there in
         let (i, h, d) = transitionsIn-in s count σ k in (

@@ -16,7 +16,7 @@ use Rattle.table.specs.Layout.{encode, transitionsIn}
 use Rattle.format.specs.Format.{byteValues}
 
 -- what minimising a run needs: states with classes, transitions in their order, and the marks of the pairs of
--- states that some context tells apart
+-- states that some context separates
 pub record Minimizable (classes run : List ℕ) (n count : ℕ) (m : List ℕ) : Type 0 where
   pub view : Viewed classes run n count
   pub rises : rising (transitionsIn run count) ≡ true

@@ -41,9 +41,9 @@ unfoldable pub entryOf : Transition → List ℕ
 entryOf τ = map (transitionByte τ) (upFrom 0 transitionBytes)
 
 -- the output is a state
-abbrev pub useful : Transition → Bool
-useful τ = not (eqb 0 (τ .out))
+abbrev pub hasOutput : Transition → Bool
+hasOutput τ = not (eqb 0 (τ .out))
 
 -- transitions with other names for the states, without those into no state
 abbrev pub mergedBy : (ℕ → ℕ) → List Transition → List Transition
-mergedBy f τs = filter useful (map (renumberBy f) τs)
+mergedBy f τs = filter hasOutput (map (renumberBy f) τs)

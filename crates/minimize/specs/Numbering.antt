@@ -58,7 +58,7 @@ abbrev pub Outputs : List ℕ → ℕ → Type 0
 Outputs s n = (i : ℕ) → i < n → 1 ≤ outOf s (transitionBytes * i)
 
 -- the first k of an order are the states by their numbers, and a table has their numbers
-pub record Numbered (Q : List Transition) (order numbers : List ℕ) (k : ℕ) : Type 0 where
+pub record NumberingHeld (Q : List Transition) (order numbers : List ℕ) (k : ℕ) : Type 0 where
   pub few : k < byteValues
   pub size : length order ≡ byteValues
   pub states : take k order ≡ numbering Q

@@ -4,7 +4,7 @@ ghost use mathlib.Core.Path.{_≡_};
 ghost use Prim.Native.Nat.{_*_, _+_, _<_, _≤_};
 ghost use lib.ListN.{length};
 ghost use Rattle.automata.specs.Renumber.{renumberBy};
-ghost use Rattle.fields.specs.Fields.{Readable, Runs, RunsOver};
+ghost use Rattle.fields.specs.Fields.{Readable, HasTransitions, HasTransitionsOver};
 ghost use Rattle.format.specs.Format.{byteValues, transitionBytes};
 ghost use Rattle.sorted.specs.Sorted.{Written};
 ghost use Rattle.table.specs.Layout.{transitionAt, transitionsIn};
@@ -54,67 +54,67 @@ pub fn representatives(marks: &[u8; BYTE_PAIRS], n: usize, names: &mut [u8; BYTE
 }
 
 // The bytes of a transition whose states have other names.
-pub fn renamed(run: &[u8], at: usize, names: &[u8; BYTE_VALUES]) -> [u8; TRANSITION_BYTES]
-    requires { ⌜ Readable (now run) at ⌝ }
-    ensures { λ r. ⌜ r ≡ entryOf (renumberBy (nameIn (now (names .entry))) (transitionAt (now (run .entry)) at)) ⌝ }
+pub fn renamed(transitions: &[u8], at: usize, names: &[u8; BYTE_VALUES]) -> [u8; TRANSITION_BYTES]
+    requires { ⌜ Readable (now transitions) at ⌝ }
+    ensures { λ r. ⌜ r ≡ entryOf (renumberBy (nameIn (now (names .entry))) (transitionAt (now (transitions .entry)) at)) ⌝ }
 {
     let mut entry = [0u8; TRANSITION_BYTES];
-    entry[0] = run[at];
-    entry[ARITY_AT] = run[at + ARITY_AT];
-    let out = wide(run[at + OUT_AT]);
+    entry[0] = transitions[at];
+    entry[ARITY_AT] = transitions[at + ARITY_AT];
+    let out = wide(transitions[at + OUT_AT]);
     entry[OUT_AT] = names[out];
-    let n = wide(run[at + ARITY_AT]);
+    let n = wide(transitions[at + ARITY_AT]);
     let mut k = 0;
     while k < n {
-        let q = wide(run[at + ARGS_AT + k]);
+        let q = wide(transitions[at + ARGS_AT + k]);
         entry[ARGS_AT + k] = names[q];
         k += 1;
     }
     entry
 }
 
-// Writes an entry over the bytes of a run from one on.
-pub fn put(run: &mut [u8], at: usize, entry: [u8; TRANSITION_BYTES])
-    requires { ⌜ at + transitionBytes ≤ length (now run) ⌝ }
-    ensures { λ _. ⌜ Written (now (run .entry)) (now (run .exit)) at entry ⌝ }
+// Writes an entry over the bytes of a transitions from one on.
+pub fn put(transitions: &mut [u8], at: usize, entry: [u8; TRANSITION_BYTES])
+    requires { ⌜ at + transitionBytes ≤ length (now transitions) ⌝ }
+    ensures { λ _. ⌜ Written (now (transitions .entry)) (now (transitions .exit)) at entry ⌝ }
 {
     let mut j = 0;
     while j < TRANSITION_BYTES {
-        run[at + j] = entry[j];
+        transitions[at + j] = entry[j];
         j += 1;
     }
 }
 
-// Renames the states of a run, and leaves out the transitions whose output is then 0: how many stay.
-pub fn merge(run: &mut [u8], count: usize, names: &[u8; BYTE_VALUES]) -> usize
-    requires { ⌜ Runs (now run) count ⌝ }
-    ensures { λ r. ⌜ Runs (now (run .exit)) r ⌝ }
-    ensures { λ r. ⌜ transitionsIn (now (run .exit)) r ≡
-        mergedBy (nameIn (now (names .entry))) (transitionsIn (now (run .entry)) count) ⌝ }
+// Renames the states of a transitions, and leaves out the transitions whose output is then 0: how many stay.
+pub fn merge(transitions: &mut [u8], count: usize, names: &[u8; BYTE_VALUES]) -> usize
+    requires { ⌜ HasTransitions (now transitions) count ⌝ }
+    ensures { λ r. ⌜ HasTransitions (now (transitions .exit)) r ⌝ }
+    ensures { λ r. ⌜ transitionsIn (now (transitions .exit)) r ≡
+        mergedBy (nameIn (now (names .entry))) (transitionsIn (now (transitions .entry)) count) ⌝ }
 {
     let mut kept = 0;
     let mut i = 0;
     while i < count {
-        let entry = renamed(run, TRANSITION_BYTES * i, names);
+        let entry = renamed(transitions, TRANSITION_BYTES * i, names);
         i += 1;
         if entry[OUT_AT] == 0 {
             continue;
         }
-        put(run, TRANSITION_BYTES * kept, entry);
+        put(transitions, TRANSITION_BYTES * kept, entry);
         kept += 1;
     }
     kept
 }
 
-// Merges the equivalent states of a run over the states 1 to n: how many transitions stay.
-pub fn merge_equivalent(run: &mut [u8], count: usize, n: usize, marks: &[u8; BYTE_PAIRS]) -> usize
-    requires { ⌜ RunsOver (now run) count n ⌝ }
+// Merges the equivalent states of a transitions over the states 1 to n: how many transitions stay.
+pub fn merge_equivalent(transitions: &mut [u8], count: usize, n: usize, marks: &[u8; BYTE_PAIRS]) -> usize
+    requires { ⌜ HasTransitionsOver (now transitions) count n ⌝ }
     requires { ⌜ n < byteValues ⌝ }
-    ensures { λ r. ⌜ Runs (now (run .exit)) r ⌝ }
-    ensures { λ r. ⌜ transitionsIn (now (run .exit)) r ≡
-        mergedBy (chosen (now (marks .entry)) n) (transitionsIn (now (run .entry)) count) ⌝ }
+    ensures { λ r. ⌜ HasTransitions (now (transitions .exit)) r ⌝ }
+    ensures { λ r. ⌜ transitionsIn (now (transitions .exit)) r ≡
+        mergedBy (chosen (now (marks .entry)) n) (transitionsIn (now (transitions .entry)) count) ⌝ }
 {
     let mut names = no_names();
     representatives(marks, n, &mut names);
-    merge(run, count, &names)
+    merge(transitions, count, &names)
 }

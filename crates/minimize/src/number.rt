@@ -1,5 +1,5 @@
 // States numbered by the rule: of all transitions whose arguments have numbers and whose output has none, the
-// first by the order of the new numbers gives its output the next number. A number 0 is none. The run stands by
+// first by the order of the new numbers gives its output the next number. A number 0 is none. The transitions stands by
 // child count, then label, which the order compares first too: a search need not look beyond the ready ones.
 ghost use mathlib.Core.Bool.{true};
 ghost use mathlib.Core.Path.{_≡_};
@@ -8,13 +8,13 @@ ghost use Prim.Native.Nat.{_<_, _≤_, ℕ};
 ghost use lib.ListN.{length};
 ghost use Rattle.automata.specs.Order.{lex, precedes};
 ghost use Rattle.automata.specs.Renumber.{best, renumberBy};
-ghost use Rattle.fields.specs.Fields.{Readable, Runs, firstArgs};
+ghost use Rattle.fields.specs.Fields.{Readable, HasTransitions, firstArgs};
 ghost use Rattle.format.specs.Format.{byteValues, maxArity};
 ghost use Rattle.lists.specs.Tests.{every};
 ghost use Rattle.marking.specs.Marks.{marked};
 ghost use Rattle.table.specs.Layout.{transitionAt, transitionsIn};
 ghost use Rattle.minimize.specs.Merged.{nameIn};
-ghost use Rattle.minimize.specs.Numbering.{Grouped, Numbered, NumbersOf, OtherGroup, Outputs, Settled};
+ghost use Rattle.minimize.specs.Numbering.{Grouped, NumberingHeld, NumbersOf, OtherGroup, Outputs, Settled};
 ghost use Rattle.minimize.specs.Numbering.{Unnumbered, improves, picked, readyBy};
 use format::ARGS_AT;
 use format::ARITY_AT;
@@ -24,14 +24,14 @@ use format::TRANSITION_BYTES;
 use format::wide;
 
 // Whether every argument of a transition has a number.
-fn args_numbered(run: &[u8], at: usize, numbers: &[u8; BYTE_VALUES]) -> bool
-    requires { ⌜ Readable (now run) at ⌝ }
-    ensures { λ r. ⌜ r ≡ every (marked (now (numbers .entry))) (transitionAt (now (run .entry)) at .args) ⌝ }
+fn args_numbered(transitions: &[u8], at: usize, numbers: &[u8; BYTE_VALUES]) -> bool
+    requires { ⌜ Readable (now transitions) at ⌝ }
+    ensures { λ r. ⌜ r ≡ every (marked (now (numbers .entry))) (transitionAt (now (transitions .entry)) at .args) ⌝ }
 {
-    let n = wide(run[at + ARITY_AT]);
+    let n = wide(transitions[at + ARITY_AT]);
     let mut k = 0;
     while k < n {
-        let q = wide(run[at + ARGS_AT + k]);
+        let q = wide(transitions[at + ARGS_AT + k]);
         if numbers[q] == 0 {
             return false;
         }
@@ -41,29 +41,29 @@ fn args_numbered(run: &[u8], at: usize, numbers: &[u8; BYTE_VALUES]) -> bool
 }
 
 // Whether a transition's arguments have numbers and its output has none.
-fn ready(run: &[u8], at: usize, numbers: &[u8; BYTE_VALUES]) -> bool
-    requires { ⌜ Readable (now run) at ⌝ }
-    ensures { λ r. ⌜ r ≡ readyBy (now (numbers .entry)) (transitionAt (now (run .entry)) at) ⌝ }
+fn ready(transitions: &[u8], at: usize, numbers: &[u8; BYTE_VALUES]) -> bool
+    requires { ⌜ Readable (now transitions) at ⌝ }
+    ensures { λ r. ⌜ r ≡ readyBy (now (numbers .entry)) (transitionAt (now (transitions .entry)) at) ⌝ }
 {
-    let out = wide(run[at + OUT_AT]);
+    let out = wide(transitions[at + OUT_AT]);
     if numbers[out] != 0 {
         return false;
     }
-    args_numbered(run, at, numbers)
+    args_numbered(transitions, at, numbers)
 }
 
 // Whether the first n arguments of one transition come before those of another, each as its number.
-fn args_precede(run: &[u8], a: usize, b: usize, n: usize, numbers: &[u8; BYTE_VALUES]) -> bool
-    requires { ⌜ Readable (now run) a ⌝ }
-    requires { ⌜ Readable (now run) b ⌝ }
+fn args_precede(transitions: &[u8], a: usize, b: usize, n: usize, numbers: &[u8; BYTE_VALUES]) -> bool
+    requires { ⌜ Readable (now transitions) a ⌝ }
+    requires { ⌜ Readable (now transitions) b ⌝ }
     requires { ⌜ n ≤ maxArity ⌝ }
-    ensures { λ r. ⌜ r ≡ lex (map (nameIn (now (numbers .entry))) (firstArgs (now (run .entry)) a n))
-        (map (nameIn (now (numbers .entry))) (firstArgs (now (run .entry)) b n)) ⌝ }
+    ensures { λ r. ⌜ r ≡ lex (map (nameIn (now (numbers .entry))) (firstArgs (now (transitions .entry)) a n))
+        (map (nameIn (now (numbers .entry))) (firstArgs (now (transitions .entry)) b n)) ⌝ }
 {
     let mut k = 0;
     while k < n {
-        let p = wide(run[a + ARGS_AT + k]);
-        let q = wide(run[b + ARGS_AT + k]);
+        let p = wide(transitions[a + ARGS_AT + k]);
+        let q = wide(transitions[b + ARGS_AT + k]);
         let x = numbers[p];
         let y = numbers[q];
         if x != y {
@@ -75,77 +75,77 @@ fn args_precede(run: &[u8], a: usize, b: usize, n: usize, numbers: &[u8; BYTE_VA
 }
 
 // Whether one transition comes before another, with the numbers for the states.
-fn precedes_by(run: &[u8], a: usize, b: usize, numbers: &[u8; BYTE_VALUES]) -> bool
-    requires { ⌜ Readable (now run) a ⌝ }
-    requires { ⌜ Readable (now run) b ⌝ }
-    ensures { λ r. ⌜ r ≡ precedes (renumberBy (nameIn (now (numbers .entry))) (transitionAt (now (run .entry)) a))
-        (renumberBy (nameIn (now (numbers .entry))) (transitionAt (now (run .entry)) b)) ⌝ }
+fn precedes_by(transitions: &[u8], a: usize, b: usize, numbers: &[u8; BYTE_VALUES]) -> bool
+    requires { ⌜ Readable (now transitions) a ⌝ }
+    requires { ⌜ Readable (now transitions) b ⌝ }
+    ensures { λ r. ⌜ r ≡ precedes (renumberBy (nameIn (now (numbers .entry))) (transitionAt (now (transitions .entry)) a))
+        (renumberBy (nameIn (now (numbers .entry))) (transitionAt (now (transitions .entry)) b)) ⌝ }
 {
-    let n = wide(run[a + ARITY_AT]);
-    let m = wide(run[b + ARITY_AT]);
-    let first = wide(run[a]);
-    let second = wide(run[b]);
+    let n = wide(transitions[a + ARITY_AT]);
+    let m = wide(transitions[b + ARITY_AT]);
+    let first = wide(transitions[a]);
+    let second = wide(transitions[b]);
     if n != m {
         return n < m;
     }
     if first != second {
         return first < second;
     }
-    args_precede(run, a, b, n, numbers)
+    args_precede(transitions, a, b, n, numbers)
 }
 
 // Whether transition i is ready and comes before the first ready one so far; `best` is `count` where there is none.
-fn improves_on(run: &[u8], count: usize, best: usize, i: usize, numbers: &[u8; BYTE_VALUES]) -> bool
-    requires { ⌜ Runs (now run) count ⌝ }
+fn improves_on(transitions: &[u8], count: usize, best: usize, i: usize, numbers: &[u8; BYTE_VALUES]) -> bool
+    requires { ⌜ HasTransitions (now transitions) count ⌝ }
     requires { ⌜ best ≤ count ⌝ }
     requires { ⌜ i < count ⌝ }
     ensures { λ r. ⌜ ((o : List ℕ) → NumbersOf (now (numbers .entry)) o →
-        r ≡ improves o (now (run .entry)) count best i) ⌝ }
+        r ≡ improves o (now (transitions .entry)) count best i) ⌝ }
 {
-    if !ready(run, TRANSITION_BYTES * i, numbers) {
+    if !ready(transitions, TRANSITION_BYTES * i, numbers) {
         return false;
     }
     if best == count {
         return true;
     }
-    precedes_by(run, TRANSITION_BYTES * i, TRANSITION_BYTES * best, numbers)
+    precedes_by(transitions, TRANSITION_BYTES * i, TRANSITION_BYTES * best, numbers)
 }
 
 // Whether there is a first ready one so far and transition i has another child count or label.
-fn other_group(run: &[u8], count: usize, best: usize, i: usize) -> bool
-    requires { ⌜ Runs (now run) count ⌝ }
+fn other_group(transitions: &[u8], count: usize, best: usize, i: usize) -> bool
+    requires { ⌜ HasTransitions (now transitions) count ⌝ }
     requires { ⌜ best ≤ count ⌝ }
     requires { ⌜ i < count ⌝ }
-    ensures { λ r. ⌜ (r ≡ true → OtherGroup (now (run .entry)) count best i) ⌝ }
+    ensures { λ r. ⌜ (r ≡ true → OtherGroup (now (transitions .entry)) count best i) ⌝ }
 {
     if best == count {
         return false;
     }
-    if run[TRANSITION_BYTES * i + ARITY_AT] != run[TRANSITION_BYTES * best + ARITY_AT] {
+    if transitions[TRANSITION_BYTES * i + ARITY_AT] != transitions[TRANSITION_BYTES * best + ARITY_AT] {
         return true;
     }
-    run[TRANSITION_BYTES * i] != run[TRANSITION_BYTES * best]
+    transitions[TRANSITION_BYTES * i] != transitions[TRANSITION_BYTES * best]
 }
 
 // The first ready transition; `count` where none is ready. Those before `start` are not.
-fn first_ready(run: &[u8], start: usize, count: usize, numbers: &[u8; BYTE_VALUES]) -> usize
-    requires { ⌜ Runs (now run) count ⌝ }
-    requires { ⌜ Grouped (now run) count ⌝ }
+fn first_ready(transitions: &[u8], start: usize, count: usize, numbers: &[u8; BYTE_VALUES]) -> usize
+    requires { ⌜ HasTransitions (now transitions) count ⌝ }
+    requires { ⌜ Grouped (now transitions) count ⌝ }
     requires { ⌜ start ≤ count ⌝ }
-    requires { ⌜ Settled (now run) start (now numbers) ⌝ }
+    requires { ⌜ Settled (now transitions) start (now numbers) ⌝ }
     ensures { λ r. ⌜ r ≤ count ⌝ }
     ensures { λ r. ⌜ ((o : List ℕ) → NumbersOf (now (numbers .entry)) o →
-        picked (now (run .entry)) count r ≡ best o (transitionsIn (now (run .entry)) count)) ⌝ }
+        picked (now (transitions .entry)) count r ≡ best o (transitionsIn (now (transitions .entry)) count)) ⌝ }
 {
     let mut best = count;
     let mut i = start;
     while i < count {
         let at = i;
         i += 1;
-        if other_group(run, count, best, at) {
+        if other_group(transitions, count, best, at) {
             return best;
         }
-        if !improves_on(run, count, best, at, numbers) {
+        if !improves_on(transitions, count, best, at, numbers) {
             continue;
         }
         best = at;
@@ -154,16 +154,16 @@ fn first_ready(run: &[u8], start: usize, count: usize, numbers: &[u8; BYTE_VALUE
 }
 
 // The first transition from `start` on whose output has no number; `count` where there is none.
-fn first_unsettled(run: &[u8], start: usize, count: usize, numbers: &[u8; BYTE_VALUES]) -> usize
-    requires { ⌜ Runs (now run) count ⌝ }
+fn first_unsettled(transitions: &[u8], start: usize, count: usize, numbers: &[u8; BYTE_VALUES]) -> usize
+    requires { ⌜ HasTransitions (now transitions) count ⌝ }
     requires { ⌜ start ≤ count ⌝ }
-    requires { ⌜ Settled (now run) start (now numbers) ⌝ }
+    requires { ⌜ Settled (now transitions) start (now numbers) ⌝ }
     ensures { λ r. ⌜ r ≤ count ⌝ }
-    ensures { λ r. ⌜ Settled (now (run .entry)) r (now (numbers .entry)) ⌝ }
+    ensures { λ r. ⌜ Settled (now (transitions .entry)) r (now (numbers .entry)) ⌝ }
 {
     let mut i = start;
     while i < count {
-        let out = wide(run[TRANSITION_BYTES * i + OUT_AT]);
+        let out = wide(transitions[TRANSITION_BYTES * i + OUT_AT]);
         if numbers[out] == 0 {
             return i;
         }
@@ -174,29 +174,29 @@ fn first_unsettled(run: &[u8], start: usize, count: usize, numbers: &[u8; BYTE_V
 
 // Numbers the states: `order` has them by their numbers, `numbers` the number of each. How many there are.
 pub fn number(
-    run: &[u8],
+    transitions: &[u8],
     count: usize,
     order: &mut [u8; BYTE_VALUES],
     numbers: &mut [u8; BYTE_VALUES],
 ) -> usize
-    requires { ⌜ Runs (now run) count ⌝ }
-    requires { ⌜ Grouped (now run) count ⌝ }
-    requires { ⌜ Outputs (now run) count ⌝ }
+    requires { ⌜ HasTransitions (now transitions) count ⌝ }
+    requires { ⌜ Grouped (now transitions) count ⌝ }
+    requires { ⌜ Outputs (now transitions) count ⌝ }
     requires { ⌜ length (now order) ≡ byteValues ⌝ }
     requires { ⌜ length (now numbers) ≡ byteValues ⌝ }
     requires { ⌜ Unnumbered (now numbers) ⌝ }
-    ensures { λ r. ⌜ Numbered (transitionsIn (now (run .entry)) count) (now (order .exit)) (now (numbers .exit)) r ⌝ }
+    ensures { λ r. ⌜ NumberingHeld (transitionsIn (now (transitions .entry)) count) (now (order .exit)) (now (numbers .exit)) r ⌝ }
 {
     let mut k = 0;
     let mut start = 0;
-    let mut best = first_ready(run, start, count, numbers);
+    let mut best = first_ready(transitions, start, count, numbers);
     while best < count {
-        let q = run[TRANSITION_BYTES * best + OUT_AT];
+        let q = transitions[TRANSITION_BYTES * best + OUT_AT];
         order[k] = q;
         k += 1;
         numbers[wide(q)] = k as u8;
-        start = first_unsettled(run, start, count, numbers);
-        best = first_ready(run, start, count, numbers);
+        start = first_unsettled(transitions, start, count, numbers);
+        best = first_ready(transitions, start, count, numbers);
     }
     k
 }

@@ -15,8 +15,8 @@ use Rattle.automata.specs.Distinguishable.{slots}
 use Rattle.automata.specs.Distinguishable.{stepSlot}
 use Rattle.automata.specs.Order.{rising}
 use Rattle.automata.specs.Valid.{statesInRange}
-use Rattle.distinguish.specs.Telling.{MarksOf, stepAt}
-use Rattle.fields.specs.Fields.{RunsOver}
+use Rattle.distinguish.specs.Separating.{MarksOf, stepAt}
+use Rattle.fields.specs.Fields.{HasTransitionsOver}
 use Rattle.fields.specs.View.{Viewed, viewed}
 use Rattle.fingerprints.specs.Fingerprints.{Round, Sound, differs, fingerprint, gain, gains, printOf, slotValue, total}
 use Rattle.fingerprints.specs.Fingerprints.{allDiffer, differsAbove, places, valueAt}
@@ -31,7 +31,7 @@ use Rattle.automata.proofs.Distinguishable.{differ, pairs-in}
 use Rattle.automata.proofs.Steps.{Taken, step-view}
 use Rattle.distinguish.proofs.Closing.{own-step, taken-through}
 use Rattle.fingerprints.proofs.Equivalent.{round-sound}
-use Rattle.fingerprints.proofs.Told.{all-differ-told}
+use Rattle.fingerprints.proofs.AllDiffer.{all-differ-separated}
 use Rattle.lists.proofs.Closure.{closure-all}
 use Rattle.lists.proofs.Intervals.{at-every, every-at}
 use Rattle.lists.proofs.Positions.{eqPair-same, eqPair-true, in-upFrom}
@@ -81,10 +81,10 @@ fingerprinted A ranged rises h s r = record {
 -- ---- a part of one state
 
 -- the steps of a run do not ask for classes
-any-view : {s : List ℕ} {n c : ℕ} → RunsOver s c n → n ≤ 255 → Viewed (replicate 256 0) s n c
+any-view : {s : List ℕ} {n c : ℕ} → HasTransitionsOver s c n → n ≤ 255 → Viewed (replicate 256 0) s n c
 any-view over h = record { over = over; states = h; classes = omega (arith, length-replicate {A = ℕ} 256 0) }
 
-module _ (s : List ℕ) (n c : ℕ) (over : RunsOver s c n) (few : n ≤ 255) (rises : rising (transitionsIn s c) ≡ true)
+module _ (s : List ℕ) (n c : ℕ) (over : HasTransitionsOver s c n) (few : n ≤ 255) (rises : rising (transitionsIn s c) ≡ true)
     (m f : List ℕ) (marks : SharedMarks m n f) (i k : ℕ) (h : i < c) (l : k < arityOf s (transitionBytes * i)) where
   a : ℕ
   a = argOf s (transitionBytes * i) k
@@ -186,7 +186,7 @@ module _ (cl s : List ℕ) (n c : ℕ) (view : Viewed cl s n c) (rises : rising 
               d in
               ih (stepSlot A z (k .0), stepSlot A z (k .1)) f (slot-agrees z (k .0) (k .1) (small .0) (small .1) g)
 
--- marks of different parts are the pairs that are told apart
+-- marks of different parts are the pairs that are separated
 pub parts-marks : (cl s : List ℕ) (n c : ℕ) → Viewed cl s n c → rising (transitionsIn s c) ≡ true → (h : List ℕ) →
     Fingerprinted (viewed cl s n c) (printOf h) → allAgree s c n (printOf h) ≡ true → {m : List ℕ} → PartsMarked h n m →
     MarksOf m (viewed cl s n c)
@@ -194,12 +194,12 @@ parts-marks cl s n c view rises h made agree p = record {
   marks = λ x y a b.
       ap nonzero (p .each x y (omega (arith, viewed-states cl s n c)) (omega (arith, viewed-states cl s n c)))
       ∙ nonzero-bit (differs h x y) ∙ same-test (differs h x y) (distinguishable (viewed cl s n c) x y)
-      (told x y a b) (apart x y);
+      (separated x y a b) (apart x y);
 }
   where
-    told : (x y : ℕ) → x ≤ states (viewed cl s n c) → y ≤ states (viewed cl s n c) → differs h x y ≡ true →
+    separated : (x y : ℕ) → x ≤ states (viewed cl s n c) → y ≤ states (viewed cl s n c) → differs h x y ≡ true →
         distinguishable (viewed cl s n c) x y ≡ true
-    told x y a b d = go (distinguishable (viewed cl s n c) x y) refl
+    separated x y a b d = go (distinguishable (viewed cl s n c) x y) refl
       where
         go : (t : Bool) → distinguishable (viewed cl s n c) x y ≡ t → t ≡ true
         go true e = refl
@@ -226,7 +226,7 @@ parts-exact cl s n c view rises h made agree = same-test (allDiffer h n) (allDis
     many = viewed-states cl s n c
 
     there : allDiffer h n ≡ true → allDistinguishable A ≡ true
-    there e = all-differ-told A h (made .sound) (ap (allDiffer h) many ∙ e)
+    there e = all-differ-separated A h (made .sound) (ap (allDiffer h) many ∙ e)
 
     apart : (p q : ℕ) → p < q → (eqb p q || distinguishable A p q) ≡ true → differs h p q ≡ true
     apart p q l e = go (or-cases (eqb p q) _ e)

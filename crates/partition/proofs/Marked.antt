@@ -10,7 +10,7 @@ use lib.ListN.{getD, length, length-set, set}
 use lib.Seq.{getD-set-other, getD-set-same}
 use borrow.Author.Tests.{eq-eqb, eqb-false, eqb-true, ne-eqb}
 use Rattle.lists.specs.Tests.{bit}
-use Rattle.distinguish.specs.Telling.{pairAt, stepAt}
+use Rattle.distinguish.specs.Separating.{pairAt, stepAt}
 use Rattle.fingerprints.specs.Fingerprints.{differs}
 use Rattle.format.specs.Format.{bytePairs, transitionBytes}
 use Rattle.marking.specs.Marks.{nonzero}

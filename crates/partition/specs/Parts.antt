@@ -7,7 +7,7 @@ use Prim.Native.Nat.{_*_, _+_, _<_, _≤_, ℕ}
 use lib.Dec.{eqb}
 use lib.ListN.{getD, length}
 use Rattle.automata.specs.Automaton.{Automaton, accepting, states}
-use Rattle.distinguish.specs.Telling.{pairAt, stepAt}
+use Rattle.distinguish.specs.Separating.{pairAt, stepAt}
 use Rattle.fingerprints.specs.Fingerprints.{Sound, differs, printOf}
 use Rattle.format.specs.Format.{transitionBytes}
 use Rattle.lists.specs.Positions.{upFrom}

@@ -1,7 +1,7 @@
 // Whether the parts are a congruence: an argument's part decides the output's.
 ghost use mathlib.Core.Path.{_≡_};
 ghost use Prim.Native.Nat.{_*_, _<_, _≤_};
-ghost use Rattle.fields.specs.Fields.{RunsOver};
+ghost use Rattle.fields.specs.Fields.{HasTransitionsOver};
 ghost use Rattle.fingerprints.specs.Fingerprints.{printOf};
 ghost use Rattle.format.specs.Format.{transitionBytes};
 ghost use Rattle.sorted.specs.Sorted.{Sorted};
@@ -16,7 +16,7 @@ use format::wide;
 
 // Transition i with q for its argument k.
 fn agrees(
-    run: &[u8],
+    transitions: &[u8],
     count: usize,
     n: usize,
     i: usize,
@@ -24,41 +24,41 @@ fn agrees(
     q: usize,
     prints: &[usize; BYTE_VALUES],
 ) -> bool
-    requires { ⌜ Sorted (now run) count ⌝ }
-    requires { ⌜ RunsOver (now run) count n ⌝ }
+    requires { ⌜ Sorted (now transitions) count ⌝ }
+    requires { ⌜ HasTransitionsOver (now transitions) count n ⌝ }
     requires { ⌜ i < count ⌝ }
-    requires { ⌜ k < arityOf (now run) (transitionBytes * i) ⌝ }
+    requires { ⌜ k < arityOf (now transitions) (transitionBytes * i) ⌝ }
     requires { ⌜ q ≤ 255 ⌝ }
-    ensures { λ r. ⌜ r ≡ agreesAt (now (run .entry)) count (printOf (now (prints .entry))) i k q ⌝ }
+    ensures { λ r. ⌜ r ≡ agreesAt (now (transitions .entry)) count (printOf (now (prints .entry))) i k q ⌝ }
 {
-    let a = wide(run[TRANSITION_BYTES * i + ARGS_AT + k]);
+    let a = wide(transitions[TRANSITION_BYTES * i + ARGS_AT + k]);
     if prints[q] != prints[a] {
         return true;
     }
-    let out = wide(run[TRANSITION_BYTES * i + OUT_AT]);
-    let to = wide(stepped(run, count, n, i, k, (q % BYTE_VALUES) as u8));
+    let out = wide(transitions[TRANSITION_BYTES * i + OUT_AT]);
+    let to = wide(stepped(transitions, count, n, i, k, (q % BYTE_VALUES) as u8));
     prints[to] == prints[out]
 }
 
 // Transition i with each state of 0 to n for its argument k.
 fn all_agree_at(
-    run: &[u8],
+    transitions: &[u8],
     count: usize,
     n: usize,
     i: usize,
     k: usize,
     prints: &[usize; BYTE_VALUES],
 ) -> bool
-    requires { ⌜ Sorted (now run) count ⌝ }
-    requires { ⌜ RunsOver (now run) count n ⌝ }
+    requires { ⌜ Sorted (now transitions) count ⌝ }
+    requires { ⌜ HasTransitionsOver (now transitions) count n ⌝ }
     requires { ⌜ n ≤ 255 ⌝ }
     requires { ⌜ i < count ⌝ }
-    requires { ⌜ k < arityOf (now run) (transitionBytes * i) ⌝ }
-    ensures { λ r. ⌜ r ≡ agreesPlace (now (run .entry)) count n (printOf (now (prints .entry))) i k ⌝ }
+    requires { ⌜ k < arityOf (now transitions) (transitionBytes * i) ⌝ }
+    ensures { λ r. ⌜ r ≡ agreesPlace (now (transitions .entry)) count n (printOf (now (prints .entry))) i k ⌝ }
 {
     let mut q = 0;
     while q < n + 1 {
-        if !agrees(run, count, n, i, k, q, prints) {
+        if !agrees(transitions, count, n, i, k, q, prints) {
             return false;
         }
         q += 1;
@@ -68,7 +68,7 @@ fn all_agree_at(
 
 // An argument that is alone in its part can be replaced by itself only.
 fn place_agrees(
-    run: &[u8],
+    transitions: &[u8],
     count: usize,
     n: usize,
     i: usize,
@@ -76,41 +76,41 @@ fn place_agrees(
     prints: &[usize; BYTE_VALUES],
     shared: &[u8; BYTE_VALUES],
 ) -> bool
-    requires { ⌜ Sorted (now run) count ⌝ }
-    requires { ⌜ RunsOver (now run) count n ⌝ }
+    requires { ⌜ Sorted (now transitions) count ⌝ }
+    requires { ⌜ HasTransitionsOver (now transitions) count n ⌝ }
     requires { ⌜ n ≤ 255 ⌝ }
     requires { ⌜ i < count ⌝ }
-    requires { ⌜ k < arityOf (now run) (transitionBytes * i) ⌝ }
+    requires { ⌜ k < arityOf (now transitions) (transitionBytes * i) ⌝ }
     requires { ⌜ SharedMarks (now prints) n (now shared) ⌝ }
-    ensures { λ r. ⌜ r ≡ agreesPlace (now (run .entry)) count n (printOf (now (prints .entry))) i k ⌝ }
+    ensures { λ r. ⌜ r ≡ agreesPlace (now (transitions .entry)) count n (printOf (now (prints .entry))) i k ⌝ }
 {
-    let a = wide(run[TRANSITION_BYTES * i + ARGS_AT + k]);
+    let a = wide(transitions[TRANSITION_BYTES * i + ARGS_AT + k]);
     if shared[a] == 0 {
         return true;
     }
-    all_agree_at(run, count, n, i, k, prints)
+    all_agree_at(transitions, count, n, i, k, prints)
 }
 
 // Transition i at each place.
 fn transition_agrees(
-    run: &[u8],
+    transitions: &[u8],
     count: usize,
     n: usize,
     i: usize,
     prints: &[usize; BYTE_VALUES],
     shared: &[u8; BYTE_VALUES],
 ) -> bool
-    requires { ⌜ Sorted (now run) count ⌝ }
-    requires { ⌜ RunsOver (now run) count n ⌝ }
+    requires { ⌜ Sorted (now transitions) count ⌝ }
+    requires { ⌜ HasTransitionsOver (now transitions) count n ⌝ }
     requires { ⌜ n ≤ 255 ⌝ }
     requires { ⌜ i < count ⌝ }
     requires { ⌜ SharedMarks (now prints) n (now shared) ⌝ }
-    ensures { λ r. ⌜ r ≡ agreesTransition (now (run .entry)) count n (printOf (now (prints .entry))) i ⌝ }
+    ensures { λ r. ⌜ r ≡ agreesTransition (now (transitions .entry)) count n (printOf (now (prints .entry))) i ⌝ }
 {
-    let arity = wide(run[TRANSITION_BYTES * i + ARGS_AT - 1]);
+    let arity = wide(transitions[TRANSITION_BYTES * i + ARGS_AT - 1]);
     let mut k = 0;
     while k < arity {
-        if !place_agrees(run, count, n, i, k, prints, shared) {
+        if !place_agrees(transitions, count, n, i, k, prints, shared) {
             return false;
         }
         k += 1;
@@ -120,21 +120,21 @@ fn transition_agrees(
 
 // Every transition.
 pub fn all_agree(
-    run: &[u8],
+    transitions: &[u8],
     count: usize,
     n: usize,
     prints: &[usize; BYTE_VALUES],
     shared: &[u8; BYTE_VALUES],
 ) -> bool
-    requires { ⌜ Sorted (now run) count ⌝ }
-    requires { ⌜ RunsOver (now run) count n ⌝ }
+    requires { ⌜ Sorted (now transitions) count ⌝ }
+    requires { ⌜ HasTransitionsOver (now transitions) count n ⌝ }
     requires { ⌜ n ≤ 255 ⌝ }
     requires { ⌜ SharedMarks (now prints) n (now shared) ⌝ }
-    ensures { λ r. ⌜ r ≡ allAgree (now (run .entry)) count n (printOf (now (prints .entry))) ⌝ }
+    ensures { λ r. ⌜ r ≡ allAgree (now (transitions .entry)) count n (printOf (now (prints .entry))) ⌝ }
 {
     let mut i = 0;
     while i < count {
-        if !transition_agrees(run, count, n, i, prints, shared) {
+        if !transition_agrees(transitions, count, n, i, prints, shared) {
             return false;
         }
         i += 1;

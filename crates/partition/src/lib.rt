@@ -1,6 +1,6 @@
 // Equivalent states from fingerprints: states with one fingerprint are a part, and where the parts pass an exact test
 // they are the classes of equivalent states. Where they do not pass in time, the pairs are marked one by one (crate
-// distinguish): a bad fingerprint costs time, never an answer. `run` has `count` sorted transitions over the states 1
+// distinguish): a bad fingerprint costs time, never an answer. `transitions` has `count` sorted transitions over the states 1
 // to n; 0, "no state", takes part.
 mod alone; // states that are alone in their part
 mod agreeing; // the test
@@ -14,8 +14,8 @@ ghost use Rattle.automata.specs.Acyclic.{acyclic};
 ghost use Rattle.automata.specs.Coaccessible.{allCoaccessible};
 ghost use Rattle.automata.specs.Distinguishable.{allDistinguishable};
 ghost use Rattle.automata.specs.Order.{rising};
-ghost use Rattle.distinguish.specs.Telling.{MarksOf, unmarked};
-ghost use Rattle.fields.specs.Fields.{RunsOver};
+ghost use Rattle.distinguish.specs.Separating.{MarksOf, unmarked};
+ghost use Rattle.fields.specs.Fields.{HasTransitionsOver};
 ghost use Rattle.fields.specs.View.{Viewed, viewed};
 ghost use Rattle.fingerprints.specs.Fingerprints.{Sound, UsefulMarks, printOf};
 ghost use Rattle.sorted.specs.Sorted.{Sorted};
@@ -36,70 +36,70 @@ use validity::useful;
 const WORK: usize = 262144;
 
 // The coaccessible states, marked.
-fn useful_marks(classes: &[u8], run: &[u8], count: usize, n: usize) -> [u8; BYTE_VALUES]
-    requires { ⌜ Viewed (now classes) (now run) n count ⌝ }
-    ensures { λ r. ⌜ UsefulMarks (viewed (now (classes .entry)) (now (run .entry)) n count) r ⌝ }
+fn useful_marks(classes: &[u8], transitions: &[u8], count: usize, n: usize) -> [u8; BYTE_VALUES]
+    requires { ⌜ Viewed (now classes) (now transitions) n count ⌝ }
+    ensures { λ r. ⌜ UsefulMarks (viewed (now (classes .entry)) (now (transitions .entry)) n count) r ⌝ }
 {
-    useful(classes, run, count, n)
+    useful(classes, transitions, count, n)
 }
 
 // One round and some more.
 fn rounds(
     classes: &[u8],
-    run: &[u8],
+    transitions: &[u8],
     count: usize,
     n: usize,
     marks: &[u8; BYTE_VALUES],
     more: usize,
     seen: &[usize; BYTE_VALUES],
 ) -> [usize; BYTE_VALUES]
-    requires { ⌜ Viewed (now classes) (now run) n count ⌝ }
-    requires { ⌜ rising (transitionsIn (now run) count) ≡ true ⌝ }
-    requires { ⌜ UsefulMarks (viewed (now classes) (now run) n count) (now marks) ⌝ }
-    requires { ⌜ Sound (viewed (now classes) (now run) n count) (printOf (now seen)) ⌝ }
-    ensures { λ r. ⌜ Fingerprinted (viewed (now (classes .entry)) (now (run .entry)) n count) (printOf r) ⌝ }
+    requires { ⌜ Viewed (now classes) (now transitions) n count ⌝ }
+    requires { ⌜ rising (transitionsIn (now transitions) count) ≡ true ⌝ }
+    requires { ⌜ UsefulMarks (viewed (now classes) (now transitions) n count) (now marks) ⌝ }
+    requires { ⌜ Sound (viewed (now classes) (now transitions) n count) (printOf (now seen)) ⌝ }
+    ensures { λ r. ⌜ Fingerprinted (viewed (now (classes .entry)) (now (transitions .entry)) n count) (printOf r) ⌝ }
 {
-    let mut prints = round(classes, run, count, n, marks, seen);
+    let mut prints = round(classes, transitions, count, n, marks, seen);
     let mut left = more;
     while left > 0 {
         left -= 1;
-        prints = round(classes, run, count, n, marks, &prints);
+        prints = round(classes, transitions, count, n, marks, &prints);
     }
     prints
 }
 
 // Whether the parts pass the test.
-fn parts_agree(run: &[u8], count: usize, n: usize, prints: &[usize; BYTE_VALUES]) -> bool
-    requires { ⌜ Sorted (now run) count ⌝ }
-    requires { ⌜ RunsOver (now run) count n ⌝ }
+fn parts_agree(transitions: &[u8], count: usize, n: usize, prints: &[usize; BYTE_VALUES]) -> bool
+    requires { ⌜ Sorted (now transitions) count ⌝ }
+    requires { ⌜ HasTransitionsOver (now transitions) count n ⌝ }
     requires { ⌜ n ≤ 255 ⌝ }
-    ensures { λ r. ⌜ r ≡ allAgree (now (run .entry)) count n (printOf (now (prints .entry))) ⌝ }
+    ensures { λ r. ⌜ r ≡ allAgree (now (transitions .entry)) count n (printOf (now (prints .entry))) ⌝ }
 {
     let shared = shared_marks(prints, n);
-    all_agree(run, count, n, prints, &shared)
+    all_agree(transitions, count, n, prints, &shared)
 }
 
 // Rounds and tests in turn, each time twice as many rounds. Answers whether the marks are made.
-fn told_by_parts(
+fn separated_by_parts(
     classes: &[u8],
-    run: &[u8],
+    transitions: &[u8],
     count: usize,
     n: usize,
     marks: &mut [u8; BYTE_PAIRS],
 ) -> bool
-    requires { ⌜ Viewed (now classes) (now run) n count ⌝ }
-    requires { ⌜ rising (transitionsIn (now run) count) ≡ true ⌝ }
+    requires { ⌜ Viewed (now classes) (now transitions) n count ⌝ }
+    requires { ⌜ rising (transitionsIn (now transitions) count) ≡ true ⌝ }
     requires { ⌜ length (now marks) ≡ bytePairs ⌝ }
     ensures { λ r. ⌜ (r ≡ true →
-        MarksOf (now (marks .exit)) (viewed (now (classes .entry)) (now (run .entry)) n count)) ⌝ }
+        MarksOf (now (marks .exit)) (viewed (now (classes .entry)) (now (transitions .entry)) n count)) ⌝ }
     ensures { λ r. ⌜ (r ≡ false → now (marks .exit) ≡ now (marks .entry)) ⌝ }
 {
-    let useful = useful_marks(classes, run, count, n);
+    let useful = useful_marks(classes, transitions, count, n);
     let mut prints = [0usize; BYTE_VALUES];
     let mut turns = 0;
     while turns < WORK / (count + 1) {
-        prints = rounds(classes, run, count, n, &useful, turns, &prints);
-        if parts_agree(run, count, n, &prints) {
+        prints = rounds(classes, transitions, count, n, &useful, turns, &prints);
+        if parts_agree(transitions, count, n, &prints) {
             mark_rows(&prints, n, marks);
             return true;
         }
@@ -108,17 +108,17 @@ fn told_by_parts(
     false
 }
 
-// Marks the pairs of states that are told apart.
-pub fn distinguish(classes: &[u8], run: &[u8], count: usize, n: usize, marks: &mut [u8; BYTE_PAIRS])
-    requires { ⌜ Viewed (now classes) (now run) n count ⌝ }
-    requires { ⌜ rising (transitionsIn (now run) count) ≡ true ⌝ }
+// Marks the pairs of states that are separated.
+pub fn distinguish(classes: &[u8], transitions: &[u8], count: usize, n: usize, marks: &mut [u8; BYTE_PAIRS])
+    requires { ⌜ Viewed (now classes) (now transitions) n count ⌝ }
+    requires { ⌜ rising (transitionsIn (now transitions) count) ≡ true ⌝ }
     requires { ⌜ now marks ≡ unmarked ⌝ }
-    ensures { λ _. ⌜ MarksOf (now (marks .exit)) (viewed (now (classes .entry)) (now (run .entry)) n count) ⌝ }
+    ensures { λ _. ⌜ MarksOf (now (marks .exit)) (viewed (now (classes .entry)) (now (transitions .entry)) n count) ⌝ }
 {
-    if told_by_parts(classes, run, count, n, marks) {
+    if separated_by_parts(classes, transitions, count, n, marks) {
         return;
     }
-    distinguish::distinguish(classes, run, count, n, marks);
+    distinguish::distinguish(classes, transitions, count, n, marks);
 }
 
 // Each state with its own number. Any fingerprints will do, so this has no contract; these are the ones that differ.
@@ -134,29 +134,29 @@ fn numbers() -> [usize; BYTE_VALUES] {
 
 // Condition 12, where conditions 10 and 11 hold: no two different states are equivalent. Every state is useful, and
 // without loops one round from any fingerprints may show that all differ.
-pub fn all_distinguishable_useful(classes: &[u8], run: &[u8], count: usize, n: usize) -> bool
-    requires { ⌜ Viewed (now classes) (now run) n count ⌝ }
-    requires { ⌜ rising (transitionsIn (now run) count) ≡ true ⌝ }
-    requires { ⌜ allCoaccessible (viewed (now classes) (now run) n count) ≡ true ⌝ }
-    requires { ⌜ acyclic (viewed (now classes) (now run) n count) ≡ true ⌝ }
-    ensures { λ r. ⌜ r ≡ allDistinguishable (viewed (now (classes .entry)) (now (run .entry)) n count) ⌝ }
+pub fn all_distinguishable_useful(classes: &[u8], transitions: &[u8], count: usize, n: usize) -> bool
+    requires { ⌜ Viewed (now classes) (now transitions) n count ⌝ }
+    requires { ⌜ rising (transitionsIn (now transitions) count) ≡ true ⌝ }
+    requires { ⌜ allCoaccessible (viewed (now classes) (now transitions) n count) ≡ true ⌝ }
+    requires { ⌜ acyclic (viewed (now classes) (now transitions) n count) ≡ true ⌝ }
+    ensures { λ r. ⌜ r ≡ allDistinguishable (viewed (now (classes .entry)) (now (transitions .entry)) n count) ⌝ }
 {
     let useful = [1u8; BYTE_VALUES];
-    let first = round(classes, run, count, n, &useful, &numbers());
+    let first = round(classes, transitions, count, n, &useful, &numbers());
     if all_differ(&first, n) {
         return true;
     }
     let mut prints = [0usize; BYTE_VALUES];
     let mut turns = 0;
     while turns < WORK / (count + 1) {
-        prints = rounds(classes, run, count, n, &useful, turns, &prints);
+        prints = rounds(classes, transitions, count, n, &useful, turns, &prints);
         if all_differ(&prints, n) {
             return true;
         }
-        if parts_agree(run, count, n, &prints) {
+        if parts_agree(transitions, count, n, &prints) {
             return false;
         }
         turns = 2 * turns + 1;
     }
-    all_distinguishable(classes, run, count, n)
+    all_distinguishable(classes, transitions, count, n)
 }

@@ -66,7 +66,7 @@ fn has_candidate(
 }
 
 // Whether each argument of an entry has a candidate. Where one has none, a search for choices may be long.
-pub fn ready(
+pub fn all_offered(
     n: usize,
     m: usize,
     states: &[u8; MAX_NODES],

@@ -1,9 +1,9 @@
-// The transitions of the product: those of the run over all choices for their arguments, and those of the subtrees
-// that run to no state.
+// The transitions of the product: those of the transitions over all choices for their arguments, and those of the subtrees
+// that transitions to no state.
 ghost use mathlib.Core.Path.{_≡_};
 ghost use Prim.Native.Nat.{_<_, _≤_};
 ghost use lib.ListN.{length};
-ghost use Rattle.fields.specs.Fields.{RunsOver};
+ghost use Rattle.fields.specs.Fields.{HasTransitionsOver};
 ghost use Rattle.format.specs.Format.{maxNodes, maxStates, scratchBytes};
 ghost use Rattle.marking.specs.Marks.{marked};
 ghost use Rattle.sorted.specs.Sorted.{Sorted};
@@ -166,9 +166,9 @@ fn expand_with(
     )
 }
 
-// Adds the transitions of a run over all choices for their arguments to an empty scratch.
+// Adds the transitions of a transitions over all choices for their arguments to an empty scratch.
 pub fn expand_all(
-    run: &[u8],
+    transitions: &[u8],
     count: usize,
     n: usize,
     m: usize,
@@ -178,19 +178,19 @@ pub fn expand_all(
     marks: &[u8; BYTE_VALUES],
     scratch: &mut [u8],
 ) -> Produced
-    requires { ⌜ RunsOver (now run) count n ⌝ }
+    requires { ⌜ HasTransitionsOver (now transitions) count n ⌝ }
     requires { ⌜ n ≤ maxStates ⌝ }
     requires { ⌜ m ≤ maxNodes ⌝ }
     requires { ⌜ Sorted (now nodes) found ⌝ }
     requires { ⌜ length (now scratch) ≡ scratchBytes ⌝ }
     ensures { λ r. ⌜ Outcome
-        (SomeBelow (nthExpands (now (run .entry)) (candidate (marked (now (marks .entry))) (now (states .entry)) n) m
+        (SomeBelow (nthExpands (now (transitions .entry)) (candidate (marked (now (marks .entry))) (now (states .entry)) n) m
         (transitionsIn (now (nodes .entry)) found)) count) (now (scratch .entry)) (now (scratch .exit)) 0 r ⌝ }
 {
     let mut made = 0;
     let mut i = 0;
     while i < count {
-        let entry = transition(run, TRANSITION_BYTES * i);
+        let entry = transition(transitions, TRANSITION_BYTES * i);
         let Produced::Transitions { count: more } = expand(
             n,
             m,
@@ -239,7 +239,7 @@ fn expand_node(
     emit(scratch, count, entry)
 }
 
-// Adds the transitions of all subtrees that run to no state.
+// Adds the transitions of all subtrees that transitions to no state.
 pub fn expand_lost(
     n: usize,
     m: usize,

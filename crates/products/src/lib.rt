@@ -9,7 +9,7 @@ ghost use mathlib.Core.Path.{_≡_};
 ghost use Prim.Native.Nat.{_≤_};
 ghost use lib.ListN.{length};
 ghost use Rattle.automata.specs.Automaton.{Automaton};
-ghost use Rattle.fields.specs.Fields.{RunsOver};
+ghost use Rattle.fields.specs.Fields.{HasTransitionsOver};
 ghost use Rattle.format.specs.Format.{maxStates, scratchBytes};
 ghost use Rattle.trees.specs.Tree.{Tree};
 ghost use Rattle.products.specs.Pairs.{Nodes};
@@ -29,12 +29,12 @@ pub enum Produced {
 }
 
 // Writes the transitions of the product into the scratch, sorted.
-pub fn product(run: &[u8], count: usize, n: usize, s: Subtrees, scratch: &mut [u8]) -> Produced
-    requires { ⌜ RunsOver (now run) count n ⌝ }
+pub fn product(transitions: &[u8], count: usize, n: usize, s: Subtrees, scratch: &mut [u8]) -> Produced
+    requires { ⌜ HasTransitionsOver (now transitions) count n ⌝ }
     requires { ⌜ n ≤ maxStates ⌝ }
     requires { ⌜ Nodes (s .count) (s .arities) (s .children) ⌝ }
     requires { ⌜ length (now scratch) ≡ scratchBytes ⌝ }
-    ensures { λ r. ⌜ ((A : Automaton) (t : Tree) → Holds A t (now (run .entry)) count n s →
+    ensures { λ r. ⌜ ((A : Automaton) (t : Tree) → Holds A t (now (transitions .entry)) count n s →
         Answers A t n s (now (scratch .exit)) r) ⌝ }
 {
     let m = s.count;
@@ -45,9 +45,9 @@ pub fn product(run: &[u8], count: usize, n: usize, s: Subtrees, scratch: &mut [u
     let mut nodes = [0u8; NODE_RUN];
     let found = list_nodes(n, m, &labels, &arities, &children, &mut nodes);
     let mut marks = [0u8; BYTE_VALUES];
-    reach(run, count, n, m, &states, &nodes, found, &mut marks);
+    reach(transitions, count, n, m, &states, &nodes, found, &mut marks);
     let Produced::Transitions { count: made } = expand_all(
-        run,
+        transitions,
         count,
         n,
         m,

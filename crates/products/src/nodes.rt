@@ -18,19 +18,19 @@ use sorted::insert;
 
 pub const CHILD_NUMBERS: usize = MAX_NODES * MAX_ARITY;
 
-// A run with room for each subtree.
+// A transitions with room for each subtree.
 pub const NODE_RUN: usize = TRANSITION_BYTES * MAX_NODES;
 
 // Inserts an entry unless its key is there already. Answers the number of transitions.
-pub fn put(run: &mut [u8], count: usize, entry: [u8; TRANSITION_BYTES]) -> usize
-    requires { ⌜ Live (now run) count ⌝ }
-    requires { ⌜ transitionBytes * (count + 1) ≤ length (now run) ⌝ }
+pub fn put(transitions: &mut [u8], count: usize, entry: [u8; TRANSITION_BYTES]) -> usize
+    requires { ⌜ Live (now transitions) count ⌝ }
+    requires { ⌜ transitionBytes * (count + 1) ≤ length (now transitions) ⌝ }
     requires { ⌜ count + 1 ≤ maxProduct ⌝ }
     requires { ⌜ Entry entry ⌝ }
-    ensures { λ r. ⌜ Added (Is (transitionAt entry 0)) (now (run .entry)) (now (run .exit)) count r ⌝ }
+    ensures { λ r. ⌜ Added (Is (transitionAt entry 0)) (now (transitions .entry)) (now (transitions .exit)) count r ⌝ }
     ensures { λ r. ⌜ r ≤ count + 1 ⌝ }
 {
-    if insert(run, count, entry) {
+    if insert(transitions, count, entry) {
         return count + 1;
     }
     count
@@ -73,19 +73,19 @@ pub fn list_nodes(
     labels: &[u8; MAX_NODES],
     arities: &[u8; MAX_NODES],
     children: &[u8; CHILD_NUMBERS],
-    run: &mut [u8],
+    transitions: &mut [u8],
 ) -> usize
     requires { ⌜ n ≤ maxStates ⌝ }
     requires { ⌜ Nodes m (now arities) (now children) ⌝ }
-    requires { ⌜ length (now run) ≡ transitionBytes * maxNodes ⌝ }
+    requires { ⌜ length (now transitions) ≡ transitionBytes * maxNodes ⌝ }
     ensures { λ r. ⌜ Added (SomeBelow (NodeAt n (now (labels .entry)) (now (arities .entry)) (now (children .entry))) m)
-        (now (run .entry)) (now (run .exit)) 0 r ⌝ }
+        (now (transitions .entry)) (now (transitions .exit)) 0 r ⌝ }
 {
     let mut count = 0;
     let mut j = 0;
     while j < m {
         let entry = node_entry(n, m, labels, arities, children, j);
-        count = put(run, count, entry);
+        count = put(transitions, count, entry);
         j += 1;
     }
     count

@@ -3,14 +3,14 @@
 ghost use mathlib.Core.Path.{_≡_};
 ghost use Prim.Native.Nat.{_*_, _≤_};
 ghost use lib.ListN.{length};
-ghost use Rattle.fields.specs.Fields.{Readable, Runs};
+ghost use Rattle.fields.specs.Fields.{Readable, HasTransitions};
 ghost use Rattle.format.specs.Format.{byteValues, maxNodes, maxStates, transitionBytes};
 ghost use Rattle.sorted.specs.Sorted.{Sorted};
 ghost use Rattle.table.specs.Layout.{transitionAt, transitionsIn};
 ghost use Rattle.marking.specs.Spread.{Spread, UpTo};
 ghost use Rattle.products.specs.Reached.{Reached, nthReaches};
 use crate::choices::escapes;
-use crate::choices::ready;
+use crate::choices::all_offered;
 use format::BYTE_VALUES;
 use format::MAX_NODES;
 use format::OUT_AT;
@@ -18,14 +18,14 @@ use format::TRANSITION_BYTES;
 use format::wide;
 
 // The bytes of a transition.
-pub fn transition(run: &[u8], at: usize) -> [u8; TRANSITION_BYTES]
-    requires { ⌜ Readable (now run) at ⌝ }
-    ensures { λ r. ⌜ transitionAt r 0 ≡ transitionAt (now (run .entry)) at ⌝ }
+pub fn transition(transitions: &[u8], at: usize) -> [u8; TRANSITION_BYTES]
+    requires { ⌜ Readable (now transitions) at ⌝ }
+    ensures { λ r. ⌜ transitionAt r 0 ≡ transitionAt (now (transitions .entry)) at ⌝ }
 {
     let mut entry = [0u8; TRANSITION_BYTES];
     let mut k = 0;
     while k < TRANSITION_BYTES {
-        entry[k] = run[at + k];
+        entry[k] = transitions[at + k];
         k += 1;
     }
     entry
@@ -33,7 +33,7 @@ pub fn transition(run: &[u8], at: usize) -> [u8; TRANSITION_BYTES]
 
 // Marks the output of transition i where choices for its arguments make no subtree. Answers whether the mark is new.
 fn mark(
-    run: &[u8],
+    transitions: &[u8],
     i: usize,
     n: usize,
     m: usize,
@@ -42,21 +42,21 @@ fn mark(
     found: usize,
     marks: &mut [u8; BYTE_VALUES],
 ) -> bool
-    requires { ⌜ Readable (now run) (transitionBytes * i) ⌝ }
+    requires { ⌜ Readable (now transitions) (transitionBytes * i) ⌝ }
     requires { ⌜ n ≤ maxStates ⌝ }
     requires { ⌜ m ≤ maxNodes ⌝ }
     requires { ⌜ Sorted (now nodes) found ⌝ }
     requires { ⌜ length (now marks) ≡ byteValues ⌝ }
     ensures { λ r. ⌜ Spread
-        (nthReaches (now (run .entry)) (now (states .entry)) n m (transitionsIn (now (nodes .entry)) found) i)
+        (nthReaches (now (transitions .entry)) (now (states .entry)) n m (transitionsIn (now (nodes .entry)) found) i)
         (now (marks .entry)) (now (marks .exit)) r ⌝ }
 {
-    let entry = transition(run, TRANSITION_BYTES * i);
+    let entry = transition(transitions, TRANSITION_BYTES * i);
     let q = wide(entry[OUT_AT]);
     if marks[q] != 0 {
         return false;
     }
-    if !ready(n, m, states, marks, entry) {
+    if !all_offered(n, m, states, marks, entry) {
         return false;
     }
     if !escapes(n, m, states, nodes, found, marks, entry, 0) {
@@ -68,7 +68,7 @@ fn mark(
 
 // One round over the transitions. Answers whether a mark is new.
 fn mark_all(
-    run: &[u8],
+    transitions: &[u8],
     count: usize,
     n: usize,
     m: usize,
@@ -77,20 +77,20 @@ fn mark_all(
     found: usize,
     marks: &mut [u8; BYTE_VALUES],
 ) -> bool
-    requires { ⌜ Runs (now run) count ⌝ }
+    requires { ⌜ HasTransitions (now transitions) count ⌝ }
     requires { ⌜ n ≤ maxStates ⌝ }
     requires { ⌜ m ≤ maxNodes ⌝ }
     requires { ⌜ Sorted (now nodes) found ⌝ }
     requires { ⌜ length (now marks) ≡ byteValues ⌝ }
     ensures { λ r. ⌜ Spread
-        (UpTo (nthReaches (now (run .entry)) (now (states .entry)) n m (transitionsIn (now (nodes .entry)) found))
+        (UpTo (nthReaches (now (transitions .entry)) (now (states .entry)) n m (transitionsIn (now (nodes .entry)) found))
         count)
         (now (marks .entry)) (now (marks .exit)) r ⌝ }
 {
     let mut changed = false;
     let mut i = 0;
     while i < count {
-        let r = mark(run, i, n, m, states, nodes, found, marks);
+        let r = mark(transitions, i, n, m, states, nodes, found, marks);
         changed = changed | r;
         i += 1;
     }
@@ -99,7 +99,7 @@ fn mark_all(
 
 // Rounds until no mark is new.
 pub fn reach(
-    run: &[u8],
+    transitions: &[u8],
     count: usize,
     n: usize,
     m: usize,
@@ -108,15 +108,15 @@ pub fn reach(
     found: usize,
     marks: &mut [u8; BYTE_VALUES],
 )
-    requires { ⌜ Runs (now run) count ⌝ }
+    requires { ⌜ HasTransitions (now transitions) count ⌝ }
     requires { ⌜ n ≤ maxStates ⌝ }
     requires { ⌜ m ≤ maxNodes ⌝ }
     requires { ⌜ Sorted (now nodes) found ⌝ }
     requires { ⌜ length (now marks) ≡ byteValues ⌝ }
     ensures { λ _. ⌜ Reached
-        (UpTo (nthReaches (now (run .entry)) (now (states .entry)) n m (transitionsIn (now (nodes .entry)) found))
+        (UpTo (nthReaches (now (transitions .entry)) (now (states .entry)) n m (transitionsIn (now (nodes .entry)) found))
         count)
         (now (marks .entry)) (now (marks .exit)) ⌝ }
 {
-    while mark_all(run, count, n, m, states, nodes, found, marks) {}
+    while mark_all(transitions, count, n, m, states, nodes, found, marks) {}
 }

@@ -31,7 +31,7 @@ meaning (Form column) = form column
 meaning Long = long
 
 -- a buffer has room for n bytes from a place on
-pub record Room (s : List ℕ) (at n : ℕ) : Type 0 where
+pub record TextRoom (s : List ℕ) (at n : ℕ) : Type 0 where
   pub size : length s ≡ lineBytes
   pub fits : at + n ≤ lineBytes
 

@@ -3,7 +3,7 @@ ghost use mathlib.Core.Path.{_≡_};
 ghost use mathlib.Core.List.{[], _∷_};
 ghost use Prim.Native.Nat.{_+_, _<_, _≤_};
 ghost use lib.ListN.{length};
-ghost use Rattle.report.specs.Printing.{Printed, Put, Room, fieldBytes, lineBytes, meaning, outcomeBytes};
+ghost use Rattle.report.specs.Printing.{Printed, Put, TextRoom, fieldBytes, lineBytes, meaning, outcomeBytes};
 ghost use Rattle.report.specs.Report.{decimal, digit, endText, field, lineText, outcomeText};
 
 // The bytes of the buffer. The longest line has 68.
@@ -28,7 +28,7 @@ pub enum Outcome {
 
 // The functions that put a text take the place where it goes, keep the bytes before, and answer where it ends.
 fn put_byte(out: &mut [u8; LINE_BYTES], at: usize, byte: u8) -> usize
-    requires { ⌜ Room (now out) at 1 ⌝ }
+    requires { ⌜ TextRoom (now out) at 1 ⌝ }
     ensures { λ r. ⌜ Put (now (out .entry)) (now (out .exit)) at (byte ∷ []) r ⌝ }
 {
     out[at] = byte;
@@ -36,7 +36,7 @@ fn put_byte(out: &mut [u8; LINE_BYTES], at: usize, byte: u8) -> usize
 }
 
 fn put_word(out: &mut [u8; LINE_BYTES], at: usize, word: &[u8]) -> usize
-    requires { ⌜ Room (now out) at (length (now word)) ⌝ }
+    requires { ⌜ TextRoom (now out) at (length (now word)) ⌝ }
     ensures { λ r. ⌜ Put (now (out .entry)) (now (out .exit)) at (now (word .entry)) r ⌝ }
 {
     let mut i = 0;
@@ -57,7 +57,7 @@ fn digit(n: u64) -> u8
 
 // Puts a number in decimal: all digits but the last, then the last.
 fn put_number(out: &mut [u8; LINE_BYTES], at: usize, n: u64) -> usize
-    requires { ⌜ Room (now out) at (length (decimal n)) ⌝ }
+    requires { ⌜ TextRoom (now out) at (length (decimal n)) ⌝ }
     ensures { λ r. ⌜ Put (now (out .entry)) (now (out .exit)) at (decimal n) r ⌝ }
 {
     if n < 10 {
@@ -69,7 +69,7 @@ fn put_number(out: &mut [u8; LINE_BYTES], at: usize, n: u64) -> usize
 
 // Puts a space and a number.
 fn put_field(out: &mut [u8; LINE_BYTES], at: usize, n: u64) -> usize
-    requires { ⌜ Room (now out) at fieldBytes ⌝ }
+    requires { ⌜ TextRoom (now out) at fieldBytes ⌝ }
     ensures text { λ r. ⌜ Put (now (out .entry)) (now (out .exit)) at (field n) r ⌝ }
     ensures within { λ r. ⌜ r ≤ at + fieldBytes ⌝ }
 {
@@ -79,7 +79,7 @@ fn put_field(out: &mut [u8; LINE_BYTES], at: usize, n: u64) -> usize
 
 // Puts the word of an outcome and its numbers.
 fn put_outcome(out: &mut [u8; LINE_BYTES], at: usize, outcome: Outcome) -> usize
-    requires { ⌜ Room (now out) at outcomeBytes ⌝ }
+    requires { ⌜ TextRoom (now out) at outcomeBytes ⌝ }
     ensures text { λ r. ⌜ Put (now (out .entry)) (now (out .exit)) at (outcomeText (meaning outcome)) r ⌝ }
     ensures within { λ r. ⌜ r ≤ at + outcomeBytes ⌝ }
 {

@@ -11,16 +11,16 @@ use lib.ListN.{getD, length, length-set, set, take}
 use lib.Seq.{getD-set-other, getD-set-same, getD-take, take-set-le, take-suc-set, take-take}
 use Rattle.format.specs.Format.{maxArity, maxNodes}
 use Rattle.lists.specs.Tests.{any}
-use Rattle.running.specs.Running.{Kept, Noted, Rows}
+use Rattle.running.specs.Running.{RowsKept, Noted, Rows}
 use Rattle.lists.proofs.Tests.{or-none-right}
 
-module _ (depth : ℕ) {old new : List (List ℕ)} (v : Kept (depth + 1) old new) where
+module _ (depth : ℕ) {old new : List (List ℕ)} (v : RowsKept (depth + 1) old new) where
   above : take depth new ≡ take depth old
   above =
       sym (take-take depth (depth + 1) new (omega arith)) ∙ ap (take depth) (v .same) ∙
       take-take depth (depth + 1) old (omega arith)
 
-  pub kept-above : Kept depth old new
+  pub kept-above : RowsKept depth old new
   kept-above = record { rows = v .rows; same = above }
 
   -- the row right above those that a run may change
@@ -52,13 +52,13 @@ module _ {depth arity : ℕ} where
   }
 
   -- a child has no state
-  pub noted-lost : {k : ℕ} {qs : List ℕ} {old new : List (List ℕ)} → Kept (depth + 1) old new →
+  pub noted-lost : {k : ℕ} {qs : List ℕ} {old new : List (List ℕ)} → RowsKept (depth + 1) old new →
       any (eqb 0) qs ≡ true → Noted depth k arity qs old new
   noted-lost v e = record { kept = kept-above depth v; row = λ d. absurd (true≢false (sym e ∙ d)) }
 
   -- a child's state is stored, then those of the others
   pub noted-next : {k q : ℕ} {qs rs : List ℕ} {old mid new : List (List ℕ)} → depth < maxNodes → k < maxArity →
-      qs ≡ q ∷ rs → Kept (depth + 1) old mid → Noted depth (k + 1) arity rs (put mid depth k q) new →
+      qs ≡ q ∷ rs → RowsKept (depth + 1) old mid → Noted depth (k + 1) arity rs (put mid depth k q) new →
       Noted depth k arity qs old new
   noted-next {k} {q} {qs} {rs} {old} {mid} {new} d l e v w = record {
     kept = record {

@@ -16,7 +16,7 @@ use Rattle.text.specs.Outcome.{listed, padded, parsed, parsedAs}
 use Rattle.text.specs.Reader.{Line, form, formed, long, readLine}
 use Rattle.text.specs.declared.Parsed.{Parsed}
 use Rattle.text.proofs.Heads.{length-blank}
-use Rattle.text.proofs.Laws.{line-form, line-long}
+use Rattle.text.proofs.LineMeaning.{line-form, line-long}
 use Rattle.text.proofs.Lines.{formed-size}
 use Rattle.lists.proofs.Filling.{FilledTo}
 

@@ -5,7 +5,7 @@ ghost use Prim.Native.Nat.{_*_, _+_, _≤_};
 ghost use lib.Dec.{eqb};
 ghost use lib.ListN.{length};
 ghost use Rattle.format.specs.Format.{listingBytes};
-ghost use Rattle.text.specs.Outcome.{blank, listed};
+ghost use Rattle.text.specs.Outcome.{noListing, listed};
 ghost use Rattle.text.specs.Reader.{readLine};
 ghost use Rattle.scalebench.specs.Typed.{Small, packedLine, packedParsed};
 use format::LISTING_BYTES;
@@ -14,7 +14,7 @@ use text::read_line;
 
 // No listing. A function of its own, so that no other proof computes with so many bytes.
 fn no_listing() -> [u8; LISTING_BYTES]
-    ensures { λ r. ⌜ r ≡ blank ⌝ }
+    ensures { λ r. ⌜ r ≡ noListing ⌝ }
 {
     [0u8; LISTING_BYTES]
 }

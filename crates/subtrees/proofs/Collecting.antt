@@ -11,7 +11,7 @@ use Rattle.automata.specs.Automaton.{Automaton, Transition}
 use Rattle.automata.specs.Change.{subtrees}
 use Rattle.format.specs.Format.{maxArity, maxNodes}
 use Rattle.lists.specs.Closure.{elem}
-use Rattle.subtrees.specs.Steps.{Children, Entered, Filled, Numbered, Sized, addLast}
+use Rattle.subtrees.specs.Steps.{Children, Entered, Filled, NumberGiven, Sized, addLast}
 use Rattle.subtrees.specs.Store.{Lists, Stored, bottomUp, treeNumbered, treesNumbered}
 use Rattle.table.specs.Layout.{transitionsIn}
 use Rattle.trees.specs.Listing.{childrenAt, firstTrees, labelAt, laterTrees, nodesIn, readTree, readTrees}
@@ -149,7 +149,7 @@ module _ {s run : List ℕ} {many i top found : ℕ} {stack l r c q : List ℕ} 
             among-index found (drop top stack) (inv .numbers) k (omega (arith, stack-length inv, pop-room))
 
     -- the node's number takes the place of its children's
-    module _ {m num : ℕ} (given : Numbered found m num) {l' r' c' q' : List ℕ} (sz : Sized l' r' c' q')
+    module _ {m num : ℕ} (given : NumberGiven found m num) {l' r' c' q' : List ℕ} (sz : Sized l' r' c' q')
         (holds : (A : Automaton) (ts : List Tree) → A .transitions ≡ transitionsIn run many →
         Stored A ts found l r c q →
         Entered A ts (node (labelBefore s i) (treesNumbered ts (take (arityBefore s i) ns))) m num l' r' c' q') where

@@ -66,7 +66,7 @@ abbrev pub addLast : List Tree → Tree → List Tree
 addLast ts t = cond (elem eqTree t ts) ts (ts ++ (t ∷ []))
 
 -- the number i given to a tree, where n trees were found before and m are now
-pub record Numbered (n m i : ℕ) : Type 0 where
+pub record NumberGiven (n m i : ℕ) : Type 0 where
   pub some : 1 ≤ i
   pub known : i ≤ m
   pub grows : n ≤ m

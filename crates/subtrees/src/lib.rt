@@ -6,14 +6,14 @@ ghost use Prim.Native.Nat.{_*_, _+_, _<_, _≤_};
 ghost use lib.Dec.{eqb};
 ghost use lib.ListN.{length, take};
 ghost use Rattle.automata.specs.Automaton.{Automaton, lookup};
-ghost use Rattle.fields.specs.Fields.{Runs};
+ghost use Rattle.fields.specs.Fields.{HasTransitions};
 ghost use Rattle.format.specs.Format.{maxArity, maxNodes};
 ghost use Rattle.lists.specs.Positions.{byteFrom, upFrom};
 ghost use Rattle.lists.specs.Tests.{any, every};
 ghost use Rattle.table.specs.Layout.{transitionsIn};
 ghost use Rattle.trees.specs.Listing.{listingRefusal, readTree};
 ghost use Rattle.trees.specs.Tree.{Tree, node};
-ghost use Rattle.subtrees.specs.Steps.{Children, ChildrenStored, Entered, Filled, First, Numbered, Sized};
+ghost use Rattle.subtrees.specs.Steps.{Children, ChildrenStored, Entered, Filled, First, NumberGiven, Sized};
 ghost use Rattle.subtrees.specs.Steps.{childState, sameChild, sameNode, stateFrom};
 ghost use Rattle.subtrees.specs.Store.{Lists, Stored, bottomUp, treesNumbered};
 use fields::Found;
@@ -158,27 +158,27 @@ fn some_none(arity: usize, args: [u8; MAX_ARITY]) -> bool
 }
 
 // The output of the first transition with this label and these arguments; 0 where there is none.
-fn output(run: &[u8], count: usize, label: u8, arity: usize, args: [u8; MAX_ARITY]) -> u8
-    requires { ⌜ Runs (now run) count ⌝ }
+fn output(transitions: &[u8], count: usize, label: u8, arity: usize, args: [u8; MAX_ARITY]) -> u8
+    requires { ⌜ HasTransitions (now transitions) count ⌝ }
     requires { ⌜ arity ≤ maxArity ⌝ }
-    ensures { λ r. ⌜ r ≡ lookup label (take arity args) (transitionsIn (now (run .entry)) count) ⌝ }
+    ensures { λ r. ⌜ r ≡ lookup label (take arity args) (transitionsIn (now (transitions .entry)) count) ⌝ }
 {
-    let Found::State(q) = find(run, count, label, arity, args) else {
+    let Found::State(q) = find(transitions, count, label, arity, args) else {
         return 0;
     };
     q
 }
 
 // The state of a node with this label whose children have these states.
-fn state(run: &[u8], count: usize, label: u8, arity: usize, args: [u8; MAX_ARITY]) -> u8
-    requires { ⌜ Runs (now run) count ⌝ }
+fn state(transitions: &[u8], count: usize, label: u8, arity: usize, args: [u8; MAX_ARITY]) -> u8
+    requires { ⌜ HasTransitions (now transitions) count ⌝ }
     requires { ⌜ arity ≤ maxArity ⌝ }
-    ensures { λ r. ⌜ r ≡ stateFrom (transitionsIn (now (run .entry)) count) label (take arity args) ⌝ }
+    ensures { λ r. ⌜ r ≡ stateFrom (transitionsIn (now (transitions .entry)) count) label (take arity args) ⌝ }
 {
     if some_none(arity, args) {
         return 0;
     }
-    output(run, count, label, arity, args)
+    output(transitions, count, label, arity, args)
 }
 
 fn store_children(children: &mut [u8; CHILD_NUMBERS], j: usize, numbers: [u8; MAX_ARITY])
@@ -195,7 +195,7 @@ fn store_children(children: &mut [u8; CHILD_NUMBERS], j: usize, numbers: [u8; MA
 
 // The number of the subtree with this label and these children, which is stored where it was not found before.
 fn enter(
-    run: &[u8],
+    transitions: &[u8],
     count: usize,
     labels: &mut [u8; MAX_NODES],
     arities: &mut [u8; MAX_NODES],
@@ -206,13 +206,13 @@ fn enter(
     arity: u8,
     numbers: [u8; MAX_ARITY],
 ) -> Place
-    requires { ⌜ Runs (now run) count ⌝ }
+    requires { ⌜ HasTransitions (now transitions) count ⌝ }
     requires { ⌜ Sized (now labels) (now arities) (now children) (now states) ⌝ }
     requires { ⌜ found < maxNodes ⌝ }
     requires { ⌜ Children numbers arity found ⌝ }
     ensures { λ r. ⌜ Sized (now (labels .exit)) (now (arities .exit)) (now (children .exit)) (now (states .exit)) ⌝ }
-    ensures { λ r. ⌜ Numbered found (r .found) (r .number) ⌝ }
-    ensures { λ r. ⌜ ((A : Automaton) (ts : List Tree) → A .transitions ≡ transitionsIn (now (run .entry)) count →
+    ensures { λ r. ⌜ NumberGiven found (r .found) (r .number) ⌝ }
+    ensures { λ r. ⌜ ((A : Automaton) (ts : List Tree) → A .transitions ≡ transitionsIn (now (transitions .entry)) count →
         Stored A ts found (now (labels .entry)) (now (arities .entry)) (now (children .entry)) (now (states .entry)) →
         Entered A ts (node label (treesNumbered ts (take arity numbers))) (r .found) (r .number)
         (now (labels .exit)) (now (arities .exit)) (now (children .exit)) (now (states .exit))) ⌝ }
@@ -227,7 +227,7 @@ fn enter(
     }
     let width = wide(arity);
     let args = child_states(states, width, numbers);
-    let q = state(run, count, label, width, args);
+    let q = state(transitions, count, label, width, args);
     labels[found] = label;
     arities[found] = arity;
     store_children(children, found, numbers);
@@ -239,11 +239,11 @@ fn enter(
     }
 }
 
-// The distinct subtrees of the tree that is listed, and their states over the transitions of a run.
-pub fn collect(tree: &[u8], run: &[u8], count: usize) -> Subtrees
+// The distinct subtrees of the tree that is listed, and their states over the transitions of a transitions.
+pub fn collect(tree: &[u8], transitions: &[u8], count: usize) -> Subtrees
     requires { ⌜ listingRefusal (now tree) ≡ 0 ⌝ }
-    requires { ⌜ Runs (now run) count ⌝ }
-    ensures { λ r. ⌜ ((A : Automaton) → A .transitions ≡ transitionsIn (now (run .entry)) count →
+    requires { ⌜ HasTransitions (now transitions) count ⌝ }
+    ensures { λ r. ⌜ ((A : Automaton) → A .transitions ≡ transitionsIn (now (transitions .entry)) count →
         Lists A (readTree (now (tree .entry))) (bottomUp (readTree (now (tree .entry)))) r) ⌝ }
 {
     let mut labels = [0u8; MAX_NODES];
@@ -261,7 +261,7 @@ pub fn collect(tree: &[u8], run: &[u8], count: usize) -> Subtrees
         let width = wide(arity);
         let numbers = popped(&stack, top, width);
         let place = enter(
-            run,
+            transitions,
             count,
             &mut labels,
             &mut arities,

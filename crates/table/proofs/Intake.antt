@@ -20,7 +20,7 @@ use Rattle.table.specs.Intake.{WithinLimits, contentConditions, lengthCo
 use Rattle.table.specs.Layout.{byteAt, decode, encode, layoutFits}
 use Rattle.trees.specs.Tree.{Tree}
 use Rattle.automata.proofs.Bounded.{acyclic-bounded, bounded-acyclic}
-use Rattle.automata.proofs.Kept.{canonical-ranged, canonical-valid}
+use Rattle.automata.proofs.CanonicalChange.{canonical-ranged, canonical-valid}
 use Rattle.automata.proofs.Valid.{valid-canonical}
 use Rattle.lists.proofs.Conditions.{unbroken-hold}
 use Rattle.table.proofs.Bytes.{cond-is, encode-byte, encode-length}

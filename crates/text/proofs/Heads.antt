@@ -12,10 +12,10 @@ use borrow.Author.Tests.{eq-eqb, ne-eqb}
 use Rattle.format.specs.Format.{listingBytes}
 use Rattle.text.specs.Answers.{LabelRead, LabelTo, LineEnd, agreed}
 use Rattle.text.specs.Grammar.{closeBracket, digit}
-use Rattle.text.specs.Outcome.{blank}
+use Rattle.text.specs.Outcome.{noListing}
 use Rattle.text.specs.Reader.{Reading, bad, ending, extended, extends, isDigit, lineRead, next, scan, stuck}
 use Rattle.text.specs.Reader.{treeRead, whole}
-use Rattle.text.specs.declared.Found.the-variants.{Broken, Whole}
+use Rattle.text.specs.declared.FormParsed.the-variants.{Broken, Whole}
 use Rattle.text.specs.declared.Label.the-variants.{Nothing, Number}
 use Rattle.trees.specs.Tree.{Tree}
 use Rattle.lists.proofs.Clearing.{ClearedTo, cleared-end}
@@ -157,10 +157,10 @@ module _ (s : List ℕ) (e u : ℕ) where
 
 -- ---- a table of zeros
 
-pub blank-cleared : {l : List ℕ} {i : ℕ} → ClearedTo listingBytes l i → listingBytes ≤ i → l ≡ blank
-unfolding blank
+pub blank-cleared : {l : List ℕ} {i : ℕ} → ClearedTo listingBytes l i → listingBytes ≤ i → l ≡ noListing
+unfolding noListing
 blank-cleared x h = cleared-end x h
 
-pub length-blank : length blank ≡ listingBytes
-unfolding blank
+pub length-blank : length noListing ≡ listingBytes
+unfolding noListing
 length-blank = length-replicate {A = ℕ} listingBytes 0

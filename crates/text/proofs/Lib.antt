@@ -3,10 +3,10 @@ pub mod Labels
 pub mod Text
 pub mod Places
 pub mod Forms
-pub mod Laws
+pub mod LineMeaning
 pub mod Heads
 pub mod Sizes
 pub mod Readers
-pub mod Returns
+pub mod ReaderCalls
 pub mod Lines
 pub mod Samples

@@ -15,20 +15,20 @@ use borrow.Author.Tests.{eqb-true, le-leb}
 use Rattle.format.specs.Format.{listingBytes, maxLine}
 use Rattle.text.specs.Answers.{FormRead, LineEnd, TreeRead, TreeText, agreed, shortestHead}
 use Rattle.text.specs.Grammar.{Command, closeBracket, head, openBracket, toAdd, toAsk, toDrop, treeText}
-use Rattle.text.specs.Outcome.{blank, listed, padded, parsed, parsedAs}
+use Rattle.text.specs.Outcome.{noListing, listed, padded, parsed, parsedAs}
 use Rattle.text.specs.Reader.{Open, bad, ending, expecting, formed, next, readForm, readLine, scan}
 use Rattle.text.specs.Reader.{stuck, treeRead, whole}
-use Rattle.text.specs.declared.Found.{Found}
-use Rattle.text.specs.declared.Found.the-variants.{Broken, Whole}
+use Rattle.text.specs.declared.FormParsed.{FormParsed}
+use Rattle.text.specs.declared.FormParsed.the-variants.{Broken, Whole}
 use Rattle.text.specs.declared.Parsed.the-variants.{Form, Long}
-use Rattle.text.specs.declared.Read.{Read}
-use Rattle.text.specs.declared.Read.the-variants.{Bad, Trees}
+use Rattle.text.specs.declared.TreesRead.{TreesRead}
+use Rattle.text.specs.declared.TreesRead.the-variants.{Bad, Trees}
 use Rattle.trees.specs.Listing.{listing}
 use Rattle.lists.proofs.Tests.{test}
 use Rattle.lists.proofs.Parts.{part}
 use Rattle.text.proofs.Forms.{formStart, scan-expected, whole-form}
 use Rattle.text.proofs.Heads.{length-blank}
-use Rattle.text.proofs.Laws.{line-formed, line-long}
+use Rattle.text.proofs.LineMeaning.{line-formed, line-long}
 use Rattle.text.proofs.Readers.{tree-bad, tree-text}
 use Rattle.text.proofs.Scan.{ending-stuck}
 use Rattle.text.proofs.Sizes.{tree-bounds, tree-size}
@@ -100,8 +100,8 @@ drop-replicate (suc k) zero = let e : 0 - suc k ≡ 0 = omega arith in rw e
 drop-replicate (suc k) (suc n) = let e : suc n - suc k ≡ n - k = omega arith in rw e (drop-replicate k n)
 
 -- a listing that was written to zeros
-sets-blank : (v : List ℕ) → length v ≤ listingBytes → sets blank 0 v ≡ padded v
-unfolding blank padded
+sets-blank : (v : List ℕ) → length v ≤ listingBytes → sets noListing 0 v ≡ padded v
+unfolding noListing padded
 sets-blank v h =
     sets-eq v (replicate listingBytes 0) 0 (rw (length-replicate {A = ℕ} listingBytes 0, zero-add (length v)) h) ∙
     rw (zero-add (length v), drop-replicate (length v) listingBytes)
@@ -120,7 +120,7 @@ module _ (w s : List ℕ) (k : ℕ) (a : k ≡ agreed s w) (h : length w ≤ k) 
   head-inside = omega (arith, agreed-within s w .0)
 
   -- the tree was looked for behind the head
-  module _ (l m : List ℕ) (r : Read) (c : l ≡ blank) (x : TreeRead (part s k) l 0 m r) where
+  module _ (l m : List ℕ) (r : TreesRead) (c : l ≡ noListing) (x : TreeRead (part s k) l 0 m r) where
     pub form-refused : (j : ℕ) → r ≡ Bad j → FormRead w s m (Broken (k + j))
     unfolding readForm FormRead
     form-refused j z =
@@ -137,12 +137,12 @@ module _ (w s : List ℕ) (k : ℕ) (a : k ≡ agreed s w) (h : length w ≤ k) 
         omega (arith, tree-bad s k l 0 m r x j z .0 .within, length-drop k s, head-inside)
 
     module _ (d i u : ℕ) (z : r ≡ Trees d i u) where
-      form-tree : TreeText (drop k s) blank 0 m i u
+      form-tree : TreeText (drop k s) noListing 0 m i u
       form-tree = subst (λ y. TreeText (drop k s) y 0 m i u) c (tree-text s k l 0 m r x d i u z)
 
       pub form-tree-inside : k + i ≤ length s
       form-tree-inside =
-          omega (arith, tree-bounds (drop k s) blank 0 m i u form-tree .within, length-drop k s, head-inside)
+          omega (arith, tree-bounds (drop k s) noListing 0 m i u form-tree .within, length-drop k s, head-inside)
 
       pub form-tree-fits : length s ≤ maxLine → Fits w64 (k + i)
       form-tree-fits h = omega (arith, form-tree-inside)
@@ -154,7 +154,7 @@ module _ (w s : List ℕ) (k : ℕ) (a : k ≡ agreed s w) (h : length w ≤ k) 
           head-read ∙ ap (λ y. scan y (1 + k) (expecting (openBracket ∷ []) [])) (form-tree .text) ∙
           scan-tree t (drop i (drop k s)) (1 + k) [] (form-tree .labels) ∙ rw (p, drop-drop i k s)
 
-      pub form-closed : shortestHead ≤ length w → length s ≤ maxLine → (f : Found) → LineEnd s (k + i) u f →
+      pub form-closed : shortestHead ≤ length w → length s ≤ maxLine → (f : FormParsed) → LineEnd s (k + i) u f →
           FormRead w s m f
       unfolding readForm FormRead LineEnd
       form-closed b n (Whole v) (e, y) =
@@ -168,18 +168,18 @@ module _ (w s : List ℕ) (k : ℕ) (a : k ≡ agreed s w) (h : length w ≤ k) 
       form-closed b n (Broken j) (v, y) = (
         ap (ending (suc (length s))) tree-behind ∙ y (form-tree .tree),
         v,
-        ap length (form-tree .written) ∙ length-sets blank 0 (listing (form-tree .tree)) ∙ length-blank,
+        ap length (form-tree .written) ∙ length-sets noListing 0 (listing (form-tree .tree)) ∙ length-blank,
       )
 
 -- ---- a line
 
-pub parsed-long : (s m : List ℕ) → maxLine < length s → m ≡ blank →
+pub parsed-long : (s m : List ℕ) → maxLine < length s → m ≡ noListing →
     (Long ≡ parsed (readLine s)) × (m ≡ listed (readLine s))
 unfolding parsed listed
 parsed-long s m h e = rw (line-long s .1 h) (refl, e)
 
 -- the form of a command was read
-module _ (c : Command) (s m : List ℕ) (r : Found) (x : FormRead (head c) s m r) where
+module _ (c : Command) (s m : List ℕ) (r : FormParsed) (x : FormRead (head c) s m r) where
   pub parsed-whole : length s ≤ maxLine → (n : ℕ) → r ≡ Whole n →
       (parsedAs c n ≡ parsed (readLine s)) × (m ≡ listed (readLine s))
   unfolding parsed listed FormRead
@@ -205,7 +205,7 @@ module _ (c : Command) (s m : List ℕ) (r : Found) (x : FormRead (head c) s m r
 
 pub parsed-broken : (s m : List ℕ) (i j k n : ℕ) → length s ≤ maxLine → readForm (head toAdd) s ≡ bad (suc i) →
     readForm (head toDrop) s ≡ bad (suc j) → readForm (head toAsk) s ≡ bad (suc k) → n ≡ suc (max i (max j k)) →
-    m ≡ blank → (Form n ≡ parsed (readLine s)) × (m ≡ listed (readLine s))
+    m ≡ noListing → (Form n ≡ parsed (readLine s)) × (m ≡ listed (readLine s))
 unfolding readLine parsed listed
 parsed-broken s m i j k n h p q r d b =
     let e : n ≡ max (suc i) (max (suc j) (suc k)) = omega arith in

@@ -16,8 +16,8 @@ use Rattle.text.specs.Reader.{Open, Place, among, bad, ending, expecting
 use Rattle.text.specs.Reader.{onward, scan, stuck}
 use Rattle.text.specs.declared.Label.{Label}
 use Rattle.text.specs.declared.Label.the-variants.{Nothing, Number}
-use Rattle.text.specs.declared.Read.{Read}
-use Rattle.text.specs.declared.Read.the-variants.{Bad, Trees}
+use Rattle.text.specs.declared.TreesRead.{TreesRead}
+use Rattle.text.specs.declared.TreesRead.the-variants.{Bad, Trees}
 use Rattle.trees.specs.Listing.{listing, listings}
 use Rattle.trees.specs.Tree.{Forest, _⧺_, cons, nil, node}
 use Rattle.lists.proofs.Parts.{part, part-drop}
@@ -26,7 +26,7 @@ use Rattle.text.proofs.Sizes.{set-sets, sets-append}
 use Rattle.text.proofs.Text.{scan-label, scan-tree}
 
 -- what a call on a part says of the rest of s
-module _ (s : List ℕ) (k : ℕ) (l : List ℕ) (at : ℕ) (m : List ℕ) (r : Read) where
+module _ (s : List ℕ) (k : ℕ) (l : List ℕ) (at : ℕ) (m : List ℕ) (r : TreesRead) where
   pub tree-text : TreeRead (part s k) l at m r → (c n u : ℕ) → r ≡ Trees c n u → TreeText (drop k s) l at m n u
   unfolding TreeRead ChildrenRead
   tree-text q c n u z = subst (λ x. TreeText x l at m n u) (part-drop s k) (rw z at q)

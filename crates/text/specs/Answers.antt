@@ -12,12 +12,12 @@ use Rattle.text.specs.Grammar.{treeText}
 use Rattle.text.specs.Outcome.{padded}
 use Rattle.text.specs.Reader.{Open, Place, among, bad, ending, expecting, extends, isDigit, readForm}
 use Rattle.text.specs.Reader.{scan, treeRead, whole}
-use Rattle.text.specs.declared.Found.{Found}
-use Rattle.text.specs.declared.Found.the-variants.{Broken, Whole}
+use Rattle.text.specs.declared.FormParsed.{FormParsed}
+use Rattle.text.specs.declared.FormParsed.the-variants.{Broken, Whole}
 use Rattle.text.specs.declared.Label.{Label}
 use Rattle.text.specs.declared.Label.the-variants.{Nothing, Number}
-use Rattle.text.specs.declared.Read.{Read}
-use Rattle.text.specs.declared.Read.the-variants.{Bad, Trees}
+use Rattle.text.specs.declared.TreesRead.{TreesRead}
+use Rattle.text.specs.declared.TreesRead.the-variants.{Bad, Trees}
 use Rattle.trees.specs.Listing.{listing, listings}
 use Rattle.trees.specs.Tree.{Forest, Tree, count}
 
@@ -44,7 +44,7 @@ LabelRead s (Number a i) = LabelTo s i a × (extends a (getD s i 0) ≡ false)
 LabelRead s Nothing = isDigit (getD s 0 0) ≡ false
 
 -- the table l has its size, and a place of it that rises with the bytes read of s stays small
-pub record Room (s l : List ℕ) (at : ℕ) : Type 0 where
+pub record ListingRoom (s l : List ℕ) (at : ℕ) : Type 0 where
   pub size : length l ≡ listingBytes
   pub bound : at + length s ≤ maxLine
 
@@ -72,22 +72,22 @@ pub record Refused (s : List ℕ) (from : List Open → Place) (i : ℕ) : Type 
   pub within : i ≤ length s
   pub refused : (n : ℕ) (os : List Open) → ending (n + length s) (scan s n (from os)) ≡ bad (n + i)
 
-unfoldable pub TreeRead : List ℕ → List ℕ → ℕ → List ℕ → Read → Type 0
+unfoldable pub TreeRead : List ℕ → List ℕ → ℕ → List ℕ → TreesRead → Type 0
 TreeRead s l at m (Trees k n u) = TreeText s l at m n u
 TreeRead s l at m (Bad i) = Refused s (expecting (openBracket ∷ [])) i × (length m ≡ length l)
 
-unfoldable pub ChildrenRead : List ℕ → List ℕ → ℕ → List ℕ → Read → Type 0
+unfoldable pub ChildrenRead : List ℕ → List ℕ → ℕ → List ℕ → TreesRead → Type 0
 ChildrenRead s l at m (Trees k n u) = ChildrenText s l at m k n u
 ChildrenRead s l at m (Bad i) = ((a : ℕ) (f : Forest) → Refused s (among a f) i) × (length m ≡ length l)
 
 -- how a line is read that comes to the end of its tree, with a listing of u bytes, before byte e
-unfoldable pub LineEnd : List ℕ → ℕ → ℕ → Found → Type 0
+unfoldable pub LineEnd : List ℕ → ℕ → ℕ → FormParsed → Type 0
 LineEnd s e u (Whole n) =
     (n ≡ u) × ((t : Tree) → ending (suc (length s)) (scan (drop e s) (suc e) (treeRead t)) ≡ whole t)
 LineEnd s e u (Broken i) =
     (i ≤ length s) × ((t : Tree) → ending (suc (length s)) (scan (drop e s) (suc e) (treeRead t)) ≡ bad (suc i))
 
 -- the reading of a line with the bytes w before its tree
-unfoldable pub FormRead : List ℕ → List ℕ → List ℕ → Found → Type 0
+unfoldable pub FormRead : List ℕ → List ℕ → List ℕ → FormParsed → Type 0
 FormRead w s m (Whole n) = (t : Tree) × (readForm w s ≡ whole t) × (n ≡ length (listing t)) × (m ≡ padded (listing t))
 FormRead w s m (Broken i) = (readForm w s ≡ bad (suc i)) × (i ≤ length s) × (length m ≡ listingBytes)

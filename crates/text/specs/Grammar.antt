@@ -46,8 +46,8 @@ head toDrop = openBracket ∷ 100 ∷ 114 ∷ 111 ∷ 112 ∷ space ∷ []
 head toAsk = openBracket ∷ 97 ∷ 115 ∷ 107 ∷ space ∷ []
 
 -- one bracketed form
-abbrev pub lineText : Command → Tree → List ℕ
-lineText c t = head c ++ (treeText t ++ (closeBracket ∷ []))
+abbrev pub commandText : Command → Tree → List ℕ
+commandText c t = head c ++ (treeText t ++ (closeBracket ∷ []))
 
 -- every label of a tree is 0 to 255
 abbrev mutual
@@ -63,7 +63,7 @@ pub record WellFormed (s : List ℕ) : Type 0 where
   pub command : Command
   pub tree : Tree
   pub labels : Labelled tree
-  pub text : s ≡ lineText command tree
+  pub text : s ≡ commandText command tree
 
 -- s is the beginning of a well-formed line
 pub record Begins (s : List ℕ) : Type 0 where

@@ -9,8 +9,8 @@ use Rattle.text.specs.declared.Parsed.{Parsed}
 use Rattle.text.specs.declared.Parsed.the-variants.{Add, Ask, Drop, Form, Long}
 
 -- a table of zeros, and one that holds a listing and zeros behind it
-unfoldable pub blank : List ℕ
-blank = replicate listingBytes 0
+unfoldable pub noListing : List ℕ
+noListing = replicate listingBytes 0
 
 unfoldable pub padded : List ℕ → List ℕ
 padded l = l ++ replicate (listingBytes - length l) 0
@@ -28,5 +28,5 @@ parsed long = Long
 
 unfoldable pub listed : Line → List ℕ
 listed (formed c l) = padded l
-listed (form n) = blank
-listed long = blank
+listed (form n) = noListing
+listed long = noListing

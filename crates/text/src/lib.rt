@@ -3,9 +3,9 @@ ghost use mathlib.Core.Path.{_≡_};
 ghost use Prim.Native.Nat.{_≤_, max, suc};
 ghost use lib.ListN.{length, set};
 ghost use Rattle.format.specs.Format.{listingBytes, maxLine};
-ghost use Rattle.text.specs.Answers.{ChildrenRead, FormRead, LabelRead, LineEnd, Room, TreeRead, agreed};
+ghost use Rattle.text.specs.Answers.{ChildrenRead, FormRead, LabelRead, LineEnd, ListingRoom, TreeRead, agreed};
 ghost use Rattle.text.specs.Answers.{shortestHead};
-ghost use Rattle.text.specs.Outcome.{blank, listed, parsed};
+ghost use Rattle.text.specs.Outcome.{noListing, listed, parsed};
 ghost use Rattle.text.specs.Reader.{extends, isDigit, readLine};
 use cursor::column_at;
 use format::LISTING_BYTES;
@@ -41,13 +41,13 @@ enum Label {
 }
 
 // Trees in a row: how many, their bytes in the text and in their listings; or the first byte that is not allowed.
-enum Read {
+enum TreesRead {
     Trees(u8, usize, usize),
     Bad(usize),
 }
 
 // One form of a line: the bytes of its tree's listing, or the first byte that is not allowed.
-enum Found {
+enum FormParsed {
     Whole { len: usize },
     Broken { at: usize },
 }
@@ -107,53 +107,53 @@ fn put(listing: &mut [u8; LISTING_BYTES], i: usize, value: u8)
 }
 
 // Reads the tree that s starts with, and writes its listing from byte `at` on.
-fn tree(s: &[u8], listing: &mut [u8; LISTING_BYTES], at: usize) -> Read
-    requires { ⌜ Room (now s) (now listing) at ⌝ }
+fn tree(s: &[u8], listing: &mut [u8; LISTING_BYTES], at: usize) -> TreesRead
+    requires { ⌜ ListingRoom (now s) (now listing) at ⌝ }
     ensures { λ r. ⌜ TreeRead (now (s .entry)) (now (listing .entry)) at (now (listing .exit)) r ⌝ }
 {
     if s.len() < 1 {
-        return Read::Bad(0);
+        return TreesRead::Bad(0);
     }
     if s[0] != OPEN {
-        return Read::Bad(0);
+        return TreesRead::Bad(0);
     }
     let Label::Number { value, len } = read_label(&s[1..]) else {
-        return Read::Bad(1);
+        return TreesRead::Bad(1);
     };
     put(listing, at, value);
     let start = 1 + len;
     match children(&s[start..], listing, at + NODE_BYTES) {
-        Read::Trees(count, more, used) => {
+        TreesRead::Trees(count, more, used) => {
             put(listing, at + 1, count);
-            Read::Trees(1, start + more, NODE_BYTES + used)
+            TreesRead::Trees(1, start + more, NODE_BYTES + used)
         }
-        Read::Bad(place) => Read::Bad(start + place),
+        TreesRead::Bad(place) => TreesRead::Bad(start + place),
     }
 }
 
 // Reads children, each after a space, and the closing bracket behind them; writes their listings from byte `at` on.
-fn children(s: &[u8], listing: &mut [u8; LISTING_BYTES], at: usize) -> Read
-    requires { ⌜ Room (now s) (now listing) at ⌝ }
+fn children(s: &[u8], listing: &mut [u8; LISTING_BYTES], at: usize) -> TreesRead
+    requires { ⌜ ListingRoom (now s) (now listing) at ⌝ }
     ensures { λ r. ⌜ ChildrenRead (now (s .entry)) (now (listing .entry)) at (now (listing .exit)) r ⌝ }
 {
     if s.len() < 1 {
-        return Read::Bad(0);
+        return TreesRead::Bad(0);
     }
     if s[0] == CLOSE {
-        return Read::Trees(0, 1, 0);
+        return TreesRead::Trees(0, 1, 0);
     }
     if s[0] != SPACE {
-        return Read::Bad(0);
+        return TreesRead::Bad(0);
     }
     match tree(&s[1..], listing, at) {
-        Read::Trees(_, len, used) => {
+        TreesRead::Trees(_, len, used) => {
             let next = 1 + len;
             match children(&s[next..], listing, at + used) {
-                Read::Trees(count, more, rest) => Read::Trees(count + 1, next + more, used + rest),
-                Read::Bad(place) => Read::Bad(next + place),
+                TreesRead::Trees(count, more, rest) => TreesRead::Trees(count + 1, next + more, used + rest),
+                TreesRead::Bad(place) => TreesRead::Bad(next + place),
             }
         }
-        Read::Bad(place) => Read::Bad(1 + place),
+        TreesRead::Bad(place) => TreesRead::Bad(1 + place),
     }
 }
 
@@ -176,7 +176,7 @@ fn agreeing(s: &[u8], w: &[u8]) -> usize
 
 fn clear(listing: &mut [u8; LISTING_BYTES])
     requires { ⌜ length (now listing) ≡ listingBytes ⌝ }
-    ensures { λ _. ⌜ now (listing .exit) ≡ blank ⌝ }
+    ensures { λ _. ⌜ now (listing .exit) ≡ noListing ⌝ }
 {
     let mut i = 0;
     while i < LISTING_BYTES {
@@ -186,24 +186,24 @@ fn clear(listing: &mut [u8; LISTING_BYTES])
 }
 
 // Whether a line whose tree ends before byte `end` ends as it must: with a closing bracket.
-fn close_line(line: &[u8], end: usize, len: usize) -> Found
+fn close_line(line: &[u8], end: usize, len: usize) -> FormParsed
     requires { ⌜ end ≤ length (now line) ⌝ }
     ensures { λ r. ⌜ LineEnd (now (line .entry)) end len r ⌝ }
 {
     if end >= line.len() {
-        return Found::Broken { at: end };
+        return FormParsed::Broken { at: end };
     }
     if line[end] != CLOSE {
-        return Found::Broken { at: end };
+        return FormParsed::Broken { at: end };
     }
     if end + 1 < line.len() {
-        return Found::Broken { at: end + 1 };
+        return FormParsed::Broken { at: end + 1 };
     }
-    Found::Whole { len }
+    FormParsed::Whole { len }
 }
 
 // Reads a line that is to start with `head` and a tree, and writes the tree's listing.
-fn read_form(line: &[u8], head: &[u8], listing: &mut [u8; LISTING_BYTES]) -> Found
+fn read_form(line: &[u8], head: &[u8], listing: &mut [u8; LISTING_BYTES]) -> FormParsed
     requires { ⌜ length (now line) ≤ maxLine ⌝ }
     requires { ⌜ shortestHead ≤ length (now head) ⌝ }
     requires { ⌜ length (now listing) ≡ listingBytes ⌝ }
@@ -211,12 +211,12 @@ fn read_form(line: &[u8], head: &[u8], listing: &mut [u8; LISTING_BYTES]) -> Fou
 {
     let start = agreeing(line, head);
     if start < head.len() {
-        return Found::Broken { at: start };
+        return FormParsed::Broken { at: start };
     }
     clear(listing);
     match tree(&line[start..], listing, 0) {
-        Read::Trees(_, len, used) => close_line(line, start + len, used),
-        Read::Bad(place) => Found::Broken { at: start + place },
+        TreesRead::Trees(_, len, used) => close_line(line, start + len, used),
+        TreesRead::Bad(place) => FormParsed::Broken { at: start + place },
     }
 }
 
@@ -240,16 +240,16 @@ pub fn read_line(line: &[u8], listing: &mut [u8; LISTING_BYTES]) -> Parsed
         return Parsed::Long;
     }
     let add = match read_form(line, b"(add ", listing) {
-        Found::Whole { len } => return Parsed::Add { len },
-        Found::Broken { at } => at,
+        FormParsed::Whole { len } => return Parsed::Add { len },
+        FormParsed::Broken { at } => at,
     };
     let drop = match read_form(line, b"(drop ", listing) {
-        Found::Whole { len } => return Parsed::Drop { len },
-        Found::Broken { at } => at,
+        FormParsed::Whole { len } => return Parsed::Drop { len },
+        FormParsed::Broken { at } => at,
     };
     let ask = match read_form(line, b"(ask ", listing) {
-        Found::Whole { len } => return Parsed::Ask { len },
-        Found::Broken { at } => at,
+        FormParsed::Whole { len } => return Parsed::Ask { len },
+        FormParsed::Broken { at } => at,
     };
     clear(listing);
     Parsed::Form {

@@ -12,14 +12,14 @@ use lib.Seq.{getD-set-other, getD-set-same}
 use borrow.Author.Tests.{eqb-false, eqb-true, leb-false, leb-true}
 use Rattle.automata.specs.Automaton.{Transition}
 use Rattle.automata.specs.Numbered.{firstOpen, numbered}
-use Rattle.fields.specs.Fields.{RunsOver}
+use Rattle.fields.specs.Fields.{HasTransitionsOver}
 use Rattle.fields.specs.View.{viewed}
 use Rattle.format.specs.Format.{byteValues, transitionBytes}
 use Rattle.lists.specs.Positions.{upFrom}
 use Rattle.lists.specs.Tests.{every}
 use Rattle.marking.specs.Marks.{marked}
 use Rattle.table.specs.Layout.{nthTransition, outOf, transitionsIn}
-use Rattle.validity.specs.Rules.{Read, Spans}
+use Rattle.validity.specs.Rules.{NumbersRead, Spans}
 use Rattle.automata.proofs.NumberedPass.{Passed, broken-numbered, firstOpen-kept, passed-broken, passed-low}
 use Rattle.automata.proofs.NumberedPass.{passed-next, passed-none, passed-numbered, top}
 use Rattle.fields.proofs.Transitions.{transitionsIn-suc}
@@ -117,7 +117,7 @@ module _ (s : List ℕ) (i : ℕ) where
 
   module _ (m : List ℕ) (size : length m ≡ byteValues) (passed : Passed (transitionsIn s i) (marked m)) where
     -- a transition that gives no number
-    pub read-low : τ .out ≤ top (τ .args) → Read s i m true
+    pub read-low : τ .out ≤ top (τ .args) → NumbersRead s i m true
     read-low h = record {
       size = size;
       passed = λ e. rw one-more (passed-low passed τ h);
@@ -127,7 +127,7 @@ module _ (s : List ℕ) (i : ℕ) where
     -- its output gets a number: all between have theirs
     pub read-next : top (τ .args) < τ .out → τ .out < byteValues →
         every (marked m) (upFrom (top (τ .args) + 1) (τ .out - (top (τ .args) + 1))) ≡ true →
-        Read s i (set m (τ .out) (top (τ .args) + 1)) true
+        NumbersRead s i (set m (τ .out) (top (τ .args) + 1)) true
     read-next h l e = record {
       size = length-set m (τ .out) (top (τ .args) + 1) ∙ size;
       passed = λ _. rw one-more
@@ -140,7 +140,7 @@ module _ (s : List ℕ) (i : ℕ) where
 
     -- a state between has no number
     pub read-broken : every (marked m) (upFrom (top (τ .args) + 1) (τ .out - (top (τ .args) + 1))) ≡ false →
-        Read s i m false
+        NumbersRead s i m false
     read-broken e = record {
       size = size;
       passed = λ d. absurd (false≢true d);
@@ -173,7 +173,7 @@ firstOpen-later s k j i (suc c) h e = go (λ l. firstOpen-later s k j i c l e) (
 
 module _ (cl s : List ℕ) (n c : ℕ) where
   -- a transition that breaks the rule
-  pub pass-broken : RunsOver s c n → (i : ℕ) {m : List ℕ} → i < c → Read s i m false →
+  pub pass-broken : HasTransitionsOver s c n → (i : ℕ) {m : List ℕ} → i < c → NumbersRead s i m false →
       false ≡ numbered (viewed cl s n c)
   pass-broken over i h r = go (r .broken refl)
     where

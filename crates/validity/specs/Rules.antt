@@ -65,7 +65,7 @@ pub record Spans (m : List ℕ) : Type 0 where
   pub each : (q p : ℕ) → marked m q ≡ true → getD m q 0 ≤ p → p ≤ q → marked m p ≡ true
 
 -- transition i was read: r says whether the states below its output, down to its arguments, have their numbers
-pub record Read (s : List ℕ) (i : ℕ) (m : List ℕ) (r : Bool) : Type 0 where
+pub record NumbersRead (s : List ℕ) (i : ℕ) (m : List ℕ) (r : Bool) : Type 0 where
   pub size : length m ≡ byteValues
   pub passed : r ≡ true → Passed (transitionsIn s (i + 1)) (marked m)
   pub broken : r ≡ false →

@@ -6,7 +6,7 @@ ghost use Prim.Native.Nat.{_*_, _+_, _<_, _≤_, ℕ};
 ghost use lib.ListN.{length};
 ghost use Rattle.automata.specs.Acyclic.{acyclic};
 ghost use Rattle.format.specs.Format.{byteValues, transitionBytes};
-ghost use Rattle.fields.specs.Fields.{Readable, Runs, RunsOver};
+ghost use Rattle.fields.specs.Fields.{Readable, HasTransitions, HasTransitionsOver};
 ghost use Rattle.fields.specs.View.{viewed};
 ghost use Rattle.validity.specs.Rules.{Blocks, Ground, Unblocked};
 ghost use Rattle.marking.specs.Spread.{Spread, UpTo};
@@ -20,27 +20,27 @@ use format::BYTE_VALUES;
 use format::TRANSITION_BYTES;
 
 // Transition i blocks its output where some argument is not marked.
-fn block(run: &[u8], i: usize, marks: &[u8; BYTE_VALUES], blocked: &mut [u8; BYTE_VALUES])
-    requires { ⌜ Readable (now run) (transitionBytes * i) ⌝ }
-    requires { ⌜ Blocks (now run) (now marks) i (now blocked) ⌝ }
-    ensures { λ _. ⌜ Blocks (now (run .entry)) (now (marks .entry)) (i + 1) (now (blocked .exit)) ⌝ }
+fn block(transitions: &[u8], i: usize, marks: &[u8; BYTE_VALUES], blocked: &mut [u8; BYTE_VALUES])
+    requires { ⌜ Readable (now transitions) (transitionBytes * i) ⌝ }
+    requires { ⌜ Blocks (now transitions) (now marks) i (now blocked) ⌝ }
+    ensures { λ _. ⌜ Blocks (now (transitions .entry)) (now (marks .entry)) (i + 1) (now (blocked .exit)) ⌝ }
 {
     let at = TRANSITION_BYTES * i;
-    if args_marked(run, at, marks) {
+    if args_marked(transitions, at, marks) {
         return;
     }
-    let out = out_of(run, at);
+    let out = out_of(transitions, at);
     blocked[out] = 1;
 }
 
-fn block_all(run: &[u8], count: usize, marks: &[u8; BYTE_VALUES], blocked: &mut [u8; BYTE_VALUES])
-    requires { ⌜ Runs (now run) count ⌝ }
-    requires { ⌜ Blocks (now run) (now marks) 0 (now blocked) ⌝ }
-    ensures { λ _. ⌜ Blocks (now (run .entry)) (now (marks .entry)) count (now (blocked .exit)) ⌝ }
+fn block_all(transitions: &[u8], count: usize, marks: &[u8; BYTE_VALUES], blocked: &mut [u8; BYTE_VALUES])
+    requires { ⌜ HasTransitions (now transitions) count ⌝ }
+    requires { ⌜ Blocks (now transitions) (now marks) 0 (now blocked) ⌝ }
+    ensures { λ _. ⌜ Blocks (now (transitions .entry)) (now (marks .entry)) count (now (blocked .exit)) ⌝ }
 {
     let mut i = 0;
     while i < count {
-        block(run, i, marks, blocked);
+        block(transitions, i, marks, blocked);
         i += 1;
     }
 }
@@ -77,40 +77,40 @@ fn ground_unblocked(blocked: &[u8; BYTE_VALUES], n: usize, marks: &mut [u8; BYTE
     changed
 }
 
-fn ground_all(run: &[u8], count: usize, n: usize, marks: &mut [u8; BYTE_VALUES]) -> bool
-    requires { ⌜ Runs (now run) count ⌝ }
+fn ground_all(transitions: &[u8], count: usize, n: usize, marks: &mut [u8; BYTE_VALUES]) -> bool
+    requires { ⌜ HasTransitions (now transitions) count ⌝ }
     requires { ⌜ n < byteValues ⌝ }
     requires { ⌜ length (now marks) ≡ byteValues ⌝ }
-    ensures { λ r. ⌜ Spread (UpTo (Ground (now (run .entry)) count) n) (now (marks .entry)) (now (marks .exit)) r ⌝ }
+    ensures { λ r. ⌜ Spread (UpTo (Ground (now (transitions .entry)) count) n) (now (marks .entry)) (now (marks .exit)) r ⌝ }
 {
     let mut blocked = [0u8; BYTE_VALUES];
-    block_all(run, count, marks, &mut blocked);
+    block_all(transitions, count, marks, &mut blocked);
     ground_unblocked(&blocked, n, marks)
 }
 
 // Condition 11 by marks, whatever the table.
-fn all_grounded(run: &[u8], count: usize, n: usize) -> bool
-    requires { ⌜ RunsOver (now run) count n ⌝ }
+fn all_grounded(transitions: &[u8], count: usize, n: usize) -> bool
+    requires { ⌜ HasTransitionsOver (now transitions) count n ⌝ }
     requires { ⌜ n ≤ 255 ⌝ }
-    ensures { λ r. ⌜ ((cl : List ℕ) → r ≡ acyclic (viewed cl (now (run .entry)) n count)) ⌝ }
+    ensures { λ r. ⌜ ((cl : List ℕ) → r ≡ acyclic (viewed cl (now (transitions .entry)) n count)) ⌝ }
 {
     let mut marks = [0u8; BYTE_VALUES];
-    while ground_all(run, count, n, &mut marks) {}
+    while ground_all(transitions, count, n, &mut marks) {}
     all_marked(&marks, 1, n + 1)
 }
 
 // Condition 11: no state comes back to itself going from arguments to outputs. Where it holds, ranks show it; the marks
 // decide where they do not.
-pub fn acyclic(run: &[u8], count: usize, n: usize) -> bool
-    requires { ⌜ RunsOver (now run) count n ⌝ }
+pub fn acyclic(transitions: &[u8], count: usize, n: usize) -> bool
+    requires { ⌜ HasTransitionsOver (now transitions) count n ⌝ }
     requires { ⌜ n ≤ 255 ⌝ }
-    ensures { λ r. ⌜ ((cl : List ℕ) → r ≡ acyclic (viewed cl (now (run .entry)) n count)) ⌝ }
+    ensures { λ r. ⌜ ((cl : List ℕ) → r ≡ acyclic (viewed cl (now (transitions .entry)) n count)) ⌝ }
 {
-    if ranks_rise(run, count, &numbers()) {
+    if ranks_rise(transitions, count, &numbers()) {
         return true;
     }
-    if ranks_rise(run, count, &depth_first(run, count, n)) {
+    if ranks_rise(transitions, count, &depth_first(transitions, count, n)) {
         return true;
     }
-    all_grounded(run, count, n)
+    all_grounded(transitions, count, n)
 }

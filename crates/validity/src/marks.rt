@@ -29,14 +29,14 @@ pub fn all_marked(marks: &[u8; BYTE_VALUES], from: usize, end: usize) -> bool
 }
 
 // Whether the arguments of the transition that starts at a byte are all marked.
-pub fn args_marked(run: &[u8], at: usize, marks: &[u8; BYTE_VALUES]) -> bool
-    requires { ⌜ Readable (now run) at ⌝ }
-    ensures { λ r. ⌜ r ≡ every (marked (now (marks .entry))) (transitionAt (now (run .entry)) at .args) ⌝ }
+pub fn args_marked(transitions: &[u8], at: usize, marks: &[u8; BYTE_VALUES]) -> bool
+    requires { ⌜ Readable (now transitions) at ⌝ }
+    ensures { λ r. ⌜ r ≡ every (marked (now (marks .entry))) (transitionAt (now (transitions .entry)) at .args) ⌝ }
 {
-    let arity = arity_of(run, at);
+    let arity = arity_of(transitions, at);
     let mut k = 0;
     while k < arity {
-        let q = arg_of(run, at, k);
+        let q = arg_of(transitions, at, k);
         if marks[q] == 0 {
             return false;
         }

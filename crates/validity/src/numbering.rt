@@ -11,9 +11,9 @@ ghost use Rattle.lists.specs.Positions.{upFrom};
 ghost use Rattle.lists.specs.Tests.{every};
 ghost use Rattle.marking.specs.Marks.{marked};
 ghost use Rattle.table.specs.Layout.{transitionAt, transitionsIn};
-ghost use Rattle.fields.specs.Fields.{Readable, RunsOver};
+ghost use Rattle.fields.specs.Fields.{Readable, HasTransitionsOver};
 ghost use Rattle.fields.specs.View.{viewed};
-ghost use Rattle.validity.specs.Rules.{Read, Spans};
+ghost use Rattle.validity.specs.Rules.{NumbersRead, Spans};
 use crate::marks::all_marked;
 use crate::transitions::arg_of;
 use crate::transitions::arity_of;
@@ -32,15 +32,15 @@ fn greater(x: usize, y: usize) -> usize
 }
 
 // The greatest argument; 0 for a leaf.
-fn top_argument(run: &[u8], at: usize) -> usize
-    requires { ⌜ Readable (now run) at ⌝ }
-    ensures { λ r. ⌜ r ≡ top (transitionAt (now (run .entry)) at .args) ⌝ }
+fn top_argument(transitions: &[u8], at: usize) -> usize
+    requires { ⌜ Readable (now transitions) at ⌝ }
+    ensures { λ r. ⌜ r ≡ top (transitionAt (now (transitions .entry)) at .args) ⌝ }
 {
-    let arity = arity_of(run, at);
+    let arity = arity_of(transitions, at);
     let mut t = 0;
     let mut k = 0;
     while k < arity {
-        let q = arg_of(run, at, k);
+        let q = arg_of(transitions, at, k);
         t = greater(t, q);
         k += 1;
     }
@@ -67,17 +67,17 @@ fn all_seen(seen: &[u8; BYTE_VALUES], from: usize, end: usize) -> bool
 
 // Reads transition i: whether every state strictly between its arguments and its output has been seen. Then the
 // output is seen, and its mark says so of them all.
-fn read(run: &[u8], i: usize, seen: &mut [u8; BYTE_VALUES]) -> bool
-    requires { ⌜ Readable (now run) (transitionBytes * i) ⌝ }
+fn read(transitions: &[u8], i: usize, seen: &mut [u8; BYTE_VALUES]) -> bool
+    requires { ⌜ Readable (now transitions) (transitionBytes * i) ⌝ }
     requires { ⌜ length (now seen) ≡ byteValues ⌝ }
-    requires { ⌜ Passed (transitionsIn (now run) i) (marked (now seen)) ⌝ }
+    requires { ⌜ Passed (transitionsIn (now transitions) i) (marked (now seen)) ⌝ }
     requires { ⌜ Spans (now seen) ⌝ }
-    ensures { λ r. ⌜ Read (now (run .entry)) i (now (seen .exit)) r ⌝ }
+    ensures { λ r. ⌜ NumbersRead (now (transitions .entry)) i (now (seen .exit)) r ⌝ }
     ensures { λ _. ⌜ Spans (now (seen .exit)) ⌝ }
 {
     let at = TRANSITION_BYTES * i;
-    let t = top_argument(run, at);
-    let out = out_of(run, at);
+    let t = top_argument(transitions, at);
+    let out = out_of(transitions, at);
     if out <= t {
         return true;
     }
@@ -89,15 +89,15 @@ fn read(run: &[u8], i: usize, seen: &mut [u8; BYTE_VALUES]) -> bool
 }
 
 // Condition 13: the states are numbered by the rule.
-pub fn numbered(run: &[u8], count: usize, n: usize) -> bool
-    requires { ⌜ RunsOver (now run) count n ⌝ }
+pub fn numbered(transitions: &[u8], count: usize, n: usize) -> bool
+    requires { ⌜ HasTransitionsOver (now transitions) count n ⌝ }
     requires { ⌜ n ≤ 255 ⌝ }
-    ensures { λ r. ⌜ ((cl : List ℕ) → r ≡ numbered (viewed cl (now (run .entry)) n count)) ⌝ }
+    ensures { λ r. ⌜ ((cl : List ℕ) → r ≡ numbered (viewed cl (now (transitions .entry)) n count)) ⌝ }
 {
     let mut seen = [0u8; BYTE_VALUES];
     let mut i = 0;
     while i < count {
-        if !read(run, i, &mut seen) {
+        if !read(transitions, i, &mut seen) {
             return false;
         }
         i += 1;

@@ -4,7 +4,7 @@ ghost use mathlib.Core.Path.{_≡_};
 ghost use Prim.Native.Nat.{_*_, _+_, _<_, _≤_};
 ghost use lib.Dec.{ltb};
 ghost use lib.ListN.{getD, length};
-ghost use Rattle.fields.specs.Fields.{Readable, Runs};
+ghost use Rattle.fields.specs.Fields.{Readable, HasTransitions};
 ghost use Rattle.format.specs.Format.{byteValues, maxProduct};
 ghost use Rattle.lists.specs.Tests.{every};
 ghost use Rattle.table.specs.Layout.{transitionAt, transitionsIn};
@@ -21,15 +21,15 @@ use format::wide;
 const SEEN: u8 = 255;
 
 // Whether the arguments of the transition that starts at a byte all rank below a bound.
-fn args_below(run: &[u8], at: usize, ranks: &[u8; BYTE_VALUES], bound: u8) -> bool
-    requires { ⌜ Readable (now run) at ⌝ }
-    ensures { λ r. ⌜ r ≡ every (λ q. ltb (rankOf (now (ranks .entry)) q) bound) (transitionAt (now (run .entry)) at
+fn args_below(transitions: &[u8], at: usize, ranks: &[u8; BYTE_VALUES], bound: u8) -> bool
+    requires { ⌜ Readable (now transitions) at ⌝ }
+    ensures { λ r. ⌜ r ≡ every (λ q. ltb (rankOf (now (ranks .entry)) q) bound) (transitionAt (now (transitions .entry)) at
         .args) ⌝ }
 {
-    let arity = arity_of(run, at);
+    let arity = arity_of(transitions, at);
     let mut k = 0;
     while k < arity {
-        let q = arg_of(run, at, k);
+        let q = arg_of(transitions, at, k);
         if ranks[q] >= bound {
             return false;
         }
@@ -39,14 +39,14 @@ fn args_below(run: &[u8], at: usize, ranks: &[u8; BYTE_VALUES], bound: u8) -> bo
 }
 
 // Whether in every transition the output ranks above the arguments.
-pub fn ranks_rise(run: &[u8], count: usize, ranks: &[u8; BYTE_VALUES]) -> bool
-    requires { ⌜ Runs (now run) count ⌝ }
-    ensures { λ r. ⌜ r ≡ every (risesBy (rankOf (now (ranks .entry)))) (transitionsIn (now (run .entry)) count) ⌝ }
+pub fn ranks_rise(transitions: &[u8], count: usize, ranks: &[u8; BYTE_VALUES]) -> bool
+    requires { ⌜ HasTransitions (now transitions) count ⌝ }
+    ensures { λ r. ⌜ r ≡ every (risesBy (rankOf (now (ranks .entry)))) (transitionsIn (now (transitions .entry)) count) ⌝ }
 {
     let mut i = 0;
     while i < count {
-        let out = out_of(run, TRANSITION_BYTES * i);
-        if !args_below(run, TRANSITION_BYTES * i, ranks, ranks[out]) {
+        let out = out_of(transitions, TRANSITION_BYTES * i);
+        if !args_below(transitions, TRANSITION_BYTES * i, ranks, ranks[out]) {
             return false;
         }
         i += 1;
@@ -67,8 +67,8 @@ pub fn numbers() -> [u8; BYTE_VALUES] {
 
 // Links the transitions into each state: `first` has one of them, `others` another for each, as its number from 1; 0
 // is none.
-fn link(run: &[u8], count: usize, first: &mut [u16; BYTE_VALUES], others: &mut [u16; MAX_PRODUCT])
-    requires { ⌜ Runs (now run) count ⌝ }
+fn link(transitions: &[u8], count: usize, first: &mut [u16; BYTE_VALUES], others: &mut [u16; MAX_PRODUCT])
+    requires { ⌜ HasTransitions (now transitions) count ⌝ }
     requires { ⌜ length (now first) ≡ byteValues ⌝ }
     requires { ⌜ length (now others) ≡ maxProduct ⌝ }
     ensures { λ _. ⌜ length (now (first .exit)) ≡ byteValues ⌝ }
@@ -76,7 +76,7 @@ fn link(run: &[u8], count: usize, first: &mut [u16; BYTE_VALUES], others: &mut [
 {
     let mut i = 0;
     while i < count {
-        let out = out_of(run, TRANSITION_BYTES * i);
+        let out = out_of(transitions, TRANSITION_BYTES * i);
         others[i] = first[out];
         i += 1;
         first[out] = i as u16;
@@ -103,14 +103,14 @@ fn first_into(first: &[u16; BYTE_VALUES], q: usize, count: usize) -> usize
 }
 
 // An argument of the transition that starts at a byte and has no rank; 0 where there is none.
-fn unranked_arg(run: &[u8], at: usize, ranks: &[u8; BYTE_VALUES]) -> usize
-    requires { ⌜ Readable (now run) at ⌝ }
+fn unranked_arg(transitions: &[u8], at: usize, ranks: &[u8; BYTE_VALUES]) -> usize
+    requires { ⌜ Readable (now transitions) at ⌝ }
     ensures { λ r. ⌜ r < byteValues ⌝ }
 {
-    let arity = arity_of(run, at);
+    let arity = arity_of(transitions, at);
     let mut k = 0;
     while k < arity {
-        let q = arg_of(run, at, k);
+        let q = arg_of(transitions, at, k);
         if ranks[q] == 0 {
             return q;
         }
@@ -142,14 +142,14 @@ fn enter(
 // Goes from states to the arguments of the transitions into them, as deep as it can, and ranks a state when it has come
 // back from all of them. `first` loses the transitions that are done.
 fn rank_all(
-    run: &[u8],
+    transitions: &[u8],
     count: usize,
     n: usize,
     first: &mut [u16; BYTE_VALUES],
     others: &[u16; MAX_PRODUCT],
     ranks: &mut [u8; BYTE_VALUES],
 )
-    requires { ⌜ Runs (now run) count ⌝ }
+    requires { ⌜ HasTransitions (now transitions) count ⌝ }
     requires { ⌜ n ≤ 255 ⌝ }
     requires { ⌜ length (now first) ≡ byteValues ⌝ }
     requires { ⌜ length (now ranks) ≡ byteValues ⌝ }
@@ -180,7 +180,7 @@ fn rank_all(
             ranks[q] = rank;
             continue;
         }
-        let a = unranked_arg(run, TRANSITION_BYTES * (i - 1), ranks);
+        let a = unranked_arg(transitions, TRANSITION_BYTES * (i - 1), ranks);
         if a == 0 {
             first[q] = others[i - 1];
             continue;
@@ -193,14 +193,14 @@ fn rank_all(
 }
 
 // Ranks that rise from arguments to outputs, where no state comes back to itself.
-pub fn depth_first(run: &[u8], count: usize, n: usize) -> [u8; BYTE_VALUES]
-    requires { ⌜ Runs (now run) count ⌝ }
+pub fn depth_first(transitions: &[u8], count: usize, n: usize) -> [u8; BYTE_VALUES]
+    requires { ⌜ HasTransitions (now transitions) count ⌝ }
     requires { ⌜ n ≤ 255 ⌝ }
 {
     let mut first = [0u16; BYTE_VALUES];
     let mut others = [0u16; MAX_PRODUCT];
     let mut ranks = [0u8; BYTE_VALUES];
-    link(run, count, &mut first, &mut others);
-    rank_all(run, count, n, &mut first, &others, &mut ranks);
+    link(transitions, count, &mut first, &mut others);
+    rank_all(transitions, count, n, &mut first, &others, &mut ranks);
     ranks
 }

@@ -4,7 +4,7 @@ ghost use mathlib.Core.List.{List};
 ghost use Prim.Native.Nat.{_≤_, ℕ};
 ghost use lib.ListN.{length};
 ghost use Rattle.automata.specs.Accessible.{allAccessible};
-ghost use Rattle.fields.specs.Fields.{Readable, Runs, RunsOver};
+ghost use Rattle.fields.specs.Fields.{Readable, HasTransitions, HasTransitionsOver};
 ghost use Rattle.fields.specs.View.{viewed};
 ghost use Rattle.validity.specs.Rules.{Up, nthUp};
 ghost use Rattle.marking.specs.Spread.{Spread, UpTo};
@@ -16,31 +16,31 @@ use format::BYTE_VALUES;
 use format::TRANSITION_BYTES;
 
 // One transition: marks its output where its arguments are all marked. Answers whether the mark is new.
-fn reach(run: &[u8], at: usize, marks: &mut [u8; BYTE_VALUES]) -> bool
-    requires { ⌜ Readable (now run) at ⌝ }
+fn mark_output(transitions: &[u8], at: usize, marks: &mut [u8; BYTE_VALUES]) -> bool
+    requires { ⌜ Readable (now transitions) at ⌝ }
     requires { ⌜ length (now marks) ≡ byteValues ⌝ }
-    ensures { λ r. ⌜ Spread (Up (now (run .entry)) at) (now (marks .entry)) (now (marks .exit)) r ⌝ }
+    ensures { λ r. ⌜ Spread (Up (now (transitions .entry)) at) (now (marks .entry)) (now (marks .exit)) r ⌝ }
 {
-    let out = out_of(run, at);
+    let out = out_of(transitions, at);
     if marks[out] != 0 {
         return false;
     }
-    if !args_marked(run, at, marks) {
+    if !args_marked(transitions, at, marks) {
         return false;
     }
     marks[out] = 1;
     true
 }
 
-fn reach_all(run: &[u8], count: usize, marks: &mut [u8; BYTE_VALUES]) -> bool
-    requires { ⌜ Runs (now run) count ⌝ }
+fn mark_outputs(transitions: &[u8], count: usize, marks: &mut [u8; BYTE_VALUES]) -> bool
+    requires { ⌜ HasTransitions (now transitions) count ⌝ }
     requires { ⌜ length (now marks) ≡ byteValues ⌝ }
-    ensures { λ r. ⌜ Spread (UpTo (nthUp (now (run .entry))) count) (now (marks .entry)) (now (marks .exit)) r ⌝ }
+    ensures { λ r. ⌜ Spread (UpTo (nthUp (now (transitions .entry))) count) (now (marks .entry)) (now (marks .exit)) r ⌝ }
 {
     let mut changed = false;
     let mut i = 0;
     while i < count {
-        let r = reach(run, TRANSITION_BYTES * i, marks);
+        let r = mark_output(transitions, TRANSITION_BYTES * i, marks);
         changed = changed | r;
         i += 1;
     }
@@ -48,12 +48,12 @@ fn reach_all(run: &[u8], count: usize, marks: &mut [u8; BYTE_VALUES]) -> bool
 }
 
 // Condition 9: some tree runs to each state.
-pub fn all_accessible(run: &[u8], count: usize, n: usize) -> bool
-    requires { ⌜ RunsOver (now run) count n ⌝ }
+pub fn all_accessible(transitions: &[u8], count: usize, n: usize) -> bool
+    requires { ⌜ HasTransitionsOver (now transitions) count n ⌝ }
     requires { ⌜ n ≤ 255 ⌝ }
-    ensures { λ r. ⌜ ((cl : List ℕ) → r ≡ allAccessible (viewed cl (now (run .entry)) n count)) ⌝ }
+    ensures { λ r. ⌜ ((cl : List ℕ) → r ≡ allAccessible (viewed cl (now (transitions .entry)) n count)) ⌝ }
 {
     let mut marks = [0u8; BYTE_VALUES];
-    while reach_all(run, count, &mut marks) {}
+    while mark_outputs(transitions, count, &mut marks) {}
     all_marked(&marks, 1, n + 1)
 }

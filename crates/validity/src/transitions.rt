@@ -1,4 +1,4 @@
-// The fields of the transition that starts at a byte of a run, as numbers.
+// The fields of the transition that starts at a byte of a transitions, as numbers.
 ghost use mathlib.Core.Path.{_≡_};
 ghost use Prim.Native.Nat.{_<_};
 ghost use Rattle.format.specs.Format.{maxArity};
@@ -9,26 +9,26 @@ use format::ARITY_AT;
 use format::OUT_AT;
 use format::wide;
 
-pub fn arity_of(run: &[u8], at: usize) -> usize
-    requires { ⌜ Readable (now run) at ⌝ }
-    ensures { λ r. ⌜ r ≡ arityOf (now (run .entry)) at ⌝ }
+pub fn arity_of(transitions: &[u8], at: usize) -> usize
+    requires { ⌜ Readable (now transitions) at ⌝ }
+    ensures { λ r. ⌜ r ≡ arityOf (now (transitions .entry)) at ⌝ }
 {
-    wide(run[at + ARITY_AT])
+    wide(transitions[at + ARITY_AT])
 }
 
-pub fn arg_of(run: &[u8], at: usize, k: usize) -> usize
-    requires { ⌜ Readable (now run) at ⌝ }
+pub fn arg_of(transitions: &[u8], at: usize, k: usize) -> usize
+    requires { ⌜ Readable (now transitions) at ⌝ }
     requires { ⌜ k < maxArity ⌝ }
-    ensures { λ r. ⌜ r ≡ argOf (now (run .entry)) at k ⌝ }
+    ensures { λ r. ⌜ r ≡ argOf (now (transitions .entry)) at k ⌝ }
     ensures { λ r. ⌜ r < 256 ⌝ }
 {
-    wide(run[at + ARGS_AT + k])
+    wide(transitions[at + ARGS_AT + k])
 }
 
-pub fn out_of(run: &[u8], at: usize) -> usize
-    requires { ⌜ Readable (now run) at ⌝ }
-    ensures { λ r. ⌜ r ≡ outOf (now (run .entry)) at ⌝ }
+pub fn out_of(transitions: &[u8], at: usize) -> usize
+    requires { ⌜ Readable (now transitions) at ⌝ }
+    ensures { λ r. ⌜ r ≡ outOf (now (transitions .entry)) at ⌝ }
     ensures { λ r. ⌜ r < 256 ⌝ }
 {
-    wide(run[at + OUT_AT])
+    wide(transitions[at + OUT_AT])
 }

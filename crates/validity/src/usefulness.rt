@@ -7,7 +7,7 @@ ghost use lib.ListN.{length};
 ghost use Rattle.lists.specs.Tests.{bit};
 ghost use Rattle.automata.specs.Automaton.{accepting};
 ghost use Rattle.automata.specs.Coaccessible.{allCoaccessible, coaccessible};
-ghost use Rattle.fields.specs.Fields.{Readable, Runs};
+ghost use Rattle.fields.specs.Fields.{Readable, HasTransitions};
 ghost use Rattle.fields.specs.View.{Viewed, viewed};
 ghost use Rattle.marking.specs.Marks.{marked};
 ghost use Rattle.table.specs.Layout.{outOf};
@@ -24,17 +24,17 @@ use format::BYTE_VALUES;
 use format::TRANSITION_BYTES;
 
 // Marks the arguments of a transition whose output is marked. Answers whether a mark is new.
-fn use_args(run: &[u8], at: usize, marks: &mut [u8; BYTE_VALUES]) -> bool
-    requires { ⌜ Readable (now run) at ⌝ }
+fn use_args(transitions: &[u8], at: usize, marks: &mut [u8; BYTE_VALUES]) -> bool
+    requires { ⌜ Readable (now transitions) at ⌝ }
     requires { ⌜ length (now marks) ≡ byteValues ⌝ }
-    requires { ⌜ marked (now marks) (outOf (now run) at) ≡ true ⌝ }
-    ensures { λ r. ⌜ Spread (Down (now (run .entry)) at) (now (marks .entry)) (now (marks .exit)) r ⌝ }
+    requires { ⌜ marked (now marks) (outOf (now transitions) at) ≡ true ⌝ }
+    ensures { λ r. ⌜ Spread (Down (now (transitions .entry)) at) (now (marks .entry)) (now (marks .exit)) r ⌝ }
 {
-    let arity = arity_of(run, at);
+    let arity = arity_of(transitions, at);
     let mut changed = false;
     let mut k = 0;
     while k < arity {
-        let q = arg_of(run, at, k);
+        let q = arg_of(transitions, at, k);
         let r = mark(marks, q);
         changed = changed | r;
         k += 1;
@@ -43,28 +43,28 @@ fn use_args(run: &[u8], at: usize, marks: &mut [u8; BYTE_VALUES]) -> bool
 }
 
 // One transition: marks its arguments where its output is marked.
-fn use_transition(run: &[u8], at: usize, marks: &mut [u8; BYTE_VALUES]) -> bool
-    requires { ⌜ Readable (now run) at ⌝ }
+fn use_transition(transitions: &[u8], at: usize, marks: &mut [u8; BYTE_VALUES]) -> bool
+    requires { ⌜ Readable (now transitions) at ⌝ }
     requires { ⌜ length (now marks) ≡ byteValues ⌝ }
-    ensures { λ r. ⌜ Spread (Down (now (run .entry)) at) (now (marks .entry)) (now (marks .exit)) r ⌝ }
+    ensures { λ r. ⌜ Spread (Down (now (transitions .entry)) at) (now (marks .entry)) (now (marks .exit)) r ⌝ }
 {
-    let out = out_of(run, at);
+    let out = out_of(transitions, at);
     if marks[out] == 0 {
         return false;
     }
-    use_args(run, at, marks)
+    use_args(transitions, at, marks)
 }
 
 // All transitions, the last first: most states are used by later transitions than those that give them.
-fn use_all(run: &[u8], count: usize, marks: &mut [u8; BYTE_VALUES]) -> bool
-    requires { ⌜ Runs (now run) count ⌝ }
+fn use_all(transitions: &[u8], count: usize, marks: &mut [u8; BYTE_VALUES]) -> bool
+    requires { ⌜ HasTransitions (now transitions) count ⌝ }
     requires { ⌜ length (now marks) ≡ byteValues ⌝ }
-    ensures { λ r. ⌜ Spread (UpTo (nthDown (now (run .entry))) count) (now (marks .entry)) (now (marks .exit)) r ⌝ }
+    ensures { λ r. ⌜ Spread (UpTo (nthDown (now (transitions .entry))) count) (now (marks .entry)) (now (marks .exit)) r ⌝ }
 {
     let mut changed = false;
     let mut j = 0;
     while j < count {
-        let r = use_transition(run, TRANSITION_BYTES * (count - 1 - j), marks);
+        let r = use_transition(transitions, TRANSITION_BYTES * (count - 1 - j), marks);
         changed = changed | r;
         j += 1;
     }
@@ -100,24 +100,24 @@ fn accepting_marks(classes: &[u8], n: usize) -> [u8; BYTE_VALUES]
 }
 
 // The states that some subtree of an accepted tree runs to, marked.
-pub fn useful(classes: &[u8], run: &[u8], count: usize, n: usize) -> [u8; BYTE_VALUES]
-    requires { ⌜ Viewed (now classes) (now run) n count ⌝ }
-    ensures { λ r. ⌜ Exactly (coaccessible (viewed (now (classes .entry)) (now (run .entry)) n count)) r ⌝ }
+pub fn useful(classes: &[u8], transitions: &[u8], count: usize, n: usize) -> [u8; BYTE_VALUES]
+    requires { ⌜ Viewed (now classes) (now transitions) n count ⌝ }
+    ensures { λ r. ⌜ Exactly (coaccessible (viewed (now (classes .entry)) (now (transitions .entry)) n count)) r ⌝ }
 {
     let mut marks = accepting_marks(classes, n);
-    while use_all(run, count, &mut marks) {}
+    while use_all(transitions, count, &mut marks) {}
     marks
 }
 
 // Condition 10: some subtree of an accepted tree runs to each state. In most tables one pass marks them all.
-pub fn all_coaccessible(classes: &[u8], run: &[u8], count: usize, n: usize) -> bool
-    requires { ⌜ Viewed (now classes) (now run) n count ⌝ }
-    ensures { λ r. ⌜ r ≡ allCoaccessible (viewed (now (classes .entry)) (now (run .entry)) n count) ⌝ }
+pub fn all_coaccessible(classes: &[u8], transitions: &[u8], count: usize, n: usize) -> bool
+    requires { ⌜ Viewed (now classes) (now transitions) n count ⌝ }
+    ensures { λ r. ⌜ r ≡ allCoaccessible (viewed (now (classes .entry)) (now (transitions .entry)) n count) ⌝ }
 {
     let mut marks = accepting_marks(classes, n);
-    use_all(run, count, &mut marks);
+    use_all(transitions, count, &mut marks);
     if all_marked(&marks, 1, n + 1) {
         return true;
     }
-    all_marked(&useful(classes, run, count, n), 1, n + 1)
+    all_marked(&useful(classes, transitions, count, n), 1, n + 1)
 }

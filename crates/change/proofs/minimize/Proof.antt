@@ -20,11 +20,11 @@ write-requires c κs =
         marks = λ p q h l. (at-distinguish .distinguish)
             .ensures .marks p q (omega (
               arith,
-              viewed-states (start .args .classes .now) (start .args .run .now) (start
+              viewed-states (start .args .classes .now) (start .args .transitions .now) (start
                   .args .n) (start .args .count),
             )) (omega (
               arith,
-              viewed-states (start .args .classes .now) (start .args .run
+              viewed-states (start .args .classes .now) (start .args .transitions
                   .now) (start .args .n) (start .args .count),
             ));
       },

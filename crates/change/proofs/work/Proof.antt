@@ -3,7 +3,7 @@ use native.Mathlib.Omega.{arith}
 use Rattle.products.proofs.Joining.{lists-nodes}
 use Rattle.table.specs.Layout.{decode}
 use Rattle.trees.specs.Listing.{readTree}
-use Rattle.change.proofs.Given.{given, given-table, passed-size}
+use Rattle.change.proofs.Inputs.{given, given-table, passed-size}
 use Rattle.change.proofs.Answering.{given-16, given-made, given-view, given-holding}
 use borrow.Author.Needs.{needs}
 use Rattle.change.proofs.work.Statement.{statement}

@@ -1,5 +1,5 @@
 use mathlib.Core.Path.{_∙_}
-use Rattle.distinguish.proofs.Closing.{all-told-apart}
+use Rattle.distinguish.proofs.Closing.{all-apart}
 use borrow.Author.Needs.{needs}
 use Rattle.distinguish.proofs.all_distinguishable.Statement.{statement}
 use Rattle.distinguish.proofs.all_distinguishable.Tie as tie
@@ -10,16 +10,16 @@ blank-requires c κs = search needs
 distinguish-requires : tie.Need-distinguish-requires
 distinguish-requires c κs = search needs
 
-all-told-requires : tie.Need-all-told-requires
-all-told-requires c κs = search needs
+all-separated-requires : tie.Need-all-separated-requires
+all-separated-requires c κs = search needs
 
 returns : tie.Need-returns
 returns c =
     let at-distinguish = c .before .before in
     let start = at-distinguish .before .before .before .before .before in
-    c .all-told .ensures ∙ all-told-apart (start .args .classes .now) (start .args .run .now) _ (start .args .n)
+    c .all-separated .ensures ∙ all-apart (start .args .classes .now) (start .args .transitions .now) _ (start .args .n)
     (start .args .count) (at-distinguish .distinguish .ensures)
 
 pub all-distinguishable-spec : {M : Type 1} → statement M
 all-distinguishable-spec =
-    tie.close (tie.spec blank-requires distinguish-requires all-told-requires returns)
+    tie.close (tie.spec blank-requires distinguish-requires all-separated-requires returns)

@@ -10,14 +10,14 @@ use Rattle.marking.specs.Marks.{marks as marksOf}
 use Rattle.table.specs.Layout.{transitionsIn}
 use Rattle.marking.proofs.Spreading.{Growing, growing-closed, growing-led, growing-less, growing-more}
 use Rattle.distinguish.proofs.Marking.{growing-unmarked}
-use Rattle.distinguish.proofs.Closing.{Seeded, marks-of, told, told-closed, told-seeds}
+use Rattle.distinguish.proofs.Closing.{Seeded, marks-of, separated, separated-closed, separated-seeds}
 use Rattle.distinguish.proofs.distinguish.Statement.{statement}
 use Rattle.distinguish.proofs.distinguish.Tie as tie
 
 abbrev Inv-loop : tie.InvT-loop
 Inv-loop classes run count n marks₀ marks =
     (v : Viewed classes run n count) (r : rising (transitionsIn run count) ≡ true) → Growing bytePairs
-    (told classes run n count
+    (separated classes run n count
     v r) marks
 
 abbrev μ-loop : tie.MeasureT-loop
@@ -26,7 +26,7 @@ abbrev μ-loop : tie.MeasureT-loop
 abbrev Inv-loop2 : tie.InvT-loop2
 Inv-loop2 classes run count n marks₀ marks =
     ((v : Viewed classes run n count) (r : rising (transitionsIn run count) ≡ true) → Growing bytePairs
-    (told classes run n
+    (separated classes run n
     count v r) marks) × Seeded classes n marks
 
 abbrev μ-loop2 : tie.MeasureT-loop2
@@ -53,11 +53,11 @@ loop-again : tie.Need-loop-again Inv-loop μ-loop Inv-loop2 μ-loop2
 loop-again c =
     let at-loop = c .before .before .before in
     let start = at-loop .before .before .before in
-    λ v r. growing-more (told-seeds (start .args .classes .now) (start .args .run .now) (start .args .n)
+    λ v r. growing-more (separated-seeds (start .args .classes .now) (start .args .transitions .now) (start .args .n)
     (start .args .count) v r) (at-loop .loop .inv v r) (c .before .seed-all .ensures)
 
-tell-in-order-requires : tie.Need-tell-in-order-requires Inv-loop μ-loop Inv-loop2 μ-loop2
-tell-in-order-requires c κs =
+separate-in-order-requires : tie.Need-separate-in-order-requires Inv-loop μ-loop Inv-loop2 μ-loop2
+separate-in-order-requires c κs =
     let at-seed-all = c .before .before in
     let at-loop = at-seed-all .before .before in
     let start = at-loop .before .before .before in (
@@ -79,11 +79,11 @@ loop2-holds c =
     let at-seed-all = at-if1 .before in
     let at-loop = at-seed-all .before .before in
     let start = at-loop .before .before .before in (
-      λ v r. growing-led (told-closed (start .args .classes .now) (start .args .run .now) (start .args .n)
-          (start .args .count) v r) (growing-more (told-seeds (start .args .classes .now) (start .args .run .now)
+      λ v r. growing-led (separated-closed (start .args .classes .now) (start .args .transitions .now) (start .args .n)
+          (start .args .count) v r) (growing-more (separated-seeds (start .args .classes .now) (start .args .transitions .now)
           (start .args .n) (start .args .count) v r) (at-loop .loop .inv v r) (at-seed-all .seed-all .ensures)) (c
-          .tell-in-order .ensures),
-      λ p q h l e. (c .tell-in-order) .ensures .kept _ (growing-closed (at-seed-all
+          .separate-in-order .ensures),
+      λ p q h l e. (c .separate-in-order) .ensures .kept _ (growing-closed (at-seed-all
           .seed-all .ensures) (at-if1 .if1 .left) p (omega arith) q (omega arith) e),
     )
 
@@ -108,7 +108,7 @@ loop2-again : tie.Need-loop2-again Inv-loop μ-loop Inv-loop2 μ-loop2
 loop2-again c =
     let at-loop2 = c .before .before .before in
     let start = at-loop2 .before .before .before .before .before .before .before .before .before in (
-      λ v r. growing-more (told-closed (start .args .classes .now) (start .args .run .now) (start .args .n)
+      λ v r. growing-more (separated-closed (start .args .classes .now) (start .args .transitions .now) (start .args .n)
           (start .args .count) v r) (at-loop2 .loop2 .inv .0 v r) (c .before .sweep .ensures),
       λ p q h l e. (c
           .before .sweep) .ensures .swept .kept _ (at-loop2 .loop2 .inv .1 p q h l e),
@@ -118,8 +118,8 @@ returns : tie.Need-returns Inv-loop μ-loop Inv-loop2 μ-loop2
 returns c =
     let at-loop2 = c .before .before .before in
     let start = at-loop2 .before .before .before .before .before .before .before .before .before in
-    marks-of (start .args .classes .now) (start .args .run .now) (start .args .n) (start .args .count)
-    (start .pre .0) (start .pre .1 .0) (growing-more (told-closed (start .args .classes .now) (start .args .run
+    marks-of (start .args .classes .now) (start .args .transitions .now) (start .args .n) (start .args .count)
+    (start .pre .0) (start .pre .1 .0) (growing-more (separated-closed (start .args .classes .now) (start .args .transitions
     .now) (start .args .n) (start .args .count) (start .pre .0) (start .pre .1 .0)) (at-loop2 .loop2 .inv
     .0 (start .pre .0) (start .pre .1 .0)) (c .before .sweep .ensures) .within) (λ p q h l e. (c .before .sweep)
     .ensures .swept .kept _ (at-loop2 .loop2 .inv .1 p q h l e)) (growing-closed (c .before .sweep .ensures) (c
@@ -137,7 +137,7 @@ distinguish-spec =
     seed-all-requires
     loop-less
     loop-again
-    tell-in-order-requires
+    separate-in-order-requires
     loop2-holds
     sweep-requires
     loop2-less

@@ -35,7 +35,7 @@ returns : tie.Need-returns
 returns c =
     let start = c .before .before .before .before .before .before .before in
     rw (
-      lt-ltb (start .args .k) (getD (start .args .run .now) (start .args .at + 1) 0) (omega arith),
+      lt-ltb (start .args .k) (getD (start .args .transitions .now) (start .args .at + 1) 0) (omega arith),
       ←
           (c .before .before .before .before .wide .ensures),
     ) (c .in-range .ensures)
@@ -44,7 +44,7 @@ returns-2 : tie.Need-returns-2
 returns-2 c =
     let start = c .before .before .before .before .before .before in
     rw (
-      le-ltb (start .args .k) (getD (start .args .run .now) (start .args .at + 1) 0) (omega arith),
+      le-ltb (start .args .k) (getD (start .args .transitions .now) (start .args .at + 1) 0) (omega arith),
       ←
           (c .before .before .before .wide .ensures),
     )

@@ -5,7 +5,7 @@ use borrow.Author.Needs.{needs}
 use Rattle.automata.specs.Order.{lex}
 use Rattle.fields.specs.Fields.{firstArgs}
 use Rattle.table.specs.Layout.{argOf}
-use Rattle.fields.proofs.Laws.{LexFrom, lex-decided, lex-end, lex-next, lex-start}
+use Rattle.fields.proofs.Searching.{LexFrom, lex-decided, lex-end, lex-next, lex-start}
 use Rattle.fields.proofs.args_precede.Statement.{statement}
 use Rattle.fields.proofs.args_precede.Tie as tie
 

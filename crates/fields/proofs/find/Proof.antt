@@ -7,8 +7,8 @@ use borrow.Author.Needs.{needs}
 use Rattle.automata.specs.Automaton.{lookup, matches}
 use Rattle.lists.specs.Tests.{any}
 use Rattle.table.specs.Layout.{transitionsIn}
-use Rattle.fields.proofs.Laws.{AgreeTo, SearchFrom, agree-next, agree-start, alike, search-end, search-hit}
-use Rattle.fields.proofs.Laws.{search-passed, search-start, unlike-arg, unlike-arity, unlike-label}
+use Rattle.fields.proofs.Searching.{AgreeTo, SearchFrom, agree-next, agree-start, alike, search-end, search-hit}
+use Rattle.fields.proofs.Searching.{search-passed, search-start, unlike-arg, unlike-arity, unlike-label}
 use Rattle.fields.proofs.find.Statement.{statement}
 use Rattle.fields.proofs.find.Tie as tie
 
@@ -29,7 +29,7 @@ abbrev μ-search : tie.MeasureT-search
 search-holds : tie.Need-search-holds Inv-args2 μ-args2 Inv-search μ-search
 search-holds c =
     let start = c .before in
-    search-start (start .args .label) (take (start .args .arity) (start .args .t5)) (start .args .run .now)
+    search-start (start .args .label) (take (start .args .arity) (start .args .t5)) (start .args .transitions .now)
     (start .args .count)
 
 mul-at : tie.Need-mul-at Inv-args2 μ-args2 Inv-search μ-search
@@ -49,7 +49,7 @@ search-again c =
     let start = c .before .before .before .before .before in
     let enough : start .args .arity ≤ length (start .args .t5) = omega arith in
     search-passed (c .before .before .before .search .inv) (omega arith)
-    (unlike-label (start .args .run .now) (11 * c .before .before .before .search .i) (start .args .label)
+    (unlike-label (start .args .transitions .now) (11 * c .before .before .before .search .i) (start .args .label)
     (start .args .arity) (start .args .t5) enough (c .if2 .taken))
 
 add-wide : tie.Need-add-wide Inv-args2 μ-args2 Inv-search μ-search
@@ -69,14 +69,14 @@ search-again-2 c =
     let start = c .before .before .before .before .before .before .before .before in
     let enough : start .args .arity ≤ length (start .args .t5) = omega arith in
     search-passed (c .before .before .before .before .before .before .search .inv) (omega arith)
-    (unlike-arity (start .args .run .now) (11 * c .before .before .before .before .before .before .search .i)
+    (unlike-arity (start .args .transitions .now) (11 * c .before .before .before .before .before .before .search .i)
     (start .args .label) (start .args .arity) (start .args .t5) enough
     (λ e. c .if3 .taken (c .before .wide .ensures ∙ e)))
 
 args2-holds : tie.Need-args2-holds Inv-args2 μ-args2 Inv-search μ-search
 args2-holds c =
     let start = c .before .before .before .before .before .before .before .before in
-    agree-start (start .args .run .now) (11 * c .before .before .before .before .before .before .search .i)
+    agree-start (start .args .transitions .now) (11 * c .before .before .before .before .before .before .search .i)
     (start .args .arity) (start .args .t5)
 
 add-if4 : tie.Need-add-if4 Inv-args2 μ-args2 Inv-search μ-search
@@ -100,7 +100,7 @@ search-again-3 c =
     let enough : start .args .arity ≤ length (start .args .t5) = omega arith in
     search-passed (c .before .before .before .before .before .before .before .before .before .before .search .inv)
     (omega arith)
-    (unlike-arg (start .args .run .now)
+    (unlike-arg (start .args .transitions .now)
     (11 * c .before .before .before .before .before .before .before .before .before .before .search .i)
     (start .args .label) (start .args .arity) (start .args .t5) enough (c .before .before .before .args2 .k)
     (sym (c .before .before .before .before .before .wide .ensures) ∙ c .before .before .before .before .if3 .left)
@@ -130,7 +130,7 @@ returns-2 c =
     let enough : start .args .arity ≤ length (start .args .t5) = omega arith in
     search-hit (c .before .before .before .before .before .before .before .before .before .search .inv)
     (omega arith)
-    (alike (start .args .run .now)
+    (alike (start .args .transitions .now)
     (11 * c .before .before .before .before .before .before .before .before .before .search .i) (start .args .label)
     (start .args .arity) (start .args .t5) enough (c .before .before .before .before .before .before .if2 .left)
     (sym (c .before .before .before .before .wide .ensures) ∙ c .before .before .before .if3 .left)

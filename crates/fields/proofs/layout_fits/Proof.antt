@@ -3,8 +3,8 @@ use mathlib.Core.Path.{_∙_, sym}
 use native.Mathlib.Omega.{arith}
 use borrow.Author.Needs.{needs}
 use borrow.Author.Tests.{not-false, not-true}
-use Rattle.fields.proofs.Returns.{broken-class, broken-field, many-states, many-transitions, part-fits}
-use Rattle.fields.proofs.Returns.{part-zeros, zeros-decide}
+use Rattle.fields.proofs.LayoutChecks.{broken-class, broken-field, many-states, many-transitions, part-fits}
+use Rattle.fields.proofs.LayoutChecks.{part-zeros, zeros-decide}
 use Rattle.fields.proofs.layout_fits.Statement.{statement}
 use Rattle.fields.proofs.layout_fits.Tie as tie
 

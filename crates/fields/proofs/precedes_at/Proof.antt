@@ -1,6 +1,6 @@
 -- `fields::precedes_at` meets its contract: arities, labels, arguments, in this order.
 use borrow.Author.Needs.{needs}
-use Rattle.fields.proofs.Laws.{precedes-args, precedes-arity, precedes-label}
+use Rattle.fields.proofs.Searching.{precedes-args, precedes-arity, precedes-label}
 use Rattle.fields.proofs.precedes_at.Statement.{statement}
 use Rattle.fields.proofs.precedes_at.Tie as tie
 
@@ -37,14 +37,14 @@ wide-requires-4 c κs = search needs
 returns : tie.Need-returns
 returns c =
     let start = c .before .before .before .before .before .before .before .before .before .before in
-    precedes-arity (start .args .run .now) (start .args .a) (start .args .b)
+    precedes-arity (start .args .transitions .now) (start .args .a) (start .args .b)
     (c .before .before .before .before .before .before .before .wide .ensures)
     (c .before .before .before .before .before .wide2 .ensures) (c .if1 .taken)
 
 returns-2 : tie.Need-returns-2
 returns-2 c =
     let start = c .before .before .before .before .before .before .before .before .before .before .before in
-    precedes-label (start .args .run .now) (start .args .a) (start .args .b)
+    precedes-label (start .args .transitions .now) (start .args .a) (start .args .b)
     (c .before .before .before .before .before .before .before .before .wide .ensures)
     (c .before .before .before .before .before .before .wide2 .ensures) (c .before .if1 .left)
     (c .before .before .before .before .wide3 .ensures) (c .before .before .wide4 .ensures) (c .if2 .taken)
@@ -55,7 +55,7 @@ args-precede-requires c κs = search needs
 returns-3 : tie.Need-returns-3
 returns-3 c =
     let start = c .before .before .before .before .before .before .before .before .before .before .before .before in
-    precedes-args (start .args .run .now) (start .args .a) (start .args .b)
+    precedes-args (start .args .transitions .now) (start .args .a) (start .args .b)
     (c .before .before .before .before .before .before .before .before .before .wide .ensures)
     (c .before .before .before .before .before .before .before .wide2 .ensures) (c .before .before .if1 .left)
     (c .before .before .before .before .before .wide3 .ensures) (c .before .before .before .wide4 .ensures)

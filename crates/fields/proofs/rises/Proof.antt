@@ -6,7 +6,7 @@ use borrow.Author.Needs.{needs}
 use borrow.Author.Tests.{not-false, not-true}
 use Rattle.lists.specs.Positions.{upFrom}
 use Rattle.lists.specs.Tests.{every}
-use Rattle.fields.proofs.Laws.{precedesNext, rising-next}
+use Rattle.fields.proofs.Searching.{precedesNext, rising-next}
 use Rattle.fields.proofs.Transitions.{readable}
 use Rattle.lists.proofs.Loops.{EveryFrom, every-broken, every-end, every-next, every-start}
 use Rattle.fields.proofs.rises.Statement.{statement}
@@ -47,7 +47,7 @@ returns c =
     let start = c .before .before .before .before .before in
     every-broken (c .before .before .before .loop .inv) (omega arith)
     (sym (c .before .precedes-at .ensures) ∙ not-true _ (c .if1 .taken)) ∙ sym
-    (rising-next (start .args .run .now) (start .args .count))
+    (rising-next (start .args .transitions .now) (start .args .count))
 
 add-i : tie.Need-add-i Inv-loop μ-loop
 add-i c = search needs
@@ -63,7 +63,7 @@ loop-again c =
 returns-2 : tie.Need-returns-2 Inv-loop μ-loop
 returns-2 c =
     let start = c .before .before .before in
-    every-end (c .before .loop .inv) (omega arith) ∙ sym (rising-next (start .args .run .now) (start .args .count))
+    every-end (c .before .loop .inv) (omega arith) ∙ sym (rising-next (start .args .transitions .now) (start .args .count))
 
 pub rises-spec : {M : Type 1} → statement M
 rises-spec =

@@ -3,7 +3,7 @@ use mathlib.Core.Path.{_∙_, sym}
 use native.Mathlib.Omega.{arith}
 use borrow.Author.Needs.{needs}
 use borrow.Author.Tests.{not-false, not-true}
-use Rattle.fields.proofs.Returns.{broken-arg, many-args, no-label, out-decides}
+use Rattle.fields.proofs.LayoutChecks.{broken-arg, many-args, no-label, out-decides}
 use Rattle.fields.proofs.transition_fits.Statement.{statement}
 use Rattle.fields.proofs.transition_fits.Tie as tie
 
@@ -13,7 +13,7 @@ shared-slice-read-if1 c = search needs
 returns : tie.Need-returns
 returns c =
     let start = c .before .before .before in
-    no-label (start .args .run .now) (start .args .states) (start .args .at) (omega arith)
+    no-label (start .args .transitions .now) (start .args .states) (start .args .at) (omega arith)
 
 add-wide : tie.Need-add-wide
 add-wide c = search needs
@@ -27,14 +27,14 @@ wide-requires c κs = search needs
 returns-2 : tie.Need-returns-2
 returns-2 c =
     let start = c .before .before .before .before .before .before in
-    many-args (start .args .run .now) (start .args .states) (start .args .at) (omega arith) (omega arith)
+    many-args (start .args .transitions .now) (start .args .states) (start .args .at) (omega arith) (omega arith)
 
 args-fit-requires : tie.Need-args-fit-requires
 args-fit-requires c κs = search needs
 
 returns-3 : tie.Need-returns-3
 returns-3 c =
-    broken-arg (c .before .before .before .before .before .before .before .before .args .run .now)
+    broken-arg (c .before .before .before .before .before .before .before .before .args .transitions .now)
     (c .before .before .before .before .before .before .before .before .args .states)
     (c .before .before .before .before .before .before .before .before .args .at) (omega arith) (omega arith)
     (sym (c .before .args-fit .ensures) ∙ not-true _ (c .if3 .taken))
@@ -54,7 +54,7 @@ in-range-requires c κs = search needs
 returns-4 : tie.Need-returns-4
 returns-4 c =
     out-decides
-    (c .before .before .before .before .before .before .before .before .before .before .before .args .run .now)
+    (c .before .before .before .before .before .before .before .before .before .before .before .args .transitions .now)
     (c .before .before .before .before .before .before .before .before .before .before .before .args .states)
     (c .before .before .before .before .before .before .before .before .before .before .before .args .at)
     (omega arith) (omega arith)

@@ -14,8 +14,8 @@ at-most-requires c κs = search needs
 returns : tie.Need-returns
 returns c =
     let start = c .before .before in
-    c .at-most .ensures ∙ zeros-at-most (start .args .run .now)
-    (upFrom (start .args .start) (length (start .args .run .now) - (start .args) .start))
+    c .at-most .ensures ∙ zeros-at-most (start .args .transitions .now)
+    (upFrom (start .args .start) (length (start .args .transitions .now) - (start .args) .start))
 
 pub zeros-from-spec : {M : Type 1} → statement M
 zeros-from-spec = tie.close (tie.spec at-most-requires returns)

@@ -1,7 +1,7 @@
 use mathlib.Core.List.{[]}
 use Rattle.fields.specs.View.{viewed}
 use Rattle.listing.proofs.Checks.{kept}
-use Rattle.intake.proofs.Laws.{not-refused, refused-10, refused-11, refused-12, refused-13, refused-9}
+use Rattle.intake.proofs.Checks.{not-refused, refused-10, refused-11, refused-12, refused-13, refused-9}
 use borrow.Author.Needs.{needs}
 use Rattle.intake.proofs.automaton_refusal.Statement.{statement}
 use Rattle.intake.proofs.automaton_refusal.Tie as tie
@@ -16,7 +16,7 @@ reached-requires c κs =
 returns : tie.Need-returns
 returns c =
     let start = c .before .before .before .before .before in
-    refused-9 (viewed (start .args .classes .now) (start .args .run .now) (start .args .n) (start .args
+    refused-9 (viewed (start .args .classes .now) (start .args .transitions .now) (start .args .n) (start .args
     .count)) ((c .before .reached .ensures (start .args .classes .now))) (c .if1 .taken)
 
 all-coaccessible-requires : tie.Need-all-coaccessible-requires
@@ -27,7 +27,7 @@ returns-2 c =
     let at-if1 = c .before .before in
     let at-reached = at-if1 .before in
     let start = at-reached .before .before .before .before in
-    refused-10 (viewed (start .args .classes .now) (start .args .run .now) (start .args .n) (start .args
+    refused-10 (viewed (start .args .classes .now) (start .args .transitions .now) (start .args .n) (start .args
     .count)) ((at-reached .reached .ensures (start .args .classes .now))) (at-if1 .if1 .left) (c .before
     .all-coaccessible .ensures) (c .if2 .taken)
 
@@ -41,7 +41,7 @@ returns-3 c =
     let at-if1 = at-all-coaccessible .before in
     let at-reached = at-if1 .before in
     let start = at-reached .before .before .before .before in
-    refused-11 (viewed (start .args .classes .now) (start .args .run .now) (start .args .n) (start .args
+    refused-11 (viewed (start .args .classes .now) (start .args .transitions .now) (start .args .n) (start .args
     .count)) ((at-reached .reached .ensures (start .args .classes .now))) (at-if1 .if1 .left)
     (at-all-coaccessible .all-coaccessible .ensures) (at-if2 .if2 .left) (c .before .acyclic .ensures (start
     .args .classes .now)) (c .if3 .taken)
@@ -70,7 +70,7 @@ returns-4 c =
     let at-if1 = at-all-coaccessible .before in
     let at-reached = at-if1 .before in
     let start = at-reached .before .before .before .before in
-    refused-12 (viewed (start .args .classes .now) (start .args .run .now) (start .args .n) (start .args
+    refused-12 (viewed (start .args .classes .now) (start .args .transitions .now) (start .args .n) (start .args
     .count)) ((at-reached .reached .ensures (start .args .classes .now))) (at-if1 .if1 .left)
     (at-all-coaccessible .all-coaccessible .ensures) (at-if2 .if2 .left) (at-acyclic .acyclic .ensures (start
     .args .classes .now)) (at-if3 .if3 .left) (c .before .all-distinguishable-useful .ensures) (c .if4 .taken)
@@ -86,7 +86,7 @@ returns-5 c =
     let at-reached = at-if1 .before in
     let at-numbered = at-reached .before in
     let start = at-numbered .before .before .before in
-    refused-13 (viewed (start .args .classes .now) (start .args .run .now) (start .args .n) (start .args
+    refused-13 (viewed (start .args .classes .now) (start .args .transitions .now) (start .args .n) (start .args
     .count)) ((at-reached .reached .ensures (start .args .classes .now))) (at-if1 .if1 .left)
     (at-all-coaccessible .all-coaccessible .ensures) (at-if2 .if2 .left) (at-acyclic .acyclic .ensures (start
     .args .classes .now)) (at-if3 .if3 .left) (at-all-distinguishable-useful .all-distinguishable-useful
@@ -104,7 +104,7 @@ returns-6 c =
     let at-reached = at-if1 .before in
     let at-numbered = at-reached .before in
     let start = at-numbered .before .before .before in
-    not-refused (viewed (start .args .classes .now) (start .args .run .now) (start .args .n) (start .args
+    not-refused (viewed (start .args .classes .now) (start .args .transitions .now) (start .args .n) (start .args
     .count)) ((at-reached .reached .ensures (start .args .classes .now))) (at-if1 .if1 .left)
     (at-all-coaccessible .all-coaccessible .ensures) (at-if2 .if2 .left) (at-acyclic .acyclic .ensures (start
     .args .classes .now)) (at-if3 .if3 .left) (at-all-distinguishable-useful .all-distinguishable-useful

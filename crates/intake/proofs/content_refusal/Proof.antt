@@ -1,8 +1,8 @@
 use mathlib.Core.Path.{_∙_, ap, ap₂, subst, sym}
 use Rattle.fields.proofs.Transitions.{part-body}
 use Rattle.listing.proofs.Checks.{kept}
-use Rattle.intake.proofs.Laws.{content-rest, refused-7, refused-8, table-runs, table-rises, table-seen}
-use Rattle.intake.proofs.Laws.{table-answer}
+use Rattle.intake.proofs.Checks.{content-rest, refused-7, refused-8, table-runs, table-rises, table-seen}
+use Rattle.intake.proofs.Checks.{table-answer}
 use borrow.Author.Needs.{needs}
 use Rattle.intake.proofs.content_refusal.Statement.{statement}
 use Rattle.intake.proofs.content_refusal.Tie as tie

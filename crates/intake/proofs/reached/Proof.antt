@@ -1,6 +1,6 @@
 use borrow.Author.Needs.{needs}
 use mathlib.Core.Path.{_∙_, sym}
-use Rattle.intake.proofs.Laws.{numbered-reached}
+use Rattle.intake.proofs.Checks.{numbered-reached}
 use Rattle.intake.proofs.reached.Statement.{statement}
 use Rattle.intake.proofs.reached.Tie as tie
 use Rattle.intake.proofs.reached.Reads as reads
@@ -11,7 +11,7 @@ use Rattle.validity.proofs.all_accessible.Reads as all-accessible-reads
 returns : tie.Need-returns
 returns c cl =
     let start = c .before .before in
-    numbered-reached cl (start .args .run .now) (start .args .n) (start .args .count) (start .pre .0)
+    numbered-reached cl (start .args .transitions .now) (start .args .n) (start .args .count) (start .pre .0)
     (sym (start .pre .1 .1) ∙ c .if1 .taken)
 
 -- src/lib.rt:38:5

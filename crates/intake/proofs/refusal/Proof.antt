@@ -1,4 +1,4 @@
-use Rattle.intake.proofs.Laws.{refused-5, right-length}
+use Rattle.intake.proofs.Checks.{refused-5, right-length}
 use borrow.Author.Needs.{needs}
 use Rattle.intake.proofs.refusal.Statement.{statement}
 use Rattle.intake.proofs.refusal.Tie as tie

@@ -1,7 +1,7 @@
 -- The bytes list one tree where the reader has read them all.
 use borrow.Author.Needs.{needs}
 use mathlib.Core.Path.{_∙_, sym}
-use Rattle.listing.proofs.Laws.{one-tree-measured}
+use Rattle.listing.proofs.ReaderMeaning.{one-tree-measured}
 use Rattle.listing.proofs.one_tree.Statement.{statement}
 use Rattle.listing.proofs.one_tree.Tie as tie
 

@@ -4,7 +4,7 @@ use mathlib.Core.Path.{_∙_, ap, sym}
 use Prim.Native.Nat.{_+_, _-_}
 use Rattle.fields.specs.View.{viewed}
 use Rattle.fingerprints.specs.Fingerprints.{Sound, allDiffer, printOf}
-use Rattle.fingerprints.proofs.Told.{all-differ-told, all-useful, sound-start}
+use Rattle.fingerprints.proofs.AllDiffer.{all-differ-separated, all-useful, sound-start}
 use Rattle.fingerprints.proofs.OneRound.{one-round}
 use Rattle.partition.proofs.Congruence.{parts-exact}
 use Rattle.fields.proofs.Views.{viewed-ranged, viewed-states}
@@ -26,12 +26,12 @@ round-requires : tie.Need-round-requires Inv-loop μ-loop
 round-requires c κs =
     let start = c .before .before .before .before .before in (
       start .pre .0,
-      all-useful ((viewed (start .args .classes .now) (start .args .run .now) (start .args .n)
+      all-useful ((viewed (start .args .classes .now) (start .args .transitions .now) (start .args .n)
           (start .args .count))) (omega (
             arith,
             start .pre .0 .states,
             ((viewed-states (start .args .classes .now)
-                (start .args .run .now) (start .args .n) (start .args .count))),
+                (start .args .transitions .now) (start .args .n) (start .args .count))),
           )) (start .pre .1 .1 .0),
     )
 
@@ -43,17 +43,17 @@ returns c =
     let at-round = c .before .before .before in
     let at-numbers = at-round .before .before in
     let start = at-numbers .before .before .before .before in
-    sym (one-round ((viewed (start .args .classes .now) (start .args .run .now) (start .args .n) (start .args
-    .count))) ((viewed-ranged (start .args .classes .now) (start .args .run .now) (start .args .n) (start .args
+    sym (one-round ((viewed (start .args .classes .now) (start .args .transitions .now) (start .args .n) (start .args
+    .count))) ((viewed-ranged (start .args .classes .now) (start .args .transitions .now) (start .args .n) (start .args
     .count) (start .pre .0 .over))) (start .pre .1 .0) (start .pre .1 .1 .1) (printOf (at-numbers .numbers
     .result)) (at-round .round .result) (at-round .round .ensures) (ap (allDiffer (at-round .round .result))
-    ((viewed-states (start .args .classes .now) (start .args .run .now) (start .args .n) (start .args .count)))
+    ((viewed-states (start .args .classes .now) (start .args .transitions .now) (start .args .n) (start .args .count)))
     ∙ sym (c .before .all-differ .ensures) ∙ c .if1 .taken) (start .pre .1 .1 .0))
 
 loop-holds : tie.Need-loop-holds Inv-loop μ-loop
 loop-holds c =
     let start = c .before .before .before .before .before .before .before .before .before in
-    sound-start ((viewed (start .args .classes .now) (start .args .run .now) (start .args .n) (start .args
+    sound-start ((viewed (start .args .classes .now) (start .args .transitions .now) (start .args .n) (start .args
     .count))) 256
 
 add-loop : tie.Need-add-loop Inv-loop μ-loop
@@ -70,12 +70,12 @@ rounds-requires c κs =
       (
         start .pre .1 .0,
         (
-          all-useful ((viewed (start .args .classes .now) (start .args .run .now)
+          all-useful ((viewed (start .args .classes .now) (start .args .transitions .now)
               (start .args .n) (start .args .count))) (omega (
                 arith,
                 start .pre .0 .states,
                 ((viewed-states (start .args
-                    .classes .now) (start .args .run .now) (start .args .n) (start .args .count))),
+                    .classes .now) (start .args .transitions .now) (start .args .n) (start .args .count))),
               )) (start .pre .1 .1 .0),
           at-loop .loop .inv,
         ),
@@ -90,9 +90,9 @@ returns-2 c =
     let at-rounds = c .before .before .before in
     let start = at-rounds .before .before .before .before .before .before .before .before .before .before
     .before .before .before .before in
-    sym (all-differ-told ((viewed (start .args .classes .now) (start .args .run .now) (start .args .n) (start
+    sym (all-differ-separated ((viewed (start .args .classes .now) (start .args .transitions .now) (start .args .n) (start
     .args .count))) (at-rounds .rounds .result) (at-rounds .rounds .ensures .sound) (ap (allDiffer (at-rounds
-    .rounds .result)) ((viewed-states (start .args .classes .now) (start .args .run .now) (start .args .n)
+    .rounds .result)) ((viewed-states (start .args .classes .now) (start .args .transitions .now) (start .args .n)
     (start .args .count))) ∙ sym (c .before .all-differ2 .ensures) ∙ c .if2 .taken))
 
 parts-agree-requires : tie.Need-parts-agree-requires Inv-loop μ-loop
@@ -115,7 +115,7 @@ returns-3 c =
     let start = at-rounds .before .before .before .before .before .before .before .before .before .before
     .before .before .before .before in
     sym (at-if2 .if2 .left) ∙ at-all-differ2 .all-differ2 .ensures ∙ parts-exact (start .args .classes .now)
-    (start .args .run .now) (start .args .n) (start .args .count) (start .pre .0) (start .pre .1 .0) (at-rounds
+    (start .args .transitions .now) (start .args .n) (start .args .count) (start .pre .0) (start .pre .1 .0) (at-rounds
     .rounds .result) (at-rounds .rounds .ensures) (sym (c .before .parts-agree .ensures) ∙ c .if3 .taken)
 
 mul-turns : tie.Need-mul-turns Inv-loop μ-loop

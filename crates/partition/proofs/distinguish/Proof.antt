@@ -5,8 +5,8 @@ use borrow.Author.Needs.{needs}
 use Rattle.partition.proofs.distinguish.Statement.{statement}
 use Rattle.partition.proofs.distinguish.Tie as tie
 
-told-by-parts-requires : tie.Need-told-by-parts-requires
-told-by-parts-requires c κs =
+separated-by-parts-requires : tie.Need-separated-by-parts-requires
+separated-by-parts-requires c κs =
     let start = c .before .before .before in (
       start .pre .0,
       (
@@ -17,16 +17,16 @@ told-by-parts-requires c κs =
     )
 
 returns : tie.Need-returns
-returns c = c .before .told-by-parts .ensures .0 (c .if1 .taken)
+returns c = c .before .separated-by-parts .ensures .0 (c .if1 .taken)
 
 distinguish-requires : tie.Need-distinguish-requires
 distinguish-requires c κs =
-    let at-told-by-parts = c .before .before in
-    let start = at-told-by-parts .before .before .before .before in (
+    let at-separated-by-parts = c .before .before in
+    let start = at-separated-by-parts .before .before .before .before in (
       start .pre .0,
       (
         start .pre .1 .0,
-        at-told-by-parts .told-by-parts .ensures .1 (c .before .if1 .left) ∙
+        at-separated-by-parts .separated-by-parts .ensures .1 (c .before .if1 .left) ∙
             start .pre .1 .1,
       ),
     )
@@ -36,4 +36,4 @@ returns-2 c = search needs
 
 pub distinguish-spec : {M : Type 1} → statement M
 distinguish-spec =
-    tie.close (tie.spec told-by-parts-requires returns distinguish-requires returns-2)
+    tie.close (tie.spec separated-by-parts-requires returns distinguish-requires returns-2)

@@ -20,8 +20,8 @@ round-requires c κs = search needs
 loop-holds : tie.Need-loop-holds Inv-loop μ-loop
 loop-holds c =
     let start = c .before .before .before in
-    fingerprinted ((viewed (start .args .classes .now) (start .args .run .now) (start .args .n) (start .args
-    .count))) ((viewed-ranged (start .args .classes .now) (start .args .run .now) (start .args .n) (start .args
+    fingerprinted ((viewed (start .args .classes .now) (start .args .transitions .now) (start .args .n) (start .args
+    .count))) ((viewed-ranged (start .args .classes .now) (start .args .transitions .now) (start .args .n) (start .args
     .count) (start .pre .0 .over))) (start .pre .1 .0) (printOf (start .args .seen .now)) (start .pre .1 .1 .1)
     (c .round .ensures)
 
@@ -38,8 +38,8 @@ loop-again : tie.Need-loop-again Inv-loop μ-loop
 loop-again c =
     let at-loop = c .before .before .before in
     let start = at-loop .before .before .before .before in
-    fingerprinted ((viewed (start .args .classes .now) (start .args .run .now) (start .args .n) (start .args
-    .count))) ((viewed-ranged (start .args .classes .now) (start .args .run .now) (start .args .n) (start .args
+    fingerprinted ((viewed (start .args .classes .now) (start .args .transitions .now) (start .args .n) (start .args
+    .count))) ((viewed-ranged (start .args .classes .now) (start .args .transitions .now) (start .args .n) (start .args
     .count) (start .pre .0 .over))) (start .pre .1 .0) (printOf (at-loop .loop .prints)) (at-loop .loop .inv
     .sound) (c .round2 .ensures)
 

@@ -1,7 +1,7 @@
 use mathlib.Core.Path.{_∙_, sym}
 use Rattle.change.specs.Changing.{changeOf}
 use Rattle.trees.specs.Listing.{readTree}
-use Rattle.intake.proofs.Laws.{right-length}
+use Rattle.intake.proofs.Checks.{right-length}
 use Rattle.scalebench.proofs.Changing.{early-5, early-6, early-content, early-listing, early-presence}
 use Rattle.scalebench.proofs.Changing.{presence-read}
 use Rattle.scalebench.proofs.Reading.{passed-table}

@@ -19,7 +19,7 @@ abbrev μ-loop : tie.MeasureT-loop
 loop-holds : tie.Need-loop-holds Inv-loop μ-loop
 loop-holds c =
     let start = c .before .before in
-    collecting-start (passed (start .args .tree .now) (start .pre .0)) (start .args .run .now) (start .args .count)
+    collecting-start (passed (start .args .tree .now) (start .pre .0)) (start .args .transitions .now) (start .args .count)
     (record { labels = refl; arities = refl; children = refl; states = refl }) refl
 
 sub-i : tie.Need-sub-i Inv-loop μ-loop

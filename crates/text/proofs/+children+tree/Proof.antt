@@ -6,13 +6,13 @@ use borrow.Fn.PlainCycle.{Measures, and, falls, is}
 use Prim.Native.Nat.{_<_, ℕ}
 use native.Mathlib.Omega.{arith}
 use lib.ListN.{length}
-use Rattle.text.proofs.Returns.{children-broken, children-broken-fits, children-broken-later}
-use Rattle.text.proofs.Returns.{children-count-fits, children-end, children-len-fits}
-use Rattle.text.proofs.Returns.{children-none, children-other, children-used-fits, children-whole}
-use Rattle.text.proofs.Returns.{first-falls, first-fits, first-inside, first-room, first-used-fits}
-use Rattle.text.proofs.Returns.{label-falls, label-fits, label-inside, label-room, later-inside, tree-broken}
-use Rattle.text.proofs.Returns.{tree-broken-fits, tree-len-fits, tree-nameless, tree-none, tree-other}
-use Rattle.text.proofs.Returns.{tree-size-kept, tree-used-fits, tree-whole}
+use Rattle.text.proofs.ReaderCalls.{children-broken, children-broken-fits, children-broken-later}
+use Rattle.text.proofs.ReaderCalls.{children-count-fits, children-end, children-len-fits}
+use Rattle.text.proofs.ReaderCalls.{children-none, children-other, children-used-fits, children-whole}
+use Rattle.text.proofs.ReaderCalls.{first-falls, first-fits, first-inside, first-room, first-used-fits}
+use Rattle.text.proofs.ReaderCalls.{label-falls, label-fits, label-inside, label-room, later-inside, tree-broken}
+use Rattle.text.proofs.ReaderCalls.{tree-broken-fits, tree-len-fits, tree-nameless, tree-none, tree-other}
+use Rattle.text.proofs.ReaderCalls.{tree-size-kept, tree-used-fits, tree-whole}
 use Rattle.text.proofs.children.Reads as children
 use Rattle.text.proofs.children.Kinds as children-kinds
 use Rattle.text.proofs.+children+tree.Lts-children as children-lts

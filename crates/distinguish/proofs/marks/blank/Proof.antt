@@ -1,5 +1,5 @@
 use mathlib.Core.Path.{refl}
-use Rattle.distinguish.specs.Telling.{unmarked}
+use Rattle.distinguish.specs.Separating.{unmarked}
 use Rattle.distinguish.proofs.marks.blank.Statement.{statement}
 use Rattle.distinguish.proofs.marks.blank.Tie as tie
 

@@ -49,7 +49,7 @@ loop-holds c =
     let start = at-before .before in
     let e : 11 * (at-before .before) .args .i + 2 - 1 ≡ 11 * (at-before .before) .args .i + 1 = omega arith in (
       omega arith,
-      at-wide .wide .ensures ∙ ap (λ (x : ℕ). getD (start .args .run .now) x 0) e,
+      at-wide .wide .ensures ∙ ap (λ (x : ℕ). getD (start .args .transitions .now) x 0) e,
       start .pre .1 .1
           .1,
       omega (

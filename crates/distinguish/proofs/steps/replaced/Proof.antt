@@ -18,7 +18,7 @@ output-requires c κs = search needs
 returns : tie.Need-returns
 returns c =
     let start = c .before .before .before in
-    replaced-output (start .args .run .now) (start .args .count) (start .args .at) (start .args .k) (start .args
+    replaced-output (start .args .transitions .now) (start .args .count) (start .args .at) (start .args .k) (start .args
     .q) _ (c .before .copied .ensures) (start .pre .1 .1) (start .pre .1 .0 .narrow) (c .output .ensures)
 
 pub replaced-spec : {M : Type 1} → statement M

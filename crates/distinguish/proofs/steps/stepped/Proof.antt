@@ -1,6 +1,6 @@
 use mathlib.Core.Path.{_∙_, ap, sym}
 use Prim.Native.Nat.{_*_}
-use Rattle.distinguish.specs.Telling.{stepAt}
+use Rattle.distinguish.specs.Separating.{stepAt}
 use Rattle.fields.proofs.Transitions.{readable}
 use Rattle.distinguish.proofs.Marking.{step-none, step-some}
 use borrow.Author.Needs.{needs}
@@ -10,8 +10,8 @@ use Rattle.distinguish.proofs.steps.stepped.Tie as tie
 returns : tie.Need-returns
 returns c =
     let start = c .before .before in
-    step-none (start .args .run .now) (start .args .count) (11 * (start .args) .i) (start .args .k) ∙ ap (stepAt
-    (start .args .run .now) (start .args .count) (11 * (start .args) .i) (start .args .k)) (sym (c .if1 .taken))
+    step-none (start .args .transitions .now) (start .args .count) (11 * (start .args) .i) (start .args .k) ∙ ap (stepAt
+    (start .args .transitions .now) (start .args .count) (11 * (start .args) .i) (start .args .k)) (sym (c .if1 .taken))
 
 mul-replaced : tie.Need-mul-replaced
 mul-replaced c = search needs
@@ -30,7 +30,7 @@ replaced-requires c κs =
 returns-2 : tie.Need-returns-2
 returns-2 c =
     let start = c .before .before .before in
-    step-some (start .args .run .now) (start .args .count) (start .args .n) (start .args .i) (start .args .k)
+    step-some (start .args .transitions .now) (start .args .count) (start .args .n) (start .args .i) (start .args .k)
     (start .args .q) (start .pre .1 .0) (start .pre .1 .1 .0) (start .pre .1 .1 .1) (c .before .if1 .left) (c
     .replaced .ensures)
 

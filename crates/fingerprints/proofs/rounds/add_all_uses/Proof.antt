@@ -20,7 +20,7 @@ abbrev μ-loop : tie.MeasureT-loop
 loop-holds : tie.Need-loop-holds Inv-loop μ-loop
 loop-holds c = (
   omega arith,
-  filling-start (c .before .pre .1 .1) (gains-start (c .before .args .run .now) (c .before
+  filling-start (c .before .pre .1 .1) (gains-start (c .before .args .transitions .now) (c .before
       .args .count) ((marked (c .before .args .useful .now))) ((printOf (c .before .args .seen .now)))),
 )
 
@@ -38,7 +38,7 @@ loop-again c =
     let at-loop = c .before .before .before in
     let start = at-loop .before .before in (
       omega arith,
-      filling-next (at-loop .loop .inv .1) (c .add-useful .ensures) (gains-next (start .args .run
+      filling-next (at-loop .loop .inv .1) (c .add-useful .ensures) (gains-next (start .args .transitions
           .now) (start .args .count) ((marked (start .args .useful .now))) ((printOf (start .args .seen .now)))
           (at-loop .loop .i) (omega arith)),
     )
@@ -46,7 +46,7 @@ loop-again c =
 returns : tie.Need-returns Inv-loop μ-loop
 returns c =
     let start = c .before .before .before in
-    filling-end (c .before .loop .inv .1) (gains-end (start .args .run .now) (start .args .count) ((marked
+    filling-end (c .before .loop .inv .1) (gains-end (start .args .transitions .now) (start .args .count) ((marked
     (start .args .useful .now))) ((printOf (start .args .seen .now))) (c .before .loop .i) (omega arith))
 
 pub add-all-uses-spec : {M : Type 1} → statement M

@@ -29,7 +29,7 @@ returns : tie.Need-returns
 returns c =
     let at-wide = c .before .before in
     let start = at-wide .before .before .before in
-    gained-none (start .args .prints .now) (start .pre .1 .1 .1) (useless-gain (start .args .run .now) (marked
+    gained-none (start .args .prints .now) (start .pre .1 .1 .1) (useless-gain (start .args .transitions .now) (marked
     (start .args .useful .now)) (printOf (start .args .seen .now)) (start .args .i) (at-wide .wide .ensures)
     (nonzero-false _ (c .if1 .taken)))
 
@@ -65,7 +65,7 @@ returns-2 c =
     let at-if1 = c .before .before .before in
     let at-wide = at-if1 .before .before in
     let start = at-wide .before .before .before in
-    useful-gain (start .args .run .now) (marked (start .args .useful .now)) (printOf (start .args .seen .now))
+    useful-gain (start .args .transitions .now) (marked (start .args .useful .now)) (printOf (start .args .seen .now))
     (start .args .i) (at-wide .wide .ensures) (nonzero-true _ (at-if1 .if1 .left)) (c .add-uses .ensures)
 
 pub add-useful-spec : {M : Type 1} → statement M

@@ -7,7 +7,7 @@ use native.Mathlib.Omega.{arith}
 use mathlib.Core.Path.{_≡_, _∙_, ap, refl, sym}
 use Prim.Native.Nat.{_*_, _+_, _-_, _/_, _<_, _≤_, ℕ}
 use Rattle.table.specs.Layout.{arityOf, labelOf, nthTransition}
-use Rattle.fingerprints.specs.Fingerprints.{folded, gain, packed, prime, salted}
+use Rattle.fingerprints.specs.Fingerprints.{folded, gain, base256, prime, salted}
 use borrow.Author.Needs.{needs}
 use Rattle.fingerprints.proofs.rounds.add_uses.Statement.{statement}
 use Rattle.fingerprints.proofs.rounds.add_uses.Tie as tie
@@ -15,7 +15,7 @@ use Rattle.fingerprints.proofs.rounds.add_uses.Tie as tie
 abbrev Inv-loop : tie.InvT-loop
 Inv-loop run count n i x prints₀ arity s before₀ after₀ k₀ prints before after k =
     (k ≤ arity) × (arity ≡ arityOf run (11 * i)) × (s ≡ salted (labelOf run (11 * i)) x) × (before < prime) ×
-    (before ≡ folded (argsTo run (11 * i) k) 1) × (after ≡ packed (argsFrom run (11 * i) k)) × Filling (gain
+    (before ≡ folded (argsTo run (11 * i) k) 1) × (after ≡ base256 (argsFrom run (11 * i) k)) × Filling (gain
     (nthTransition run i) x) (gainFrom run (11 * i) x k) prints₀ prints
 
 abbrev μ-loop : tie.MeasureT-loop
@@ -65,14 +65,14 @@ loop-holds c =
     let start = at-wide .before .before .before in
     let e : ((11 * (start .args) .i)) + 2 - 1 ≡ ((11 * (start .args) .i)) + 1 = omega arith in (
       omega arith,
-      at-wide .wide .ensures ∙ ap (λ (j : ℕ). getD (start .args .run .now) j 0) e,
+      at-wide .wide .ensures ∙ ap (λ (j : ℕ). getD (start .args .transitions .now) j 0) e,
       c .before .salt
           .ensures .0 ∙ ap (λ (l : ℕ). salted l (start .args .x)) (at-wide2 .wide2 .ensures),
       omega arith,
       refl,
       c
-          .packed-args .ensures ∙ sym (packed-whole (start .args .run .now) ((11 * (start .args) .i)) 0 refl),
-      filling-start (start .pre .1 .1 .1) (λ q. gain-start (start .args .run .now) ((11 * (start .args) .i))
+          .packed-args .ensures ∙ sym (packed-whole (start .args .transitions .now) ((11 * (start .args) .i)) 0 refl),
+      filling-start (start .pre .1 .1 .1) (λ q. gain-start (start .args .transitions .now) ((11 * (start .args) .i))
           (start .args .x) q),
     )
 
@@ -144,11 +144,11 @@ loop-again c =
     let at-shared-slice-known4 = at-wide3 .before in
     let at-loop = at-shared-slice-known4 .before .before in
     let start = at-loop .before .before .before .before .before .before .before .before in
-    let h : (at-loop .loop .k) < arityOf (start .args .run .now) ((11 * (start .args) .i)) = omega (
+    let h : (at-loop .loop .k) < arityOf (start .args .transitions .now) ((11 * (start .args) .i)) = omega (
       arith,
       at-loop .loop .inv .1,
     ) in
-    let f = ap (λ (y : ℕ). y / 256) (at-loop .loop .inv .5) ∙ packed-next (start .args .run .now) ((11 *
+    let f = ap (λ (y : ℕ). y / 256) (at-loop .loop .inv .5) ∙ packed-next (start .args .transitions .now) ((11 *
     (start .args) .i)) (at-loop .loop .k) h (omega (
       arith,
       at-shared-slice-known4 .shared-slice-known4 .given
@@ -159,18 +159,18 @@ loop-again c =
       at-loop .loop .inv .2,
       c .fold .ensures .1,
       c .fold .ensures .0 ∙
-          folded-next (start .args .run .now) ((11 * (start .args) .i)) (at-loop .loop .k) (at-loop .loop .inv .4)
+          folded-next (start .args .transitions .now) ((11 * (start .args) .i)) (at-loop .loop .k) (at-loop .loop .inv .4)
           (at-wide3 .wide3 .ensures),
       f,
       filling-next (at-loop .loop .inv .6) (c .before .add .ensures) (gain-step
-          (start .args .run .now) ((11 * (start .args) .i)) (start .args .x) (at-loop .loop .k) h (at-wide3
+          (start .args .transitions .now) ((11 * (start .args) .i)) (start .args .x) (at-loop .loop .k) h (at-wide3
           .wide3 .ensures) (at-loop .loop .inv .4) f (at-loop .loop .inv .2) (at-value .value .ensures)),
     )
 
 returns : tie.Need-returns Inv-loop μ-loop
 returns c =
     let start = c .before .before .before .before .before .before .before .before .before in
-    filling-end (c .before .loop .inv .6) (λ q. gain-end (start .args .run .now) ((11 * (start .args) .i))
+    filling-end (c .before .loop .inv .6) (λ q. gain-end (start .args .transitions .now) ((11 * (start .args) .i))
     (start .args .x) (c .before .loop .k) q (omega (arith, c .before .loop .inv .1)))
 
 pub add-uses-spec : {M : Type 1} → statement M

@@ -14,7 +14,7 @@ returns : tie.Need-returns
 returns c =
     let at-class-prints = c .before .before in
     let start = at-class-prints .before .before .before in
-    round-is (start .args .classes .now) (start .args .run .now) (start .args .n) (start .args .count) (start
+    round-is (start .args .classes .now) (start .args .transitions .now) (start .args .n) (start .args .count) (start
     .args .useful .now) (printOf (start .args .seen .now)) (start .pre .0 .over) (start .pre .1)
     (at-class-prints .class-prints .ensures) (c .add-all-uses .ensures)
 

@@ -3,7 +3,7 @@ use native.Mathlib.Omega.{arith}
 use mathlib.Core.Path.{_≡_, _∙_, ap, sym, subst}
 use Prim.Native.Nat.{_-_, _<_, _≤_, ℕ, _+_, suc, _*_}
 use Rattle.table.specs.Layout.{arityOf}
-use Rattle.fingerprints.specs.Fingerprints.{packed}
+use Rattle.fingerprints.specs.Fingerprints.{base256}
 use Rattle.fingerprints.proofs.Adding.{argsFrom, argsFrom-none, radix, radix-small, packed-before, packed-whole}
 use borrow.Author.Needs.{needs}
 use Rattle.fingerprints.proofs.values.packed_args.Statement.{statement}
@@ -11,7 +11,7 @@ use Rattle.fingerprints.proofs.values.packed_args.Tie as tie
 
 abbrev Inv-loop : tie.InvT-loop
 Inv-loop run at k₀ sum₀ k sum =
-    (k ≤ arityOf run at) × (sum < radix (arityOf run at - k)) × (sum ≡ packed (argsFrom run at k))
+    (k ≤ arityOf run at) × (sum < radix (arityOf run at - k)) × (sum ≡ base256 (argsFrom run at k))
 
 abbrev μ-loop : tie.MeasureT-loop
 μ-loop run at k₀ sum₀ k sum = k
@@ -32,13 +32,13 @@ loop-holds : tie.Need-loop-holds Inv-loop μ-loop
 loop-holds c =
     let start = c .before .before .before in
     let e : (start .args .at) + 2 - 1 ≡ (start .args .at) + 1 = omega arith in
-    let r : c .wide .result ≡ arityOf (start .args .run .now) (start .args .at) = c .wide .ensures ∙ ap (λ
-    (j : ℕ). getD (start .args .run .now) j 0) e in
-    let z : 0 ≡ arityOf (start .args .run .now) (start .args .at) - (c .wide) .result = omega (arith, r) in (
+    let r : c .wide .result ≡ arityOf (start .args .transitions .now) (start .args .at) = c .wide .ensures ∙ ap (λ
+    (j : ℕ). getD (start .args .transitions .now) j 0) e in
+    let z : 0 ≡ arityOf (start .args .transitions .now) (start .args .at) - (c .wide) .result = omega (arith, r) in (
       omega (arith, r),
       subst (λ (m : ℕ). 0 < radix m) z (omega arith),
-      sym (ap packed (argsFrom-none (start
-          .args .run .now) (start .args .at) (c .wide .result) (omega (arith, r)))),
+      sym (ap base256 (argsFrom-none (start
+          .args .transitions .now) (start .args .at) (c .wide .result) (omega (arith, r)))),
     )
 
 sub-k : tie.Need-sub-k Inv-loop μ-loop
@@ -60,7 +60,7 @@ mul-sum : tie.Need-mul-sum Inv-loop μ-loop
 mul-sum c =
     let at-loop = c .before .before .before in
     let start = at-loop .before .before .before .before in
-    let h = radix-small (arityOf (start .args .run .now) (start .args .at) - (at-loop .loop .k)) (omega
+    let h = radix-small (arityOf (start .args .transitions .now) (start .args .at) - (at-loop .loop .k)) (omega
     (arith, start .pre .narrow)) in
     omega (arith, h, at-loop .loop .inv .1)
 
@@ -68,7 +68,7 @@ add-sum : tie.Need-add-sum Inv-loop μ-loop
 add-sum c =
     let at-loop = c .before .before .before in
     let start = at-loop .before .before .before .before in
-    let h = radix-small (arityOf (start .args .run .now) (start .args .at) - (at-loop .loop .k)) (omega
+    let h = radix-small (arityOf (start .args .transitions .now) (start .args .at) - (at-loop .loop .k)) (omega
     (arith, start .pre .narrow)) in
     omega (
       arith,
@@ -86,8 +86,8 @@ loop-again : tie.Need-loop-again Inv-loop μ-loop
 loop-again c =
     let at-loop = c .before .before .before in
     let start = at-loop .before .before .before .before in
-    let e : suc (arityOf (start .args .run .now) (start .args .at) - (at-loop .loop .k)) ≡ arityOf (start
-    .args .run .now) (start .args .at) - ((at-loop .loop .k) - 1) = omega (arith, at-loop .loop .inv .0) in (
+    let e : suc (arityOf (start .args .transitions .now) (start .args .at) - (at-loop .loop .k)) ≡ arityOf (start
+    .args .transitions .now) (start .args .at) - ((at-loop .loop .k) - 1) = omega (arith, at-loop .loop .inv .0) in (
       omega (arith, at-loop .loop .inv .0),
       subst (λ (m : ℕ). (c .wide2) .result + 256 * (at-loop .loop) .sum <
           radix m) e (omega (
@@ -97,7 +97,7 @@ loop-again c =
             c .before .shared-slice-known3 .given
                 ((start .args .at) + 2 + ((at-loop .loop .k) - 1)),
           )),
-      packed-before (start .args .run .now) (start
+      packed-before (start .args .transitions .now) (start
           .args .at) (at-loop .loop .k) (omega arith) (at-loop .loop .inv .0) (c .wide2 .ensures) (at-loop .loop
           .inv .2),
     )
@@ -105,7 +105,7 @@ loop-again c =
 returns : tie.Need-returns Inv-loop μ-loop
 returns c =
     let start = c .before .before .before .before .before in
-    c .before .loop .inv .2 ∙ packed-whole (start .args .run .now) (start .args .at) (c .before .loop .k)
+    c .before .loop .inv .2 ∙ packed-whole (start .args .transitions .now) (start .args .at) (c .before .loop .k)
     (omega arith)
 
 pub packed-args-spec : {M : Type 1} → statement M

@@ -14,7 +14,7 @@ abbrev μ-loop : tie.MeasureT-loop
 μ-loop run₀ count names kept₀ i₀ run kept i = count - i
 
 loop-holds : tie.Need-loop-holds Inv-loop μ-loop
-loop-holds c = merging-start (c .before .args .run .now) (c .before .args .count) (c .before .args .names .now)
+loop-holds c = merging-start (c .before .args .transitions .now) (c .before .args .count) (c .before .args .names .now)
 
 mul-renamed : tie.Need-mul-renamed Inv-loop μ-loop
 mul-renamed c = search needs

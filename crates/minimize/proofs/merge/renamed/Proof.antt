@@ -60,7 +60,7 @@ loop-holds : tie.Need-loop-holds Inv-loop μ-loop
 loop-holds c =
     let start = c .before .before .before .before .before .before .before .before in (
       c .wide2 .ensures,
-      renaming-start (start .args .run .now) (start .args .at) (start .args .names .now) (ap
+      renaming-start (start .args .transitions .now) (start .args .at) (start .args .names .now) (ap
           (nameIn (start .args .names .now)) (c .before .before .before .wide .ensures)),
     )
 

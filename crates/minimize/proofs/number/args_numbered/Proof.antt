@@ -33,7 +33,7 @@ loop-holds : tie.Need-loop-holds Inv-loop μ-loop
 loop-holds c =
     let start = c .before .before .before in (
       c .wide .ensures,
-      marked-start (start .args .numbers .now) (start .args .run .now) (start .args .at) (c .wide
+      marked-start (start .args .numbers .now) (start .args .transitions .now) (start .args .at) (c .wide
           .ensures),
     )
 

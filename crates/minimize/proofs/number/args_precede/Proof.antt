@@ -8,7 +8,7 @@ use borrow.Author.Needs.{needs}
 use Rattle.automata.specs.Order.{lex}
 use Rattle.fields.specs.Fields.{firstArgs}
 use Rattle.minimize.specs.Merged.{nameIn}
-use Rattle.fields.proofs.Laws.{LexFrom, lex-decided, lex-end, lex-next}
+use Rattle.fields.proofs.Searching.{LexFrom, lex-decided, lex-end, lex-next}
 use Rattle.minimize.proofs.Arguments.{argName, names-start}
 use Rattle.minimize.proofs.number.args_precede.Statement.{statement}
 use Rattle.minimize.proofs.number.args_precede.Tie as tie
@@ -23,7 +23,7 @@ abbrev μ-loop : tie.MeasureT-loop
 
 loop-holds : tie.Need-loop-holds Inv-loop μ-loop
 loop-holds c =
-    names-start (c .before .args .numbers .now) (c .before .args .run .now) (c .before .args .a) (c .before .args
+    names-start (c .before .args .numbers .now) (c .before .args .transitions .now) (c .before .args .a) (c .before .args
     .b) (c .before .args .n)
 
 add-wide : tie.Need-add-wide Inv-loop μ-loop

@@ -19,15 +19,15 @@ ready-requires c κs = readable (c .before .pre .0) (c .before .args .i) (omega 
 returns : tie.Need-returns
 returns c =
     let start = c .before .before .before in
-    λ o of. improves-unready o (start .args .run .now) (start .args .count) (start .args .best) (start .args .i)
-    (sym (ready-by of (nthTransition (start .args .run .now) (start .args .i))) ∙ sym (c .before .ready .ensures) ∙
+    λ o of. improves-unready o (start .args .transitions .now) (start .args .count) (start .args .best) (start .args .i)
+    (sym (ready-by of (nthTransition (start .args .transitions .now) (start .args .i))) ∙ sym (c .before .ready .ensures) ∙
     not-true _ (c .if1 .taken))
 
 returns-2 : tie.Need-returns-2
 returns-2 c =
     let start = c .before .before .before .before in
-    λ o of. improves-first o (start .args .run .now) (start .args .count) (start .args .best) (start .args .i) (sym
-    (ready-by of (nthTransition (start .args .run .now) (start .args .i))) ∙ sym (c .before .before .ready .ensures)
+    λ o of. improves-first o (start .args .transitions .now) (start .args .count) (start .args .best) (start .args .i) (sym
+    (ready-by of (nthTransition (start .args .transitions .now) (start .args .i))) ∙ sym (c .before .before .ready .ensures)
     ∙ not-false _ (c .before .if1 .left)) (omega arith)
 
 mul-precedes-by : tie.Need-mul-precedes-by
@@ -47,7 +47,7 @@ precedes-by-requires c κs =
 returns-3 : tie.Need-returns-3
 returns-3 c =
     let start = c .before .before .before .before .before in
-    λ o of. let run = start .args .run .now in let i = start .args .i in let b = start .args .best in c .precedes-by
+    λ o of. let run = start .args .transitions .now in let i = start .args .i in let b = start .args .best in c .precedes-by
     .ensures ∙ precedes-by-numbers of (nthTransition run i) (nthTransition run b) ∙ improves-before o run (start
     .args .count) b i (sym (ready-by of (nthTransition run i)) ∙ sym (c .before .before .before .ready .ensures) ∙
     not-false _ (c .before .before .if1 .left)) (omega arith)

@@ -26,7 +26,7 @@ loop-holds c =
       c .first-ready .ensures .0,
       omega arith,
       settled-none,
-      ordering-start (start .args .run .now) (start .args .count) (start .pre .1 .1 .1 .0) (start .pre .1 .1 .1 .1 .0)
+      ordering-start (start .args .transitions .now) (start .args .count) (start .pre .1 .1 .1 .0) (start .pre .1 .1 .1 .1 .0)
           (start .pre .1 .1 .1 .1 .1) _ (c .first-ready .ensures .1),
     )
 

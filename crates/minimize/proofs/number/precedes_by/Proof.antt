@@ -39,7 +39,7 @@ returns c =
     let at-wide2 = c .before .before .before .before .before in
     let at-wide = at-wide2 .before .before in
     let start = at-wide .before .before .before in
-    precedes-by-arity (start .args .numbers .now) (start .args .run .now) (start .args .a) (start .args .b) (at-wide
+    precedes-by-arity (start .args .numbers .now) (start .args .transitions .now) (start .args .a) (start .args .b) (at-wide
     .wide .ensures) (at-wide2 .wide2 .ensures) (c .if1 .taken)
 
 returns-2 : tie.Need-returns-2
@@ -48,7 +48,7 @@ returns-2 c =
     let at-wide2 = at-wide3 .before .before in
     let at-wide = at-wide2 .before .before in
     let start = at-wide .before .before .before in
-    precedes-by-label (start .args .numbers .now) (start .args .run .now) (start .args .a) (start .args .b) (at-wide
+    precedes-by-label (start .args .numbers .now) (start .args .transitions .now) (start .args .a) (start .args .b) (at-wide
     .wide .ensures) (at-wide2 .wide2 .ensures) (c .before .if1 .left) (at-wide3 .wide3 .ensures) (c .before .before
     .wide4 .ensures) (c .if2 .taken)
 
@@ -61,7 +61,7 @@ returns-3 c =
     let at-wide2 = at-wide3 .before .before in
     let at-wide = at-wide2 .before .before in
     let start = at-wide .before .before .before in
-    precedes-by-args (start .args .numbers .now) (start .args .run .now) (start .args .a) (start .args .b) (at-wide
+    precedes-by-args (start .args .numbers .now) (start .args .transitions .now) (start .args .a) (start .args .b) (at-wide
     .wide .ensures) (at-wide2 .wide2 .ensures) (c .before .before .if1 .left) (at-wide3 .wide3 .ensures) (c .before
     .before .before .wide4 .ensures) (c .before .if2 .left) (c .args-precede .ensures)
 

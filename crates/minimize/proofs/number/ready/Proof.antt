@@ -26,7 +26,7 @@ element-copy-out-if1 c =
 returns : tie.Need-returns
 returns c =
     let start = c .before .before .before .before .before in
-    numbered-unready (start .args .numbers .now) (transitionAt (start .args .run .now) (start .args .at)) (ap
+    numbered-unready (start .args .numbers .now) (transitionAt (start .args .transitions .now) (start .args .at)) (ap
     (marked (start .args .numbers .now)) (sym (c .before .before .wide .ensures)) ∙ nonzero-true _ (c .if1 .taken))
 
 args-numbered-requires : tie.Need-args-numbered-requires
@@ -35,7 +35,7 @@ args-numbered-requires c κs = search needs
 returns-2 : tie.Need-returns-2
 returns-2 c =
     let start = c .before .before .before .before .before .before in
-    c .args-numbered .ensures ∙ unnumbered-ready (start .args .numbers .now) (transitionAt (start .args .run .now)
+    c .args-numbered .ensures ∙ unnumbered-ready (start .args .numbers .now) (transitionAt (start .args .transitions .now)
     (start .args .at)) (ap (marked (start .args .numbers .now)) (sym (c .before .before .before .wide .ensures)) ∙
     nonzero-false _ (c .before .if1 .left))
 

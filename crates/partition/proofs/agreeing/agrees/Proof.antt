@@ -1,7 +1,7 @@
 use native.Mathlib.Omega.{arith}
 use mathlib.Core.Path.{_≡_, _∙_, ap}
 use Prim.Native.Nat.{_%_, _*_, _+_}
-use Rattle.distinguish.specs.Telling.{stepAt}
+use Rattle.distinguish.specs.Separating.{stepAt}
 use Rattle.fingerprints.specs.Fingerprints.{printOf}
 use Rattle.fields.proofs.Transitions.{readable}
 use Rattle.partition.proofs.Marked.{agrees-other, agrees-same}
@@ -68,7 +68,7 @@ returns : tie.Need-returns
 returns c =
     let at-wide = c .before .before .before in
     let start = at-wide .before .before .before in
-    agrees-other (start .args .run .now) (start .args .count) ((printOf (start .args .prints .now))) (start
+    agrees-other (start .args .transitions .now) (start .args .count) ((printOf (start .args .prints .now))) (start
     .args .i) (start .args .k) (start .args .q) (at-wide .wide .ensures) (c .if1 .taken)
 
 mul-wide-2 : tie.Need-mul-wide-2
@@ -131,9 +131,9 @@ returns-2 c =
     let at-wide = at-if1 .before .before .before in
     let start = at-wide .before .before .before in
     let e : (start .args .q) % 256 ≡ (start .args .q) = omega (arith, start .pre .1 .1 .1 .1) in
-    agrees-same (start .args .run .now) (start .args .count) ((printOf (start .args .prints .now))) (start
+    agrees-same (start .args .transitions .now) (start .args .count) ((printOf (start .args .prints .now))) (start
     .args .i) (start .args .k) (start .args .q) (at-wide .wide .ensures) (at-if1 .if1 .left) (at-wide2
-    .wide2 .ensures) (at-wide3 .wide3 .ensures ∙ at-stepped .stepped .ensures ∙ ap (stepAt (start .args .run
+    .wide2 .ensures) (at-wide3 .wide3 .ensures ∙ at-stepped .stepped .ensures ∙ ap (stepAt (start .args .transitions
     .now) (start .args .count) (11 * (start .args .i)) (start .args .k)) e)
 
 pub agrees-spec : {M : Type 1} → statement M

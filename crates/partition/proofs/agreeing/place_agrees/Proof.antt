@@ -50,7 +50,7 @@ returns : tie.Need-returns
 returns c =
     let at-wide = c .before .before in
     let start = at-wide .before .before .before in
-    sym (lone-agrees (start .args .run .now) (start .args .n) (start .args .count) (start .pre .1 .0) (start
+    sym (lone-agrees (start .args .transitions .now) (start .args .n) (start .args .count) (start .pre .1 .0) (start
     .pre .1 .1 .0) (start .pre .0 .rises) (start .args .prints .now) (start .args .shared .now) (start .pre .1
     .1 .1 .1 .1) (start .args .i) (start .args .k) (start .pre .1 .1 .1 .0) (start .pre .1 .1 .1 .1 .0) (ap
     (marked (start .args .shared .now)) (sym (at-wide .wide .ensures)) ∙ nonzero-false _ (c .if1 .taken)))

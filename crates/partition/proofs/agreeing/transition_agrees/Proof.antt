@@ -38,9 +38,9 @@ loop-holds : tie.Need-loop-holds Inv-loop μ-loop
 loop-holds c =
     let start = c .before .before .before in
     let e : 11 * (start .args) .i + 2 - 1 ≡ 11 * (start .args) .i + 1 = omega arith in (
-      c .wide .ensures ∙ ap (λ (j : ℕ). getD (start .args .run .now) j 0) e,
+      c .wide .ensures ∙ ap (λ (j : ℕ). getD (start .args .transitions .now) j 0) e,
       every-start (arityOf (start .args
-          .run .now) (11 * (start .args) .i)) (omega arith),
+          .transitions .now) (11 * (start .args) .i)) (omega arith),
     )
 
 place-agrees-requires : tie.Need-place-agrees-requires Inv-loop μ-loop

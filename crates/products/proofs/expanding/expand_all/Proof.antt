@@ -27,7 +27,7 @@ loop-holds c =
     let start = c .before .before .before in
     let T = transitionsIn (start .args .nodes .now) (start .args .found) in
     let cand = candidate (marked (start .args .marks .now)) (start .args .states .now) (start .args .n) in (
-      added-begin (nthExpands (start .args .run .now) cand (start .args .m) T) (live-none (start .args .scratch
+      added-begin (nthExpands (start .args .transitions .now) cand (start .args .m) T) (live-none (start .args .scratch
           .now)),
       omega arith,
     )
@@ -51,7 +51,7 @@ expand-requires c κs =
         (
           start .pre .1 .1 .1 .0,
           (
-            copied-entry (start .args .run .now) (11 *
+            copied-entry (start .args .transitions .now) (11 *
                 loop .i) (c .before .transition .result) (c .before .transition .ensures) (start .pre .0 .runs
                 .narrow (loop .i)
                 (loop-test .taken)) (start .pre .0 .out-some (loop .i) (loop-test .taken)),
@@ -88,9 +88,9 @@ returns c =
     let expand-call = c .before .before .before .before .expand in
     let T = transitionsIn (start .args .nodes .now) (start .args .found) in
     let cand = candidate (marked (start .args .marks .now)) (start .args .states .now) (start .args .n) in
-    overflowed (overflow-next (nthExpands (start .args .run .now) cand (start .args .m) T) (loop .i) (start .args
+    overflowed (overflow-next (nthExpands (start .args .transitions .now) cand (start .args .m) T) (loop .i) (start .args
     .count) (loop-test .taken) (loop .inv .0) (over-first cand (start .args .m) T (transition-call .result)
-    (nthTransition (start .args .run .now) (loop .i)) (transition-call .ensures) (expand-call .ensures) .over (c
+    (nthTransition (start .args .transitions .now) (loop .i)) (transition-call .ensures) (expand-call .ensures) .over (c
     .enum-told .given .1)))
 
 add-i : tie.Need-add-i Inv-loop μ-loop
@@ -108,8 +108,8 @@ loop-again c =
     let expand-call = c .before .before .before .before .before .expand in
     let T = transitionsIn (start .args .nodes .now) (start .args .found) in
     let cand = candidate (marked (start .args .marks .now)) (start .args .states .now) (start .args .n) in (
-      added-next (nthExpands (start .args .run .now) cand (start .args .m) T) (loop .i) (loop .inv .0) (over-first
-          cand (start .args .m) T (transition-call .result) (nthTransition (start .args .run .now) (loop .i))
+      added-next (nthExpands (start .args .transitions .now) cand (start .args .m) T) (loop .i) (loop .inv .0) (over-first
+          cand (start .args .m) T (transition-call .result) (nthTransition (start .args .transitions .now) (loop .i))
           (transition-call .ensures) (expand-call .ensures) .done (c .before .more .given .0 .0) (c .before .more .given
           .1)),
       omega arith,
@@ -123,7 +123,7 @@ returns-2 c =
     let start = c .before .before .before .before .before in
     let T = transitionsIn (start .args .nodes .now) (start .args .found) in
     let cand = candidate (marked (start .args .marks .now)) (start .args .states .now) (start .args .n) in
-    returned (added-end (nthExpands (start .args .run .now) cand (start .args .m) T) (c .before .loop .i) (start
+    returned (added-end (nthExpands (start .args .transitions .now) cand (start .args .m) T) (c .before .loop .i) (start
     .args .count) (c .before .loop .inv .1) (c .loop-test .left) (c .before .loop .inv .0))
 
 pub expand-all-spec : {M : Type 1} → statement M

@@ -19,7 +19,7 @@ abbrev μ-loop : tie.MeasureT-loop
 loop-holds : tie.Need-loop-holds Inv-loop μ-loop
 loop-holds c = (
   added-begin (NodeAt (c .before .args .n) (c .before .args .labels .now) (c .before .args .arities .now) (c
-      .before .args .children .now)) (live-none (c .before .args .run .now)),
+      .before .args .children .now)) (live-none (c .before .args .transitions .now)),
   omega arith,
 )
 

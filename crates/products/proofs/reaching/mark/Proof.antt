@@ -29,7 +29,7 @@ element-copy-out-if1 c =
     let shared-slice-known = c .before .before .before .shared-slice-known in
     omega (
       arith,
-      (copied-out (start .args .run .now) (11 * (start .args) .i) (c .before .transition .result) (c
+      (copied-out (start .args .transitions .now) (11 * (start .args) .i) (c .before .transition .result) (c
           .before .transition .ensures)),
       c .wide .ensures,
       shared-slice-known .given (11 * (start .args) .i + 10),
@@ -44,8 +44,8 @@ returns c =
     marked-already (start .args .states .now) (start .args .n) (start .args .m) T (start .args .marks .now)
     (transition-call .result) (transition-call .ensures) (wide-call .ensures) (c .if1 .taken)
 
-ready-requires : tie.Need-ready-requires
-ready-requires c κs =
+all-offered-requires : tie.Need-all-offered-requires
+all-offered-requires c κs =
     let start = c .before .before .before .before .before .before .before in
     let transition-call = c .before .before .before .before .transition in (
       search needs,
@@ -53,7 +53,7 @@ ready-requires c κs =
         search needs,
         omega (
           arith,
-          (copied-arity (start .args .run .now) (11 * (start .args) .i)
+          (copied-arity (start .args .transitions .now) (11 * (start .args) .i)
               (transition-call .result) (transition-call .ensures)),
           start .pre .0 .narrow,
         ),
@@ -66,7 +66,7 @@ returns-2 c =
     let transition-call = c .before .before .before .before .before .before .transition in
     let T = transitionsIn (start .args .nodes .now) (start .args .found) in
     mark-unready (start .args .states .now) (start .args .n) (start .args .m) T (start .args .marks .now)
-    (transition-call .result) (transition-call .ensures) (sym (c .before .ready .ensures) ∙ not-true _ (c .if2
+    (transition-call .result) (transition-call .ensures) (sym (c .before .all-offered .ensures) ∙ not-true _ (c .if2
     .taken))
 
 escapes-requires : tie.Need-escapes-requires
@@ -81,7 +81,7 @@ escapes-requires c κs =
           (
             omega (
               arith,
-              (copied-arity (start .args .run .now) (11 * (start
+              (copied-arity (start .args .transitions .now) (11 * (start
                   .args) .i) (transition-call .result) (transition-call .ensures)),
               start .pre .0 .narrow,
             ),
@@ -108,7 +108,7 @@ element-write-marks c =
     let wide-call = c .before .before .before .before .before .before .before .before .wide in
     omega (
       arith,
-      (copied-out (start .args .run .now) (11 * (start .args) .i) (transition-call .result)
+      (copied-out (start .args .transitions .now) (11 * (start .args) .i) (transition-call .result)
           (transition-call .ensures)),
       wide-call .ensures,
       shared-slice-known .given (11 * (start .args) .i + 10),
@@ -127,7 +127,7 @@ returns-4 c =
     (transition-call .result) (transition-call .ensures) (c .before .escapes .ensures) (not-false _ (c .if3 .left))
     (wide-call .ensures) (omega (
       arith,
-      (copied-out (start .args .run .now) (11 * (start .args) .i) (transition-call
+      (copied-out (start .args .transitions .now) (11 * (start .args) .i) (transition-call
           .result) (transition-call .ensures)),
       wide-call .ensures,
       shared-slice-known .given (11 * (start .args) .i +
@@ -145,7 +145,7 @@ mark-spec =
     wide-requires
     element-copy-out-if1
     returns
-    ready-requires
+    all-offered-requires
     returns-2
     escapes-requires
     returns-3

@@ -24,7 +24,7 @@ loop-holds : tie.Need-loop-holds Inv-loop μ-loop
 loop-holds c =
     let start = c .before .before in
     let T = transitionsIn (start .args .nodes .now) (start .args .found) in (
-      spread-begin (nthReaches (start .args .run .now) (start .args .states .now) (start .args .n) (start .args .m)
+      spread-begin (nthReaches (start .args .transitions .now) (start .args .states .now) (start .args .n) (start .args .m)
           T),
       (omega arith, start .pre .1 .1 .1 .1),
     )
@@ -57,7 +57,7 @@ loop-again c =
     let start = c .before .before .before .before .before .before in
     let loop = c .before .before .before .loop in
     let T = transitionsIn (start .args .nodes .now) (start .args .found) in (
-      spread-next (nthReaches (start .args .run .now) (start .args .states .now) (start .args .n) (start .args .m) T)
+      spread-next (nthReaches (start .args .transitions .now) (start .args .states .now) (start .args .n) (start .args .m) T)
           (loop .i) (loop .inv .0) (c .mark .ensures),
       (
         omega arith,
@@ -69,7 +69,7 @@ returns : tie.Need-returns Inv-loop μ-loop
 returns c =
     let start = c .before .before .before .before in
     let T = transitionsIn (start .args .nodes .now) (start .args .found) in
-    spread-end (nthReaches (start .args .run .now) (start .args .states .now) (start .args .n) (start .args .m) T)
+    spread-end (nthReaches (start .args .transitions .now) (start .args .states .now) (start .args .n) (start .args .m) T)
     (c .before .loop .i) (start .args .count) (c .before .loop .inv .1 .0) (c .loop-test .left) (c .before .loop
     .inv .0)
 

@@ -23,7 +23,7 @@ loop-holds : tie.Need-loop-holds Inv-loop μ-loop
 loop-holds c =
     let start = c .before .before in
     let T = transitionsIn (start .args .nodes .now) (start .args .found) in
-    led-none (UpTo (nthReaches (start .args .run .now) (start .args .states .now) (start .args .n) (start .args
+    led-none (UpTo (nthReaches (start .args .transitions .now) (start .args .states .now) (start .args .n) (start .args
     .m) T) (start .args .count)) (start .args .marks .now)
 
 mark-all-requires : tie.Need-mark-all-requires Inv-loop μ-loop

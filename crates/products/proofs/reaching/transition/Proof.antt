@@ -41,7 +41,7 @@ loop-again c =
 returns : tie.Need-returns Inv-loop μ-loop
 returns c =
     let start = c .before .before in
-    copied-end (start .args .run .now) (start .args .at) (c .before .loop .inv) (c .loop-test .left)
+    copied-end (start .args .transitions .now) (start .args .at) (c .before .loop .inv) (c .loop-test .left)
     (start .pre .narrow)
 
 pub transition-spec : {M : Type 1} → statement M

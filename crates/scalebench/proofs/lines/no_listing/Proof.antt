@@ -1,10 +1,10 @@
 use mathlib.Core.Path.{refl}
-use Rattle.text.specs.Outcome.{blank}
+use Rattle.text.specs.Outcome.{noListing}
 use Rattle.scalebench.proofs.lines.no_listing.Statement.{statement}
 use Rattle.scalebench.proofs.lines.no_listing.Tie as tie
 
 returns : tie.Need-returns
-unfolding blank
+unfolding noListing
 returns c = refl
 
 pub no-listing-spec : {M : Type 1} → statement M

@@ -14,7 +14,7 @@ returns : tie.Need-returns
 returns c =
     let start = c .before .before .before .before .before in
     let at-numbers = c .before .before .before in
-    ranks-acyclic (start .args .run .now) (start .args .n) (start .args .count) (at-numbers .numbers .result)
+    ranks-acyclic (start .args .transitions .now) (start .args .n) (start .args .count) (at-numbers .numbers .result)
     (start .pre .0) (c .before .ranks-rise .ensures) (c .if1 .taken)
 
 depth-first-requires : tie.Need-depth-first-requires
@@ -27,7 +27,7 @@ returns-2 : tie.Need-returns-2
 returns-2 c =
     let start = c .before .before .before .before .before .before .before .before .before in
     let at-depth-first = c .before .before .before in
-    ranks-acyclic (start .args .run .now) (start .args .n) (start .args .count)
+    ranks-acyclic (start .args .transitions .now) (start .args .n) (start .args .count)
     (at-depth-first .depth-first .result) (start .pre .0) (c .before .ranks-rise2 .ensures) (c .if2 .taken)
 
 all-grounded-requires : tie.Need-all-grounded-requires

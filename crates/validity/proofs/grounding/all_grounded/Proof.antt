@@ -36,7 +36,7 @@ loop-again : tie.Need-loop-again Inv-loop μ-loop
 loop-again c =
     let start = c .before .before .before .before .before in
     λ cl. growing-more
-    (returnless-ground cl (start .args .run .now) (start .args .n) (start .args .count) (start .pre .0))
+    (returnless-ground cl (start .args .transitions .now) (start .args .n) (start .args .count) (start .pre .0))
     (c .before .before .before .loop .inv cl) (c .before .ground-all .ensures)
 
 add-all-marked : tie.Need-add-all-marked Inv-loop μ-loop
@@ -49,7 +49,7 @@ returns : tie.Need-returns Inv-loop μ-loop
 returns c =
     let start = c .before .before .before .before .before .before .before in
     let e : start .args .n + 1 - 1 ≡ start .args .n = omega arith in
-    λ cl. rw e at (c .all-marked .ensures) ∙ acyclic-end cl (start .args .run .now) (start .args .n)
+    λ cl. rw e at (c .all-marked .ensures) ∙ acyclic-end cl (start .args .transitions .now) (start .args .n)
     (start .args .count) (start .pre .0) (c .before .before .before .before .before .loop .inv cl)
     (c .before .before .before .ground-all .ensures) (c .before .before .if1 .left)
 

@@ -15,7 +15,7 @@ args-marked-requires c κs = search needs
 returns : tie.Need-returns
 returns c =
     let start = c .before .before .before in
-    blocks-skip (start .args .run .now) (start .args .marks .now) (start .args .i) (start .args .blocked .now)
+    blocks-skip (start .args .transitions .now) (start .args .marks .now) (start .args .i) (start .args .blocked .now)
     (start .pre .1) (sym (c .before .args-marked .ensures) ∙ c .if1 .taken)
 
 out-of-requires : tie.Need-out-of-requires
@@ -27,7 +27,7 @@ element-write-blocked c = search needs
 returns-2 : tie.Need-returns-2
 returns-2 c =
     let start = c .before .before .before .before in
-    rw (c .out-of .ensures .0) (blocks-more (start .args .run .now) (start .args .marks .now) (start .args .i)
+    rw (c .out-of .ensures .0) (blocks-more (start .args .transitions .now) (start .args .marks .now) (start .args .i)
     (start .args .blocked .now) (start .pre .1) (omega (arith, c .out-of .ensures .0))
     (sym (c .before .before .args-marked .ensures) ∙ c .before .if1 .left))
 

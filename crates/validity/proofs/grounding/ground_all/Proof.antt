@@ -7,7 +7,7 @@ use Rattle.validity.proofs.grounding.ground_all.Tie as tie
 block-all-requires : tie.Need-block-all-requires
 block-all-requires c κs =
     let start = c .before .before .before in
-    (start .pre .0, blocks-none (start .args .run .now) (start .args .marks .now))
+    (start .pre .0, blocks-none (start .args .transitions .now) (start .args .marks .now))
 
 ground-unblocked-requires : tie.Need-ground-unblocked-requires
 ground-unblocked-requires c κs = search needs
@@ -15,7 +15,7 @@ ground-unblocked-requires c κs = search needs
 returns : tie.Need-returns
 returns c =
     let start = c .before .before .before .before .before .before .before in
-    spread-ground (start .args .run .now) (start .args .count) (start .args .n)
+    spread-ground (start .args .transitions .now) (start .args .count) (start .args .n)
     (c .before .before .before .block-all .ensures) (c .ground-unblocked .ensures)
 
 pub ground-all-spec : {M : Type 1} → statement M

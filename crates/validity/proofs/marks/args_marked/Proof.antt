@@ -26,7 +26,7 @@ arity-of-requires c κs = search needs
 loop-holds : tie.Need-loop-holds Inv-loop μ-loop
 loop-holds c =
     let start = c .before .before in
-    (c .arity-of .ensures, args-every (marked (start .args .marks .now)) (start .args .run .now) (start .args .at) refl)
+    (c .arity-of .ensures, args-every (marked (start .args .marks .now)) (start .args .transitions .now) (start .args .at) refl)
 
 arg-of-requires : tie.Need-arg-of-requires Inv-loop μ-loop
 arg-of-requires c κs = search needs

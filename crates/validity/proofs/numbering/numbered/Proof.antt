@@ -8,7 +8,7 @@ use borrow.Author.Needs.{needs}
 use borrow.Author.Tests.{not-false, not-true}
 use Rattle.marking.specs.Marks.{marked}
 use Rattle.table.specs.Layout.{transitionsIn}
-use Rattle.validity.specs.Rules.{Read, Spans}
+use Rattle.validity.specs.Rules.{NumbersRead, Spans}
 use Rattle.automata.proofs.NumberedPass.{Passed}
 use Rattle.fields.proofs.Transitions.{readable}
 use Rattle.validity.proofs.Passing.{pass-broken, pass-end, pass-start, spans-none}
@@ -25,7 +25,7 @@ abbrev μ-loop : tie.MeasureT-loop
 
 loop-holds : tie.Need-loop-holds Inv-loop μ-loop
 loop-holds c =
-    (omega arith, length-replicate {A = ℕ} byteValues 0, pass-start (c .before .args .run .now), spans-none)
+    (omega arith, length-replicate {A = ℕ} byteValues 0, pass-start (c .before .args .transitions .now), spans-none)
 
 read-requires : tie.Need-read-requires Inv-loop μ-loop
 read-requires c κs =
@@ -37,10 +37,10 @@ returns : tie.Need-returns Inv-loop μ-loop
 returns c =
     let start = c .before .before .before .before .before .before in
     let now = c .before .before .before .before .loop in
-    let s = start .args .run .now in
+    let s = start .args .transitions .now in
     let e = not-true _ (c .if1 .taken) in
     λ cl. pass-broken cl s (start .args .n) (start .args .count) (start .pre .0) (now .i) (omega arith)
-    (subst (Read s (now .i) (c .before .read .last .1 .1 .0)) e (c .before .read .ensures .0))
+    (subst (NumbersRead s (now .i) (c .before .read .last .1 .1 .0)) e (c .before .read .ensures .0))
 
 add-i : tie.Need-add-i Inv-loop μ-loop
 add-i c = search needs
@@ -65,7 +65,7 @@ returns-2 c =
     let now = c .before .before .before .loop in
     let d : now .i ≡ start .args .count = omega (arith, now .inv .0) in
     let e : start .args .n + 1 - 1 ≡ start .args .n = omega arith in
-    λ cl. rw e at (c .all-marked .ensures) ∙ pass-end cl (start .args .run .now) (start .args .n)
+    λ cl. rw e at (c .all-marked .ensures) ∙ pass-end cl (start .args .transitions .now) (start .args .n)
     (start .args .count) (now .seen) (rw d at (now .inv .2))
 
 pub numbered-spec : {M : Type 1} → statement M

@@ -19,7 +19,7 @@ out-of-requires c κs = search needs
 returns : tie.Need-returns
 returns c =
     let start = c .before .before .before .before in (
-      read-low (start .args .run .now) (start .args .i) (start .args .seen .now) (start .pre .1 .0)
+      read-low (start .args .transitions .now) (start .args .i) (start .args .seen .now) (start .pre .1 .0)
           (start .pre .1 .1 .0) (omega (
             arith,
             c .before .before .top-argument .ensures,
@@ -40,7 +40,7 @@ returns-2 c =
     let t = c .before .before .before .before .before .top-argument .ensures in
     let o = c .before .before .before .before .out-of .ensures .0 in
     let e = sym (c .before .all-seen .ensures) ∙ not-true _ (c .if2 .taken) in (
-      read-broken (start .args .run .now) (start .args .i) (start .args .seen .now) (start .pre .1 .0)
+      read-broken (start .args .transitions .now) (start .args .i) (start .args .seen .now) (start .pre .1 .0)
           (start .pre .1 .1 .0) (rw (t, o) at e),
       start .pre .1 .1 .1,
     )
@@ -60,7 +60,7 @@ returns-3 c =
     let t = c .before .before .before .before .before .top-argument .ensures in
     let o = c .before .before .before .before .out-of .ensures .0 in
     let e = sym (c .before .all-seen .ensures) ∙ not-false _ (c .if2 .left) in (
-      rw (t, o) (read-next (start .args .run .now) (start .args .i) (start .args .seen .now) (start .pre .1 .0)
+      rw (t, o) (read-next (start .args .transitions .now) (start .args .i) (start .args .seen .now) (start .pre .1 .0)
           (start .pre .1 .1 .0) (omega (arith, t, o)) (omega (arith, o)) (rw (t, o) at e)),
       spans-next (start .args .seen .now) (c .before .before .before .before .before .top-argument .result)
           (c .before .before .before .before .out-of .result) (start .pre .1 .0) (omega arith) (omega arith) e

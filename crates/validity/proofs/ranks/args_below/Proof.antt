@@ -29,7 +29,7 @@ loop-holds c =
     let start = c .before .before in (
       c .arity-of .ensures,
       args-every (λ q. ltb (rankOf (start .args .ranks .now) q) (start .args .bound))
-          (start .args .run .now) (start .args .at) refl,
+          (start .args .transitions .now) (start .args .at) refl,
     )
 
 arg-of-requires : tie.Need-arg-of-requires Inv-loop μ-loop

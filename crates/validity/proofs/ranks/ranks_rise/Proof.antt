@@ -23,7 +23,7 @@ abbrev μ-loop : tie.MeasureT-loop
 
 loop-holds : tie.Need-loop-holds Inv-loop μ-loop
 loop-holds c =
-    transitions-every (risesBy (rankOf (c .before .args .ranks .now))) (c .before .args .run .now)
+    transitions-every (risesBy (rankOf (c .before .args .ranks .now))) (c .before .args .transitions .now)
     (c .before .args .count)
 
 mul-out-of : tie.Need-mul-out-of Inv-loop μ-loop
@@ -52,7 +52,7 @@ returns c =
     let now = c .before .before .before .before .before in
     let at-out-of = c .before .before .before in
     every-broken (now .loop .inv) (omega arith)
-    (rises-at (start .args .ranks .now) (start .args .run .now) ((transitionBytes * (now .loop) .i))
+    (rises-at (start .args .ranks .now) (start .args .transitions .now) ((transitionBytes * (now .loop) .i))
     (at-out-of .out-of .ensures .0) (c .before .args-below .ensures) (not-true _ (c .if1 .taken)))
 
 add-i : tie.Need-add-i Inv-loop μ-loop
@@ -67,7 +67,7 @@ loop-again c =
     let now = c .before .before .before .before .before in
     let at-out-of = c .before .before .before in
     every-next (now .loop .inv) (omega arith)
-    (rises-at (start .args .ranks .now) (start .args .run .now) ((transitionBytes * (now .loop) .i))
+    (rises-at (start .args .ranks .now) (start .args .transitions .now) ((transitionBytes * (now .loop) .i))
     (at-out-of .out-of .ensures .0) (c .before .args-below .ensures) (not-false _ (c .if1 .left)))
 
 returns-2 : tie.Need-returns-2 Inv-loop μ-loop

@@ -24,20 +24,20 @@ abbrev μ-loop : tie.MeasureT-loop
 loop-holds : tie.Need-loop-holds Inv-loop μ-loop
 loop-holds c = λ cl. growing-none
 
-reach-all-requires : tie.Need-reach-all-requires Inv-loop μ-loop
-reach-all-requires c κs =
+mark-outputs-requires : tie.Need-mark-outputs-requires Inv-loop μ-loop
+mark-outputs-requires c κs =
     let start = c .before .before .before in
     (start .pre .0 .runs, c .before .loop .inv [] .size)
 
 loop-less : tie.Need-loop-less Inv-loop μ-loop
-loop-less c = growing-less (c .before .reach-all .ensures) (c .if1 .taken)
+loop-less c = growing-less (c .before .mark-outputs .ensures) (c .if1 .taken)
 
 loop-again : tie.Need-loop-again Inv-loop μ-loop
 loop-again c =
     let start = c .before .before .before .before .before in
     λ cl. growing-more
-    (accessible-up cl (start .args .run .now) (start .args .n) (start .args .count) (start .pre .0))
-    (c .before .before .before .loop .inv cl) (c .before .reach-all .ensures)
+    (accessible-up cl (start .args .transitions .now) (start .args .n) (start .args .count) (start .pre .0))
+    (c .before .before .before .loop .inv cl) (c .before .mark-outputs .ensures)
 
 add-all-marked : tie.Need-add-all-marked Inv-loop μ-loop
 add-all-marked c = search needs
@@ -49,9 +49,9 @@ returns : tie.Need-returns Inv-loop μ-loop
 returns c =
     let start = c .before .before .before .before .before .before .before in
     let e : start .args .n + 1 - 1 ≡ start .args .n = omega arith in
-    λ cl. rw e at (c .all-marked .ensures) ∙ all-accessible-end cl (start .args .run .now) (start .args .n)
+    λ cl. rw e at (c .all-marked .ensures) ∙ all-accessible-end cl (start .args .transitions .now) (start .args .n)
     (start .args .count) (start .pre .0) (c .before .before .before .before .before .loop .inv cl)
-    (c .before .before .before .reach-all .ensures) (c .before .before .if1 .left)
+    (c .before .before .before .mark-outputs .ensures) (c .before .before .if1 .left)
 
 pub all-accessible-spec : {M : Type 1} → statement M
 all-accessible-spec =
@@ -60,7 +60,7 @@ all-accessible-spec =
     Inv-loop
     μ-loop
     loop-holds
-    reach-all-requires
+    mark-outputs-requires
     loop-less
     loop-again
     add-all-marked

@@ -26,9 +26,9 @@ returns c =
     let at-accepting-marks = c .before .before .before .before .before in
     let at-use-all = c .before .before .before in
     let e : (start .args .n) + 1 - 1 ≡ (start .args .n) = omega arith in all-coaccessible-early
-    (start .args .classes .now) (start .args .run .now) (start .args .n) (start .args .count) (start .pre .over)
-    (using-more (start .args .classes .now) (start .args .run .now) (start .args .n) (start .args .count)
-    (start .pre .over) (using-start (start .args .classes .now) (start .args .run .now) (start .args .n)
+    (start .args .classes .now) (start .args .transitions .now) (start .args .n) (start .args .count) (start .pre .over)
+    (using-more (start .args .classes .now) (start .args .transitions .now) (start .args .n) (start .args .count)
+    (start .pre .over) (using-start (start .args .classes .now) (start .args .transitions .now) (start .args .n)
     (start .args .count) (start .pre .over) (at-accepting-marks .accepting-marks .ensures))
     (at-use-all .use-all .ensures)) (rw e at (c .before .all-marked .ensures)) (c .if1 .taken)
 
@@ -45,7 +45,7 @@ returns-2 : tie.Need-returns-2
 returns-2 c =
     let start = c .before .before .before .before .before .before .before .before .before .before .before in
     let e : (start .args .n) + 1 - 1 ≡ (start .args .n) = omega arith in rw e at (c .all-marked2 .ensures) ∙
-    all-coaccessible-end (start .args .classes .now) (start .args .run .now) (start .args .n) (start .args .count)
+    all-coaccessible-end (start .args .classes .now) (start .args .transitions .now) (start .args .n) (start .args .count)
     (start .pre .over) (c .before .before .useful .ensures)
 
 pub all-coaccessible-spec : {M : Type 1} → statement M

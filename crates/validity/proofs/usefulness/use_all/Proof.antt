@@ -18,7 +18,7 @@ abbrev μ-loop : tie.MeasureT-loop
 μ-loop run count marks₀ changed₀ j₀ marks changed j = count - j
 
 loop-holds : tie.Need-loop-holds Inv-loop μ-loop
-loop-holds c = (omega arith, spread-begin (fromLast (nthDown (c .before .args .run .now)) (c .before .args .count)))
+loop-holds c = (omega arith, spread-begin (fromLast (nthDown (c .before .args .transitions .now)) (c .before .args .count)))
 
 sub-use-transition : tie.Need-sub-use-transition Inv-loop μ-loop
 sub-use-transition c = search needs
@@ -46,7 +46,7 @@ loop-again c =
     let start = c .before .before .before .before .before in
     let now = c .before .before .before .loop in (
       omega arith,
-      spread-next (fromLast (nthDown (start .args .run .now)) (start .args .count)) (now .j)
+      spread-next (fromLast (nthDown (start .args .transitions .now)) (start .args .count)) (now .j)
           (now .inv .1) (c .use-transition .ensures),
     )
 
@@ -55,7 +55,7 @@ returns c =
     let start = c .before .before .before in
     let now = c .before .loop in
     let e : now .j ≡ start .args .count = omega (arith, now .inv .0) in
-    spread-back (nthDown (start .args .run .now)) (start .args .count) (rw e at (now .inv .1))
+    spread-back (nthDown (start .args .transitions .now)) (start .args .count) (rw e at (now .inv .1))
 
 pub use-all-spec : {M : Type 1} → statement M
 use-all-spec =

@@ -25,7 +25,7 @@ arity-of-requires c κs = search needs
 loop-holds : tie.Need-loop-holds Inv-loop μ-loop
 loop-holds c =
     let start = c .before .before in
-    (c .arity-of .ensures, omega arith, spread-begin (DownTo (start .args .run .now) (start .args .at)))
+    (c .arity-of .ensures, omega arith, spread-begin (DownTo (start .args .transitions .now) (start .args .at)))
 
 arg-of-requires : tie.Need-arg-of-requires Inv-loop μ-loop
 arg-of-requires c κs = search needs
@@ -45,7 +45,7 @@ loop-again : tie.Need-loop-again Inv-loop μ-loop
 loop-again c =
     let start = c .before .before .before .before .before .before .before in
     let now = c .before .before .before .before .loop in
-    let s = start .args .run .now in
+    let s = start .args .transitions .now in
     let at = start .args .at in
     let e = now .inv .2 .swept .kept (outOf s at) (start .pre .1 .1) in
     let new = rw (c .before .before .arg-of .ensures .0) at (c .mark .ensures) in
@@ -55,7 +55,7 @@ returns : tie.Need-returns Inv-loop μ-loop
 returns c =
     let start = c .before .before .before .before in
     let now = c .before .loop in
-    let e : now .k ≡ arityOf (start .args .run .now) (start .args .at) = omega (arith, now .inv .0) in
+    let e : now .k ≡ arityOf (start .args .transitions .now) (start .args .at) = omega (arith, now .inv .0) in
     rw e at (now .inv .2)
 
 pub use-args-spec : {M : Type 1} → statement M

@@ -24,7 +24,7 @@ accepting-marks-requires c κs =
 loop-holds : tie.Need-loop-holds Inv-loop μ-loop
 loop-holds c =
     let start = c .before .before .before in
-    using-start (start .args .classes .now) (start .args .run .now) (start .args .n) (start .args .count)
+    using-start (start .args .classes .now) (start .args .transitions .now) (start .args .n) (start .args .count)
     (start .pre .over) (c .accepting-marks .ensures)
 
 use-all-requires : tie.Need-use-all-requires Inv-loop μ-loop
@@ -39,14 +39,14 @@ loop-again : tie.Need-loop-again Inv-loop μ-loop
 loop-again c =
     let start = c .before .before .before .before .before .before .before in
     let now = c .before .before .before in
-    using-more (start .args .classes .now) (start .args .run .now) (start .args .n) (start .args .count)
+    using-more (start .args .classes .now) (start .args .transitions .now) (start .args .n) (start .args .count)
     (start .pre .over) (now .loop .inv) (c .before .use-all .ensures)
 
 returns : tie.Need-returns Inv-loop μ-loop
 returns c =
     let start = c .before .before .before .before .before .before .before in
     let now = c .before .before .before in
-    using-end (start .args .classes .now) (start .args .run .now) (start .args .n) (start .args .count)
+    using-end (start .args .classes .now) (start .args .transitions .now) (start .args .n) (start .args .count)
     (start .pre .over) (now .loop .inv) (c .before .use-all .ensures) (c .if1 .left)
 
 pub useful-spec : {M : Type 1} → statement M
