@@ -16,7 +16,7 @@ use Rattle.automata.specs.Automaton.{Automaton, accepting, accepts, emptyAutoma
 use Rattle.automata.specs.Canonical.{Canonical}
 use Rattle.automata.specs.Valid.{Valid}
 use Rattle.format.specs.Format.{AllBytes, countAt, headBytes, tableBytes, transitionBytes}
-use Rattle.table.specs.Intake.{WithinLimits, contentConditions, lengthCondition, tableRefusal}
+use Rattle.table.specs.Intake.{WithinLimits, automatonConditions, contentConditions, lengthCondition, tableRefusal}
 use Rattle.table.specs.Layout.{byteAt, decode, encode, layoutFits}
 use Rattle.trees.specs.Tree.{Tree}
 use Rattle.automata.proofs.Bounded.{acyclic-bounded, bounded-acyclic}
@@ -35,7 +35,7 @@ pub record Passes (b : List ℕ) : Type 0 where
   pub acyclic : acyclic (decode b) ≡ true
 
 pub unrefused-passes : (b : List ℕ) → tableRefusal b ≡ 0 → Passes b
-unfolding tableRefusal contentConditions
+unfolding tableRefusal contentConditions automatonConditions
 unrefused-passes b e =
     let (five, (seven, (eight, (nine, (ten, (eleven, (twelve, (thirteen, _)))))))) =
     unbroken-hold (lengthCondition b ∷ contentConditions b) (omega arith) e in
@@ -54,7 +54,7 @@ unrefused-passes b e =
     }
 
 pub passes-unrefused : (b : List ℕ) → Passes b → tableRefusal b ≡ 0
-unfolding tableRefusal contentConditions
+unfolding tableRefusal contentConditions automatonConditions
 passes-unrefused b p =
     let v = p .valid in
     rw (

@@ -22,13 +22,16 @@ use Rattle.trees.specs.Legal.{LegalNode}
 abbrev pub lengthCondition : List ℕ → Condition
 lengthCondition b = condition 5 (eqb (length b) tableBytes)
 
+-- conditions 9 to 13 of an automaton, in 01's order
+unfoldable pub automatonConditions : Automaton → List Condition
+automatonConditions A =
+    condition 9 (allAccessible A) ∷ condition 10 (allCoaccessible A) ∷ condition 11 (acyclic A) ∷
+    condition 12 (allDistinguishable A) ∷ condition 13 (numbered A) ∷ []
+
 -- conditions 7 to 13, in 01's order
 unfoldable pub contentConditions : List ℕ → List Condition
 contentConditions b =
-    condition 7 (layoutFits b) ∷ condition 8 (rising (decode b .transitions)) ∷
-    condition 9 (allAccessible (decode b)) ∷ condition 10 (allCoaccessible (decode b)) ∷
-    condition 11 (acyclic (decode b)) ∷ condition 12 (allDistinguishable (decode b)) ∷
-    condition 13 (numbered (decode b)) ∷ []
+    condition 7 (layoutFits b) ∷ condition 8 (rising (decode b .transitions)) ∷ automatonConditions (decode b)
 
 -- refusals 5 and 7 to 13: the number of the first condition broken, or 0
 unfoldable pub tableRefusal : List ℕ → ℕ

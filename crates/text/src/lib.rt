@@ -149,7 +149,11 @@ fn children(s: &[u8], listing: &mut [u8; LISTING_BYTES], at: usize) -> TreesRead
         TreesRead::Trees(_, len, used) => {
             let next = 1 + len;
             match children(&s[next..], listing, at + used) {
-                TreesRead::Trees(count, more, rest) => TreesRead::Trees(count + 1, next + more, used + rest),
+                TreesRead::Trees(count, more, rest) => TreesRead::Trees(
+                    count + 1,
+                    next + more,
+                    used + rest,
+                ),
                 TreesRead::Bad(place) => TreesRead::Bad(next + place),
             }
         }
