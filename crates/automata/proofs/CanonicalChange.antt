@@ -6,7 +6,7 @@ use native.Mathlib.Omega.{arith}
 use lib.Dec.{eqb}
 use borrow.Author.Tests.{eq-eqb}
 use Rattle.automata.specs.Accessible.{accessible, allAccessible}
-use Rattle.automata.specs.Automaton.{Automaton, Transition, accepting, run, states}
+use Rattle.automata.specs.Automaton.{Automaton, Fits, Transition, accepting, run, states}
 use Rattle.automata.specs.Canonical.{Canonical, Equivalent, Occurs, Subtree, eachTree}
 use Rattle.automata.specs.Change.{deleteTree, insertTree}
 use Rattle.automata.specs.Coaccessible.{allCoaccessible, coaccessible}
@@ -23,7 +23,7 @@ use Rattle.automata.proofs.Change.{delete-canonical, insert-canonical}
 use Rattle.automata.proofs.Coaccessible.{useful-coaccessible}
 use Rattle.automata.proofs.Distinguishable.{separated-distinguishable}
 use Rattle.automata.proofs.Minimal.{bool-cases}
-use Rattle.automata.proofs.Steps.{Fits, run-plug}
+use Rattle.automata.proofs.Steps.{run-plug}
 use Rattle.automata.proofs.Unique.{children}
 use Rattle.automata.proofs.Valid.{range-in, ranged-fits}
 use Rattle.lists.proofs.Positions.{upFrom-in}

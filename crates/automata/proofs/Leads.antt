@@ -3,12 +3,12 @@ use mathlib.Core.Bool.{Bool, _&&_, _||_, false, not, true, true≢false}
 use mathlib.Core.List.{List}
 use mathlib.Core.Logic.{_↔_, _⊎_, inl, inr}
 use mathlib.Core.Path.{_∙_, _≡_, refl, subst, sym}
-use Prim.Native.Nat.{_≤_, ℕ}
+use Prim.Native.Nat.{ℕ}
 use native.Mathlib.Omega.{arith}
 use lib.Dec.{eqb, leb}
 use borrow.Author.Tests.{eq-eqb, eqb-true, leb-true, not-true}
-use Rattle.automata.specs.Acyclic.{acyclic, feeds, leads, leadsRule}
-use Rattle.automata.specs.Automaton.{Automaton, Transition, states}
+use Rattle.automata.specs.Acyclic.{Feeds, Leads, acyclic, feeds, leads, leadsRule, more, once}
+use Rattle.automata.specs.Automaton.{Automaton, IsState, states}
 use Rattle.automata.specs.Valid.{inRange, statesInRange}
 use Rattle.lists.specs.Closure.{elem}
 use Rattle.lists.specs.Positions.{Pair, eqPair, grid, upFrom}
@@ -17,15 +17,6 @@ use Rattle.lists.proofs.Closure.{closed, closure-all, elem-in, in-elem}
 use Rattle.lists.proofs.Positions.{eqPair-same, eqPair-true, in-grid, in-upFrom}
 use Rattle.lists.proofs.Tests.{and-both, and-left, and-right, any-in, eqb-same, every-in, in-any, in-every}
 use Rattle.lists.proofs.Tests.{or-cases, or-left, or-right}
-
--- p is an argument of a transition whose output is q
-abbrev pub Feeds : Automaton → ℕ → ℕ → Type 0
-Feeds A p q = (τ : Transition) × (τ ∈ A .transitions) × (p ∈ τ .args) × (τ .out ≡ q)
-
--- one or more such steps come from p to q
-pub data Leads (A : Automaton) : ℕ → ℕ → Type 0 where
-  once : {p q : ℕ} → Feeds A p q → Leads A p q
-  more : {p x q : ℕ} → Leads A p x → Feeds A x q → Leads A p q
 
 -- one step more at the start
 pub leads-before : {A : Automaton} {p q r : ℕ} → Feeds A p q → Leads A q r → Leads A p r
@@ -51,33 +42,29 @@ feeds-iff A p q = (to, from)
         (and-both (eq-eqb q (τ .out) (sym e)) (in-elem eqb eqb-true eqb-same p (τ .args) j))
 
 module _ (A : Automaton) (ranged : statesInRange A ≡ true) where
-  -- q is one of 1 to n
-  abbrev State : ℕ → Type 0
-  State q = (1 ≤ q) × (q ≤ states A)
-
-  in-range : (q : ℕ) → inRange (states A) q ≡ true → State q
+  in-range : (q : ℕ) → inRange (states A) q ≡ true → IsState A q
   in-range q e = (leb-true 1 q (and-left _ _ e), leb-true q (states A) (and-right (leb 1 q) _ e))
 
-  feeds-range : {p q : ℕ} → Feeds A p q → State p × State q
+  feeds-range : {p q : ℕ} → Feeds A p q → IsState A p × IsState A q
   feeds-range {p = p} (τ, i, j, e) =
       let h = every-in (λ τ. every (inRange (states A)) (τ .args) && inRange (states A) (τ .out)) (A .transitions)
       ranged τ i in (
         in-range p (every-in (inRange (states A)) (τ .args) (and-left _ _ h) p j),
-        subst State e (in-range (τ .out) (and-right (every (inRange (states A)) (τ .args)) _ h)),
+        subst (IsState A) e (in-range (τ .out) (and-right (every (inRange (states A)) (τ .args)) _ h)),
       )
 
-  leads-range : {p q : ℕ} → Leads A p q → State p × State q
+  leads-range : {p q : ℕ} → Leads A p q → IsState A p × IsState A q
   leads-range (once f) = feeds-range f
   leads-range (more l f) = (leads-range l .0, feeds-range f .1)
 
   abbrev ns : List ℕ
   ns = upFrom 1 (states A)
 
-  in-states : (q : ℕ) → State q → q ∈ ns
+  in-states : (q : ℕ) → IsState A q → q ∈ ns
   in-states q h = in-upFrom 1 (states A) q (h .0) (omega arith)
 
   -- whatever the rule makes of the marks is marked
-  leads-closed : (p q : ℕ) → State p → State q →
+  leads-closed : (p q : ℕ) → IsState A p → IsState A q →
       (feeds A p q || any (λ x. leads A p x && feeds A x q) ns) ≡ true → leads A p q ≡ true
   unfolding leads leadsRule
   leads-closed p q h k e =

@@ -7,7 +7,8 @@ use Prim.Native.Nat.{_≤_, suc, ℕ}
 use native.Mathlib.Omega.{arith}
 use lib.Dec.{eqb}
 use borrow.Author.Tests.{eqb-false, ne-eqb, not-true}
-use Rattle.automata.specs.Automaton.{Automaton, Transition, accepting, accepts, run, runs, states, step}
+use Rattle.automata.specs.Accessible.{ArgsAccessible}
+use Rattle.automata.specs.Automaton.{Automaton, Fits, Transition, accepting, accepts, run, runs, states, step}
 use Rattle.automata.specs.Canonical.{Canonical, Equivalent, Occurs, Subtree, eachTree, transitionOf}
 use Rattle.automata.specs.ContextRun.{runContext}
 use Rattle.automata.specs.Distinguishable.{distinguishable, distinguishablePairs}
@@ -23,7 +24,7 @@ use Rattle.automata.proofs.Accessible.{forest}
 use Rattle.automata.proofs.Distinguishable.{distinguishable-separated, run-fits, separated-distinguishable}
 use Rattle.automata.proofs.Numbering.{Exhausted, Opened-each}
 use Rattle.automata.proofs.Renumbered.{Grouping, grouping-same, ordered-canonical, renumbered-canonical}
-use Rattle.automata.proofs.Steps.{ArgsAccessible, Fits, Taken, run-plug, runContext-zero, step-view}
+use Rattle.automata.proofs.Steps.{Taken, run-plug, runContext-zero, step-view}
 use Rattle.lists.proofs.Positions.{in-upFrom, upFrom-in}
 use Rattle.lists.proofs.Tests.{filter-in, in-filter, in-map, map-in}
 

@@ -8,6 +8,7 @@ use lib.Dec.{eqb}
 use borrow.Author.Tests.{eq-eqb, eqb-true}
 use Rattle.automata.specs.Automaton.{Transition}
 use Rattle.automata.specs.Product.{Node, concatMap, lists, nodesOf, pairNumber}
+use Rattle.automata.specs.ProductView.{AllIn}
 use Rattle.lists.specs.Positions.{Pair, eqPair}
 use Rattle.lists.specs.Tests.{_∈_, filter}
 use Rattle.lists.proofs.Positions.{eqPair-same, eqPair-true, position-inj}
@@ -27,11 +28,6 @@ module _ {A B : Type 0} where
   in-concatMap f (z ∷ xs) x y (inl e) j = in-append-left (f z) (concatMap f xs) y (rw e at j)
   in-concatMap f (z ∷ xs) x y (inr i) j =
       in-append-right (f z) (concatMap f xs) y (in-concatMap f xs x y i j)
-
--- every pair of the list is in R
-abbrev pub AllIn : List Pair → List Pair → Type 0
-AllIn R [] = Unit {0}
-AllIn R (k ∷ ks) = (k ∈ R) × AllIn R ks
 
 module _ (R : List Pair) (side : Pair → ℕ) where
   pub lists-in : (qs : List ℕ) (ks : List Pair) → ks ∈ lists R side qs → AllIn R ks × (map side ks ≡ qs)

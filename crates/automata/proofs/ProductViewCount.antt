@@ -5,20 +5,17 @@ use mathlib.Core.Path.{_∙_, _≡_, ap, refl, subst, sym}
 use Prim.Native.Nat.{_≤_, ℕ}
 use native.Mathlib.Omega.{arith}
 use lib.ListN.{length, length-map}
-use Rattle.automata.specs.Automaton.{Automaton, Transition}
+use Rattle.automata.specs.Automaton.{Automaton, Fits, Transition}
 use Rattle.automata.specs.Change.{productTransitions, productWith, subtreeAutomaton, subtrees}
 use Rattle.automata.specs.Order.{rising}
 use Rattle.automata.specs.Product.{Node, outPair, productTransition}
+use Rattle.automata.specs.ProductView.{AllIn, NumberedTransition, PairStep, ProductView, pairsWith}
 use Rattle.lists.specs.Positions.{Pair}
-use Rattle.lists.specs.Tests.{_∈_, every}
+use Rattle.lists.specs.Tests.{Distinct, _∈_, every}
 use Rattle.trees.specs.Tree.{Tree}
-use Rattle.automata.proofs.Nodes.{AllIn}
-use Rattle.automata.proofs.ProductLaws.{PairTransition, pairs-exact, pairsWith, product-count}
-use Rattle.automata.proofs.ProductLaws.{product-distinct, product-exact, productTransition-inj}
-use Rattle.automata.proofs.ProductLaws.{rising-distinct}
-use Rattle.automata.proofs.ProductView.{PairStep, ProductView}
-use Rattle.automata.proofs.Steps.{Fits}
-use Rattle.lists.proofs.Distinct.{Distinct, distinct-length, map-distinct}
+use Rattle.automata.proofs.ProductLaws.{pairs-exact, product-count, product-distinct, product-exact}
+use Rattle.automata.proofs.ProductLaws.{productTransition-inj, rising-distinct}
+use Rattle.lists.proofs.Distinct.{distinct-length, map-distinct}
 use Rattle.lists.proofs.Tests.{and-both, and-left, and-right, in-map, map-in}
 
 -- lists of numbers in use are separated by their pairs
@@ -113,7 +110,7 @@ module _ (A : Automaton) (fit : Fits A) (t : Tree) (δ : ℕ → Pair) (acc : �
     unfolding original
     original-onto τ i = go (product-exact A fit t (λ k. true) τ .0 i)
       where
-        go : PairTransition A t τ → τ ∈ map original (P .transitions)
+        go : NumberedTransition A t τ → τ ∈ map original (P .transitions)
         go (a, ks, h, o, e) = numbered (pairs-numbered R δ acc (W .complete) ks h)
           where
             numbered : (ps : List ℕ) × (every acc ps ≡ true) × (map δ ps ≡ ks) → τ ∈ map original (P .transitions)

@@ -6,8 +6,8 @@ use Prim.Native.Nat.{_≤_, suc, zero, ℕ}
 use native.Mathlib.Omega.{arith}
 use lib.Dec.{eqb, leb}
 use borrow.Author.Tests.{eqb-true, le-leb, leb-true}
-use Rattle.automata.specs.Accessible.{accessible}
-use Rattle.automata.specs.Automaton.{Automaton, Transition, accepting, accepts, run, runs, states, step}
+use Rattle.automata.specs.Accessible.{ArgsAccessible, accessible}
+use Rattle.automata.specs.Automaton.{Automaton, Fits, Transition, accepting, accepts, run, runs, states, step}
 use Rattle.automata.specs.Canonical.{Canonical, Equivalent, Occurs, Subtree, eachTree, transitionOf}
 use Rattle.automata.specs.Coaccessible.{coaccessible}
 use Rattle.automata.specs.ContextRun.{runContext}
@@ -22,7 +22,7 @@ use Rattle.automata.proofs.Distinguishable.{run-fits}
 use Rattle.automata.proofs.Minimal.{EquivalentStates, equivalent-indistinguishable, equivalent-states}
 use Rattle.automata.proofs.Minimal.{states-equivalent}
 use Rattle.automata.proofs.Order.{lookup-transition}
-use Rattle.automata.proofs.Steps.{ArgsAccessible, Fits, Taken, run-plug, runContext-zero, step-view}
+use Rattle.automata.proofs.Steps.{Taken, run-plug, runContext-zero, step-view}
 use Rattle.lists.proofs.Positions.{in-upFrom}
 use Rattle.lists.proofs.Tests.{and-both, and-left, and-right, every-in, in-every, none-zero, or-cases}
 

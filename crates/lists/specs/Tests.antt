@@ -13,6 +13,11 @@ module _ {A : Type 0} where
   x ∈ [] = ⊥
   x ∈ (y ∷ ys) = (x ≡ y) ⊎ (x ∈ ys)
 
+  -- no element stands twice in the list
+  abbrev pub Distinct : List A → Type 0
+  Distinct [] = Unit {0}
+  Distinct (x ∷ xs) = (x ∈ xs → ⊥) × Distinct xs
+
   -- every element passes the test
   abbrev pub every : (A → Bool) → List A → Bool
   every p [] = true
