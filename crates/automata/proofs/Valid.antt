@@ -6,12 +6,14 @@ use Prim.Native.Nat.{_≤_, suc, zero, ℕ}
 use native.Mathlib.Omega.{arith}
 use lib.Dec.{eqb, leb}
 use borrow.Author.Tests.{eqb-true, le-leb, leb-true}
-use Rattle.automata.specs.Accessible.{ArgsAccessible, accessible}
-use Rattle.automata.specs.Automaton.{Automaton, Fits, Transition, accepting, accepts, run, runs, states, step}
+use Rattle.automata.specs.Accessible.{ArgsAccessible, accessible, allAccessible}
+use Rattle.automata.specs.Automaton.{Automaton, Fits, IsState, Transition, accepting, accepts, run, runs}
+use Rattle.automata.specs.Automaton.{states, step}
 use Rattle.automata.specs.Canonical.{Canonical, Equivalent, Occurs, Subtree, eachTree, transitionOf}
 use Rattle.automata.specs.Coaccessible.{coaccessible}
 use Rattle.automata.specs.ContextRun.{runContext}
 use Rattle.automata.specs.Distinguishable.{distinguishable}
+use Rattle.automata.specs.Order.{rising}
 use Rattle.automata.specs.Valid.{Valid, inRange, statesInRange}
 use Rattle.lists.specs.Positions.{upFrom}
 use Rattle.lists.specs.Tests.{_∈_, every}
@@ -55,21 +57,27 @@ pub each-runs : (A : Automaton) (f : Forest) → runs A f ≡ eachTree (run A) f
 each-runs A nil = refl
 each-runs A (cons t f) = rw (each-runs A f)
 
+-- conditions 7 to 9: each state has a tree, and so has each argument of a transition
+module _ (A : Automaton) (ranged : statesInRange A ≡ true) (rises : rising (A .transitions) ≡ true)
+    (reached : allAccessible A ≡ true) where
+  pub state-tree : (q : ℕ) → IsState A q → (t : Tree) × (run A t ≡ q)
+  state-tree q (h, l) =
+      accessible-tree A rises q
+      (every-in (accessible A) (upFrom 1 (states A)) reached q (in-upFrom 1 (states A) q h (omega arith)))
+
+  pub args-accessible : (τ : Transition) → τ ∈ A .transitions → (q : ℕ) → q ∈ τ .args →
+      (1 ≤ q) × ((t : Tree) × (run A t ≡ q))
+  args-accessible τ i q j = let r = ranged-transition A ranged τ i .args q j in (r .0, state-tree q r)
+
 module _ (A : Automaton) (X : Valid A) where
   fit : Fits A
   fit = ranged-fits A (X .ranged)
 
-  tree : (q : ℕ) → 1 ≤ q → q ≤ states A → (t : Tree) × (run A t ≡ q)
-  tree q h l =
-      accessible-tree A (X .rises) q
-      (every-in (accessible A) (upFrom 1 (states A)) (X .reached) q (in-upFrom 1 (states A) q h (omega arith)))
-
-  args-accessible : (τ : Transition) → τ ∈ A .transitions → (q : ℕ) → q ∈ τ .args →
-      (1 ≤ q) × ((t : Tree) × (run A t ≡ q))
-  args-accessible τ i q j = let r = ranged-transition A (X .ranged) τ i .args q j in (r .0, tree q (r .0) (r .1))
+  args : (τ : Transition) → τ ∈ A .transitions → (q : ℕ) → q ∈ τ .args → (1 ≤ q) × ((t : Tree) × (run A t ≡ q))
+  args = args-accessible A (X .ranged) (X .rises) (X .reached)
 
   all : ArgsAccessible A
-  all τ i q j = args-accessible τ i q j .1
+  all τ i q j = args τ i q j .1
 
   abbrev S : Tree → Bool
   S = accepts A
@@ -87,7 +95,7 @@ module _ (A : Automaton) (X : Valid A) where
 
   run-subtree : (t : Tree) → 1 ≤ run A t → Subtree S t
   run-subtree t h =
-      let (c, e) = coaccessible-useful A (X .rises) args-accessible (run A t)
+      let (c, e) = coaccessible-useful A (X .rises) args (run A t)
       (every-in (coaccessible A) (upFrom 1 (states A)) (X .used) (run A t) (in-states t h)) in
       (c, ap (accepting A) (run-plug A c t) ∙ e)
 
@@ -119,7 +127,7 @@ module _ (A : Automaton) (X : Valid A) where
     where
       go : (f : Forest) × (runs A f ≡ τ .args) → Occurs S (run A) τ
       go (f, v) =
-          let z = none-zero (τ .args) (λ q j. args-accessible τ i q j .0) in
+          let z = none-zero (τ .args) (λ q j. args τ i q j .0) in
           let o : run A (node (τ .label) f) ≡ τ .out = rw (v, z) (lookup-transition (A .transitions) (X .rises) τ i) in
           let d = sym v ∙ each-runs A f in (
             τ .label,
@@ -135,7 +143,7 @@ module _ (A : Automaton) (X : Valid A) where
     joins = joined;
     separates = λ t u p q e. states-equivalent A fit all t u (λ c. ap (λ (x : ℕ). accepting A (runContext A c x)) e);
     range = λ t p. (subtree-run t p, run-fits A fit t);
-    onto = λ q h l. let (t, e) = tree q h l in (t, run-subtree t (omega arith), e);
+    onto = λ q h l. let (t, e) = state-tree A (X .ranged) (X .rises) (X .reached) q (h, l) in (t, run-subtree t (omega arith), e);
     classed = λ t p. refl;
     occurs = occurs;
     only = only;

@@ -1,10 +1,11 @@
 -- Membership in a list, and tests over lists that compute.
 use mathlib.Core.Bool.{Bool, _&&_, _||_, cond, false, true}
 use mathlib.Core.List.{List, [], _∷_}
-use mathlib.Core.Logic.{_⊎_}
+use mathlib.Core.Logic.{_↔_, _⊎_}
 use mathlib.Core.Path.{_≡_}
 use Prim.Native.Nat.{ℕ}
 use lib.Dec.{eqb}
+use lib.ListN.{length}
 
 module _ {A : Type 0} where
   -- x stands in the list
@@ -17,6 +18,17 @@ module _ {A : Type 0} where
   abbrev pub Distinct : List A → Type 0
   Distinct [] = Unit {0}
   Distinct (x ∷ xs) = (x ∈ xs → ⊥) × Distinct xs
+
+  -- the list holds exactly the elements that have the property, none twice
+  pub record Exactly (P : A → Type 0) (L : List A) : Type 0 where
+    pub once : Distinct L
+    pub members : (x : A) → (x ∈ L) ↔ P x
+
+  -- n elements have the property: some list holds exactly them, none twice, and every such list has length n
+  pub record Counts (P : A → Type 0) (n : ℕ) : Type 0 where
+    pub list : List A
+    pub exactly : Exactly P list
+    pub every-length : (L : List A) → Exactly P L → length L ≡ n
 
   -- every element passes the test
   abbrev pub every : (A → Bool) → List A → Bool

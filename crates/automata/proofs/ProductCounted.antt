@@ -1,0 +1,255 @@
+-- The number of transitions of a product is the number of pair transitions in 01's words.
+use mathlib.Core.Bool.{Bool, cond, false, true, true≢false}
+use mathlib.Core.List.{List, [], _∷_, map}
+use mathlib.Core.Logic.{inl, inr}
+use mathlib.Core.Option.{Option, none, some}
+use mathlib.Core.Path.{_∙_, _≡_, ap, refl, subst, sym}
+use Prim.Native.Nat.{suc, zero, ℕ}
+use native.Mathlib.Omega.{arith}
+use lib.ListN.{getD, length}
+use Rattle.automata.specs.Automaton.{Automaton, Fits, Transition, run}
+use Rattle.automata.specs.Change.{productTransitions, productWith, subtreeAutomaton, subtreeNumber, subtrees}
+use Rattle.automata.specs.Product.{Node, live, outPair, productTransition}
+use Rattle.automata.specs.ProductView.{AllIn, NumberedTransition, pairsWith}
+use Rattle.automata.specs.TreePairs.{InProduct, IsPair, PairTransition, TreePair, pairOf, pairsOf}
+use Rattle.lists.specs.Closure.{elem}
+use Rattle.lists.specs.Positions.{Pair, eqPair}
+use Rattle.lists.specs.Tests.{Counts, Distinct, Exactly, _∈_}
+use Rattle.trees.specs.Tree.{Forest, Tree, cons, eqTree, nil, node}
+use Rattle.automata.proofs.Change.{subtrees-closed}
+use Rattle.automata.proofs.PairRuns.{both, out-run}
+use Rattle.automata.proofs.ProductLaws.{pairs-exact, product-count, product-distinct, product-exact}
+use Rattle.automata.proofs.ProductLaws.{productTransition-inj}
+use Rattle.automata.proofs.Subtrees.{run-subtree}
+use Rattle.lists.proofs.Closure.{elem-in, in-elem}
+use Rattle.lists.proofs.Distinct.{mapped-length, unmap-distinct}
+use Rattle.lists.proofs.Positions.{eqPair-true, position-at, position-in, position-none}
+use Rattle.lists.proofs.Positions.{position-pos}
+use Rattle.lists.proofs.Tests.{in-map, map-in}
+use Rattle.trees.proofs.Trees.{eqTree-same, eqTree-true}
+
+module _ (t : Tree) where
+  -- a tree's number among the subtrees, and the subtree that has a number
+  abbrev number : Option Tree → ℕ
+  number none = 0
+  number (some u) = subtreeNumber (subtrees t) u
+
+  abbrev numbered : ℕ → Option Tree
+  numbered zero = none
+  numbered (suc i) = some (getD (subtrees t) i t)
+
+  abbrev toPair : TreePair → Pair
+  toPair k = (k .0, number (k .1))
+
+  number-of : (u : Tree) →
+      number (cond (elem eqTree u (subtrees t)) (some u) none) ≡ subtreeNumber (subtrees t) u
+  number-of u = go (elem eqTree u (subtrees t)) refl
+    where
+      go : (b : Bool) → elem eqTree u (subtrees t) ≡ b →
+          number (cond b (some u) none) ≡ subtreeNumber (subtrees t) u
+      go true e = refl
+      go false e =
+          sym (position-none eqTree eqTree-true eqTree-same (subtrees t) u
+          (λ i. true≢false (sym (in-elem eqTree eqTree-true eqTree-same u (subtrees t) i) ∙ e)))
+
+  numbered-of : (u : Tree) →
+      numbered (subtreeNumber (subtrees t) u) ≡ cond (elem eqTree u (subtrees t)) (some u) none
+  numbered-of u = go (subtreeNumber (subtrees t) u) refl (elem eqTree u (subtrees t)) refl
+    where
+      go : (n : ℕ) → subtreeNumber (subtrees t) u ≡ n → (b : Bool) → elem eqTree u (subtrees t) ≡ b →
+          numbered n ≡ cond b (some u) none
+      go zero e true f =
+          absurd (omega (
+            arith,
+            position-pos eqTree eqTree-true eqTree-same (subtrees t) u
+                (elem-in eqTree eqTree-true eqTree-same u (subtrees t) f),
+          ))
+      go zero e false f = refl
+      go (suc i) e true f = ap some (position-at eqTree eqTree-true eqTree-same (subtrees t) u t i e .1)
+      go (suc i) e false f =
+          absurd (true≢false
+          (sym (in-elem eqTree eqTree-true eqTree-same u (subtrees t)
+          (position-in eqTree eqTree-true eqTree-same (subtrees t) u (omega arith)))
+          ∙ f))
+
+  module _ (A : Automaton) (fit : Fits A) where
+    abbrev B : Automaton
+    B = subtreeAutomaton (subtrees t)
+
+    abbrev R : List Pair
+    R = pairsWith A t
+
+    -- the pair of a tree in numbers, and back
+    to-pair : (u : Tree) → _≡_ {A = Pair} (toPair (pairOf A t u)) (run A u, subtreeNumber (subtrees t) u)
+    to-pair u = let e = number-of u in λ i. (run A u, e i)
+
+    of-pair : (u : Tree) (k : Pair) → toPair (pairOf A t u) ≡ k →
+        _≡_ {A = TreePair} (pairOf A t u) (k .0, numbered (k .1))
+    of-pair u k e =
+        let d = sym (numbered-of u) ∙ ap numbered (sym (number-of u)) in
+        (λ i. (run A u, d i)) ∙ ap (λ (k : Pair). (k .0, numbered (k .1))) e
+
+    to-pair-inj : (j k : TreePair) → IsPair A t j → IsPair A t k → toPair j ≡ toPair k → j ≡ k
+    to-pair-inj j k (_, (u, d)) (_, (v, e)) s =
+        sym d ∙ of-pair u (toPair k) (ap toPair d ∙ s) ∙ sym (of-pair v (toPair k) (ap toPair e)) ∙ e
+
+    not-none : (k : TreePair) → IsPair A t k → live (toPair k) ≡ true
+    not-none k (ne, (u, e)) = go (eqPair (toPair k) (0, 0)) refl
+      where
+        go : (b : Bool) → eqPair (toPair k) (0, 0) ≡ b → live (toPair k) ≡ true
+        go true h = absurd (ne (sym e ∙ of-pair u (0, 0) (ap toPair e ∙ eqPair-true (toPair k) (0, 0) h)))
+        go false h = rw h
+
+    is-pair : (k : TreePair) → IsPair A t k → toPair k ∈ R
+    is-pair k p = pairs-exact A fit t (toPair k) .1
+        (not-none k p, (p .1 .0, sym (to-pair (p .1 .0)) ∙ ap toPair (p .1 .1)))
+
+    pair-is : (u : Tree) → toPair (pairOf A t u) ∈ R → IsPair A t (pairOf A t u)
+    pair-is u i = (
+      λ e. true≢false (sym (pairs-exact A fit t (toPair (pairOf A t u)) .0 i .0) ∙ ap (λ k. live (toPair k)) e),
+      (u, refl),
+    )
+
+    -- the pairs of trees in numbers
+    to-pairs : (f : Forest) → map toPair (pairsOf A t f) ≡ both A B f
+    to-pairs nil = refl
+    to-pairs (cons u f) =
+        let e = run-subtree (subtrees t) (subtrees-closed t) u in
+        let d : _≡_ {A = Pair} (toPair (pairOf A t u)) (run A u, run B u) = to-pair u ∙ (λ i. (run A u, sym e i)) in
+        cc (d, to-pairs f)
+
+    node-pair : (a : ℕ) (f : Forest) → outPair A B (a, map toPair (pairsOf A t f)) ≡ toPair (pairOf A t (node a f))
+    node-pair a f =
+        let e = run-subtree (subtrees t) (subtrees-closed t) (node a f) in
+        ap (λ (ks : List Pair). outPair A B (a, ks)) (to-pairs f) ∙ out-run A B a f
+        ∙ (λ i. (run A (node a f), e i)) ∙ sym (to-pair (node a f))
+
+    all-pairs : (ks : List TreePair) → ((k : TreePair) → k ∈ ks → IsPair A t k) → AllIn R (map toPair ks)
+    all-pairs [] h = tt
+    all-pairs (k ∷ ks) h = (is-pair k (h k (inl refl)), all-pairs ks (λ j i. h j (inr i)))
+
+    each-pair : (f : Forest) → AllIn R (map toPair (pairsOf A t f)) → (k : TreePair) → k ∈ pairsOf A t f → IsPair A t k
+    each-pair (cons u f) h k (inl e) = subst (IsPair A t) (sym e) (pair-is u (h .0))
+    each-pair (cons u f) h k (inr i) = each-pair f (h .1) k i
+
+    -- trees for pairs in numbers
+    trees-of : (ks : List Pair) → AllIn R ks → (f : Forest) × (map toPair (pairsOf A t f) ≡ ks)
+    trees-of [] h = (nil, refl)
+    trees-of (k ∷ ks) h =
+        let (_, (u, e)) = pairs-exact A fit t k .0 (h .0) in
+        let (f, d) = trees-of ks (h .1) in
+        (cons u f, cc (to-pair u ∙ e, d))
+
+    pairs-inj : (js ks : List TreePair) → ((k : TreePair) → k ∈ js → IsPair A t k) →
+        ((k : TreePair) → k ∈ ks → IsPair A t k) → map toPair js ≡ map toPair ks → js ≡ ks
+    pairs-inj [] [] g h e = refl
+    pairs-inj [] (k ∷ ks) g h e = let z : _≡_ {A = ℕ} 0 1 = cc in absurd (omega arith)
+    pairs-inj (j ∷ js) [] g h e = let z : _≡_ {A = ℕ} 0 1 = cc in absurd (omega arith)
+    pairs-inj (j ∷ js) (k ∷ ks) g h e =
+        let u : toPair j ≡ toPair k = cc in
+        let v : map toPair js ≡ map toPair ks = cc in
+        cc (
+          to-pair-inj j k (g j (inl refl)) (h k (inl refl)) u,
+          pairs-inj js ks (λ x i. g x (inr i)) (λ x i. h x (inr i)) v,
+        )
+
+    -- ---- the transitions
+
+    abbrev T : List Transition
+    T = productWith (λ k. true) A t .transitions
+
+    -- the transition in numbers
+    abbrev inNumbers : PairTransition → Transition
+    inNumbers τ = productTransition A B R (τ .label, map toPair (τ .args))
+
+    out-pair : (τ : PairTransition) → InProduct A t τ →
+        outPair A B (τ .label, map toPair (τ .args)) ≡ toPair (τ .out)
+    out-pair τ p =
+        ap (λ (ks : List TreePair). outPair A B (τ .label, map toPair ks)) (sym (p .runs))
+        ∙ node-pair (τ .label) (p .children) ∙ ap toPair (p .top)
+
+    numbers-inj : (σ τ : PairTransition) → InProduct A t σ → InProduct A t τ → inNumbers σ ≡ inNumbers τ → σ ≡ τ
+    numbers-inj σ τ p q e =
+        let c = productTransition-inj A B R (σ .label, map toPair (σ .args)) (τ .label, map toPair (τ .args))
+        (all-pairs (σ .args) (p .pairs)) e in
+        let l = ap (λ (c : Node). c .0) c in
+        let a = pairs-inj (σ .args) (τ .args) (p .pairs) (q .pairs) (ap (λ (c : Node). c .1) c) in
+        let o = to-pair-inj (σ .out) (τ .out) (p .pair) (q .pair)
+        (sym (out-pair σ p) ∙ ap (outPair A B) c ∙ out-pair τ q) in
+        λ i. record { label = l i; args = a i; out = o i }
+
+    numbers-in : (τ : PairTransition) → InProduct A t τ → inNumbers τ ∈ T
+    numbers-in τ p =
+        product-exact A fit t (λ k. true) (inNumbers τ) .1 (
+          τ .label,
+          map toPair (τ .args),
+          all-pairs (τ .args) (p .pairs),
+          subst (λ (k : Pair). k ∈ R) (sym (out-pair τ p)) (is-pair (τ .out) (p .pair)),
+          refl,
+        )
+
+    in-numbers : (τ : Transition) → τ ∈ T → (σ : PairTransition) × InProduct A t σ × (τ ≡ inNumbers σ)
+    in-numbers τ i = go (product-exact A fit t (λ k. true) τ .0 i)
+      where
+        go : NumberedTransition A t τ → (σ : PairTransition) × InProduct A t σ × (τ ≡ inNumbers σ)
+        go (a, ks, all, o, e) =
+            let (f, d) = trees-of ks all in
+            let out = subst (λ (k : Pair). k ∈ R) (node-pair a f)
+            (subst (λ (js : List Pair). outPair A B (a, js) ∈ R) (sym d) o) in (
+              record { label = a; args = pairsOf A t f; out = pairOf A t (node a f) },
+              record {
+                pairs = each-pair f (subst (AllIn R) (sym d) all);
+                pair = pair-is (node a f) out;
+                children = f;
+                runs = refl;
+                top = refl;
+              },
+              e ∙ ap (λ (js : List Pair). productTransition A B R (a, js)) (sym d),
+            )
+
+    -- pair transitions for transitions in numbers
+    pairs-for : (τs : List Transition) → ((τ : Transition) → τ ∈ τs → τ ∈ T) →
+        (L : List PairTransition) × (map inNumbers L ≡ τs) × ((σ : PairTransition) → σ ∈ L → InProduct A t σ)
+    pairs-for [] h = ([], refl, λ σ i. absurd i)
+    pairs-for (τ ∷ τs) h =
+        let (σ, p, e) = in-numbers τ (h τ (inl refl)) in
+        let (L, d, all) = pairs-for τs (λ υ i. h υ (inr i)) in
+        (σ ∷ L, cc (e, d), also L all σ p)
+      where
+        also : (L : List PairTransition) → ((σ : PairTransition) → σ ∈ L → InProduct A t σ) → (σ : PairTransition) →
+            InProduct A t σ → (υ : PairTransition) → υ ∈ (σ ∷ L) → InProduct A t υ
+        also L all σ p υ (inl e) = subst (InProduct A t) (sym e) p
+        also L all σ p υ (inr i) = all υ i
+
+    -- 01, refusal 16: the number of the pair automaton's transitions
+    pub product-counted : Counts (InProduct A t) (productTransitions A t)
+    product-counted = counted (pairs-for T (λ τ i. i))
+      where
+        every : (L : List PairTransition) → Exactly (InProduct A t) L → length L ≡ productTransitions A t
+        every L x =
+            mapped-length inNumbers L T (x .once) (product-distinct (λ k. true) A t)
+            (λ σ τ i j e. numbers-inj σ τ (x .members σ .0 i) (x .members τ .0 j) e)
+            (λ τ i. numbers-in τ (x .members τ .0 i)) onto
+            ∙ product-count (λ k. true) A t
+          where
+            onto : (τ : Transition) → τ ∈ T → τ ∈ map inNumbers L
+            onto τ i = let (σ, p, e) = in-numbers τ i in
+                subst (λ (υ : Transition). υ ∈ map inNumbers L) (sym e) (in-map inNumbers L σ (x .members σ .1 p))
+
+        counted : (L : List PairTransition) × (map inNumbers L ≡ T) ×
+            ((σ : PairTransition) → σ ∈ L → InProduct A t σ) → Counts (InProduct A t) (productTransitions A t)
+        counted (L, d, all) = record {
+          list = L;
+          exactly = record {
+            once = unmap-distinct inNumbers L
+                (subst (λ (τs : List Transition). Distinct τs) (sym d) (product-distinct (λ k. true) A t));
+            members = λ τ. (all τ, back τ);
+          };
+          every-length = every;
+        }
+          where
+            back : (τ : PairTransition) → InProduct A t τ → τ ∈ L
+            back τ p =
+                let (σ, i, e) = map-in inNumbers L (inNumbers τ)
+                (subst (λ (τs : List Transition). inNumbers τ ∈ τs) (sym d) (numbers-in τ p)) in
+                subst (λ (υ : PairTransition). υ ∈ L) (sym (numbers-inj τ σ p (all σ i) e)) i
