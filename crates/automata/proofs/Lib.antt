@@ -25,8 +25,8 @@ pub mod Bounded
 pub mod BoundedChange
 pub mod Legal
 pub mod ProductLaws
-pub mod ProductCounted
 pub mod ProductBound
+pub mod ProductCounted
 pub mod ProductView
 pub mod ProductViewCount
 pub mod Leads

@@ -243,7 +243,7 @@ module _ (A : Automaton) (fit : Fits A)
   quotient-canonical =
       same-quotient-canonical (quotient A (distinguishablePairs A)) (λ τ i. i) (λ τ i. i)
 
-  pub minimal-canonical : Canonical S (minimal A)
+  pub minimal-canonical : Canonical (accepts A) (minimal A)
   unfolding minimal
   minimal-canonical =
       renumbered-canonical S groupOf (quotient A (distinguishablePairs A)) grouped (accepting A) group-accepting

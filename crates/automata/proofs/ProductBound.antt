@@ -27,7 +27,7 @@ use Rattle.lists.proofs.Positions.{eqPair-same, eqPair-true, in-upFrom, positio
 use Rattle.lists.proofs.Tests.{map-in}
 use Rattle.trees.proofs.Trees.{eqTree-same, eqTree-true}
 
-pairs-distinct : (A B : Automaton) → Distinct (accessiblePairs A B)
+pub pairs-distinct : (A B : Automaton) → Distinct (accessiblePairs A B)
 unfolding accessiblePairs livePairs
 pairs-distinct A B =
     closure-distinct eqPair eqPair-true eqPair-same (pairRule A B) (livePairs A B)

@@ -1,4 +1,4 @@
--- The number of transitions of a product is the number of pair transitions in 01's words.
+-- The numbers of pairs and of transitions of a product are those of the pairs and pair transitions in 01's words.
 use mathlib.Core.Bool.{Bool, cond, false, true, true≢false}
 use mathlib.Core.List.{List, [], _∷_, map}
 use mathlib.Core.Logic.{inl, inr}
@@ -6,26 +6,26 @@ use mathlib.Core.Option.{Option, none, some}
 use mathlib.Core.Path.{_∙_, _≡_, ap, refl, subst, sym}
 use Prim.Native.Nat.{suc, zero, ℕ}
 use native.Mathlib.Omega.{arith}
-use lib.ListN.{getD, length}
+use lib.ListN.{getD}
 use Rattle.automata.specs.Automaton.{Automaton, Fits, Transition, run}
-use Rattle.automata.specs.Change.{productTransitions, productWith, subtreeAutomaton, subtreeNumber, subtrees}
+use Rattle.automata.specs.Change.{productPairs, productTransitions, productWith, subtreeAutomaton, subtreeNumber, subtrees}
 use Rattle.automata.specs.Product.{Node, live, outPair, productTransition}
 use Rattle.automata.specs.ProductView.{AllIn, NumberedTransition, pairsWith}
 use Rattle.automata.specs.TreePairs.{InProduct, IsPair, PairTransition, TreePair, pairOf, pairsOf}
 use Rattle.lists.specs.Closure.{elem}
 use Rattle.lists.specs.Positions.{Pair, eqPair}
-use Rattle.lists.specs.Tests.{Counts, Distinct, Exactly, _∈_}
+use Rattle.lists.specs.Tests.{Counts, _∈_}
 use Rattle.trees.specs.Tree.{Forest, Tree, cons, eqTree, nil, node}
 use Rattle.automata.proofs.Change.{subtrees-closed}
 use Rattle.automata.proofs.PairRuns.{both, out-run}
-use Rattle.automata.proofs.ProductLaws.{pairs-exact, product-count, product-distinct, product-exact}
+use Rattle.automata.proofs.ProductBound.{pairs-distinct}
+use Rattle.automata.proofs.ProductLaws.{pairs-exact, product-distinct, product-exact}
 use Rattle.automata.proofs.ProductLaws.{productTransition-inj}
 use Rattle.automata.proofs.Subtrees.{run-subtree}
 use Rattle.lists.proofs.Closure.{elem-in, in-elem}
-use Rattle.lists.proofs.Distinct.{mapped-length, unmap-distinct}
+use Rattle.lists.proofs.Counts.{counts-mapped}
 use Rattle.lists.proofs.Positions.{eqPair-true, position-at, position-in, position-none}
 use Rattle.lists.proofs.Positions.{position-pos}
-use Rattle.lists.proofs.Tests.{in-map, map-in}
 use Rattle.trees.proofs.Trees.{eqTree-same, eqTree-true}
 
 module _ (t : Tree) where
@@ -153,6 +153,17 @@ module _ (t : Tree) where
           pairs-inj js ks (λ x i. g x (inr i)) (λ x i. h x (inr i)) v,
         )
 
+    -- 01: the number of pairs
+    pub pairs-counted : Counts (IsPair A t) (productPairs A t)
+    unfolding productPairs
+    pairs-counted = counts-mapped toPair (IsPair A t) R (pairs-distinct A B) to-pair-inj is-pair from
+      where
+        from : (k : Pair) → k ∈ R → (j : TreePair) × IsPair A t j × (k ≡ toPair j)
+        from k i =
+            let (_, (u, e)) = pairs-exact A fit t k .0 i in
+            let d = to-pair u ∙ e in
+            (pairOf A t u, pair-is u (subst (λ (j : Pair). j ∈ R) (sym d) i), sym d)
+
     -- ---- the transitions
 
     abbrev T : List Transition
@@ -162,20 +173,20 @@ module _ (t : Tree) where
     abbrev inNumbers : PairTransition → Transition
     inNumbers τ = productTransition A B R (τ .label, map toPair (τ .args))
 
-    out-pair : (τ : PairTransition) → InProduct A t τ →
+    out-of : (τ : PairTransition) → InProduct A t τ →
         outPair A B (τ .label, map toPair (τ .args)) ≡ toPair (τ .out)
-    out-pair τ p =
-        ap (λ (ks : List TreePair). outPair A B (τ .label, map toPair ks)) (sym (p .runs))
-        ∙ node-pair (τ .label) (p .children) ∙ ap toPair (p .top)
+    out-of τ p =
+        ap (λ (ks : List TreePair). outPair A B (τ .label, map toPair ks)) (sym (p .trees-run))
+        ∙ node-pair (τ .label) (p .trees) ∙ ap toPair (p .made-runs)
 
     numbers-inj : (σ τ : PairTransition) → InProduct A t σ → InProduct A t τ → inNumbers σ ≡ inNumbers τ → σ ≡ τ
     numbers-inj σ τ p q e =
         let c = productTransition-inj A B R (σ .label, map toPair (σ .args)) (τ .label, map toPair (τ .args))
-        (all-pairs (σ .args) (p .pairs)) e in
+        (all-pairs (σ .args) (p .args-pairs)) e in
         let l = ap (λ (c : Node). c .0) c in
-        let a = pairs-inj (σ .args) (τ .args) (p .pairs) (q .pairs) (ap (λ (c : Node). c .1) c) in
-        let o = to-pair-inj (σ .out) (τ .out) (p .pair) (q .pair)
-        (sym (out-pair σ p) ∙ ap (outPair A B) c ∙ out-pair τ q) in
+        let a = pairs-inj (σ .args) (τ .args) (p .args-pairs) (q .args-pairs) (ap (λ (c : Node). c .1) c) in
+        let o = to-pair-inj (σ .out) (τ .out) (p .out-pair) (q .out-pair)
+        (sym (out-of σ p) ∙ ap (outPair A B) c ∙ out-of τ q) in
         λ i. record { label = l i; args = a i; out = o i }
 
     numbers-in : (τ : PairTransition) → InProduct A t τ → inNumbers τ ∈ T
@@ -183,8 +194,8 @@ module _ (t : Tree) where
         product-exact A fit t (λ k. true) (inNumbers τ) .1 (
           τ .label,
           map toPair (τ .args),
-          all-pairs (τ .args) (p .pairs),
-          subst (λ (k : Pair). k ∈ R) (sym (out-pair τ p)) (is-pair (τ .out) (p .pair)),
+          all-pairs (τ .args) (p .args-pairs),
+          subst (λ (k : Pair). k ∈ R) (sym (out-of τ p)) (is-pair (τ .out) (p .out-pair)),
           refl,
         )
 
@@ -198,58 +209,17 @@ module _ (t : Tree) where
             (subst (λ (js : List Pair). outPair A B (a, js) ∈ R) (sym d) o) in (
               record { label = a; args = pairsOf A t f; out = pairOf A t (node a f) },
               record {
-                pairs = each-pair f (subst (AllIn R) (sym d) all);
-                pair = pair-is (node a f) out;
-                children = f;
-                runs = refl;
-                top = refl;
+                args-pairs = each-pair f (subst (AllIn R) (sym d) all);
+                out-pair = pair-is (node a f) out;
+                trees = f;
+                trees-run = refl;
+                made-runs = refl;
               },
               e ∙ ap (λ (js : List Pair). productTransition A B R (a, js)) (sym d),
             )
 
-    -- pair transitions for transitions in numbers
-    pairs-for : (τs : List Transition) → ((τ : Transition) → τ ∈ τs → τ ∈ T) →
-        (L : List PairTransition) × (map inNumbers L ≡ τs) × ((σ : PairTransition) → σ ∈ L → InProduct A t σ)
-    pairs-for [] h = ([], refl, λ σ i. absurd i)
-    pairs-for (τ ∷ τs) h =
-        let (σ, p, e) = in-numbers τ (h τ (inl refl)) in
-        let (L, d, all) = pairs-for τs (λ υ i. h υ (inr i)) in
-        (σ ∷ L, cc (e, d), also L all σ p)
-      where
-        also : (L : List PairTransition) → ((σ : PairTransition) → σ ∈ L → InProduct A t σ) → (σ : PairTransition) →
-            InProduct A t σ → (υ : PairTransition) → υ ∈ (σ ∷ L) → InProduct A t υ
-        also L all σ p υ (inl e) = subst (InProduct A t) (sym e) p
-        also L all σ p υ (inr i) = all υ i
-
     -- 01, refusal 16: the number of the pair automaton's transitions
     pub product-counted : Counts (InProduct A t) (productTransitions A t)
-    product-counted = counted (pairs-for T (λ τ i. i))
-      where
-        every : (L : List PairTransition) → Exactly (InProduct A t) L → length L ≡ productTransitions A t
-        every L x =
-            mapped-length inNumbers L T (x .once) (product-distinct (λ k. true) A t)
-            (λ σ τ i j e. numbers-inj σ τ (x .members σ .0 i) (x .members τ .0 j) e)
-            (λ τ i. numbers-in τ (x .members τ .0 i)) onto
-            ∙ product-count (λ k. true) A t
-          where
-            onto : (τ : Transition) → τ ∈ T → τ ∈ map inNumbers L
-            onto τ i = let (σ, p, e) = in-numbers τ i in
-                subst (λ (υ : Transition). υ ∈ map inNumbers L) (sym e) (in-map inNumbers L σ (x .members σ .1 p))
-
-        counted : (L : List PairTransition) × (map inNumbers L ≡ T) ×
-            ((σ : PairTransition) → σ ∈ L → InProduct A t σ) → Counts (InProduct A t) (productTransitions A t)
-        counted (L, d, all) = record {
-          list = L;
-          exactly = record {
-            once = unmap-distinct inNumbers L
-                (subst (λ (τs : List Transition). Distinct τs) (sym d) (product-distinct (λ k. true) A t));
-            members = λ τ. (all τ, back τ);
-          };
-          every-length = every;
-        }
-          where
-            back : (τ : PairTransition) → InProduct A t τ → τ ∈ L
-            back τ p =
-                let (σ, i, e) = map-in inNumbers L (inNumbers τ)
-                (subst (λ (τs : List Transition). inNumbers τ ∈ τs) (sym d) (numbers-in τ p)) in
-                subst (λ (υ : PairTransition). υ ∈ L) (sym (numbers-inj τ σ p (all σ i) e)) i
+    unfolding productTransitions
+    product-counted =
+        counts-mapped inNumbers (InProduct A t) T (product-distinct (λ k. true) A t) numbers-inj numbers-in in-numbers

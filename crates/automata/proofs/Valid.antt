@@ -136,7 +136,7 @@ module _ (A : Automaton) (X : Valid A) where
             λ k. record { label = τ .label; args = d k; out = sym o k },
           )
 
-  pub valid-canonical : Canonical S A
+  pub valid-canonical : Canonical (accepts A) A
   unfolding EquivalentStates
   valid-canonical = record {
     group = run A;

@@ -1,4 +1,5 @@
--- The product of an automaton and a tree in 01's words: its pairs are made by trees, and so are its transitions.
+-- The product of an automaton and a tree in 01's words (01: the pair automaton): the pairs that trees run to, and the
+-- transitions between them. No numbers of pairs, and no order.
 use mathlib.Core.Bool.{cond}
 use mathlib.Core.List.{List, [], _∷_}
 use mathlib.Core.Logic.{_≢_}
@@ -11,7 +12,7 @@ use Rattle.lists.specs.Closure.{elem}
 use Rattle.lists.specs.Tests.{_∈_}
 use Rattle.trees.specs.Tree.{Forest, Tree, cons, eqTree, nil, node}
 
--- 01: a state or none (0), together with a tree or none
+-- a state or none (0), together with a tree or none
 abbrev pub TreePair : Type 0
 TreePair = ℕ × Option Tree
 
@@ -19,16 +20,16 @@ TreePair = ℕ × Option Tree
 abbrev pub noPair : TreePair
 noPair = (0, none)
 
--- what u runs to: its state, paired with itself if it is a subtree of t, else with none
+-- 01: a tree leads to its state in the book paired with itself if it is a part of the given tree, else with none
 abbrev pub pairOf : Automaton → Tree → Tree → TreePair
 pairOf A t u = (run A u, cond (elem eqTree u (subtrees t)) (some u) none)
 
--- what each tree of a list runs to
+-- the pair of each tree of a list
 abbrev pub pairsOf : Automaton → Tree → Forest → List TreePair
 pairsOf A t nil = []
 pairsOf A t (cons u f) = pairOf A t u ∷ pairsOf A t f
 
--- a pair of the product: not both none, and some tree runs to it
+-- 01: a pair is not both none, and some tree leads to it
 abbrev pub IsPair : Automaton → Tree → TreePair → Type 0
 IsPair A t k = (k ≢ noPair) × ((u : Tree) × (pairOf A t u ≡ k))
 
@@ -38,11 +39,11 @@ pub record PairTransition : Type 0 where
   pub args : List TreePair
   pub out : TreePair
 
--- a transition of the product: the arguments are its pairs, the output is one, and where trees run to the arguments,
--- the tree with this label over them runs to the output
+-- a transition of the product (01: a line of the pair automaton): its arguments and its output are pairs, and with trees
+-- that run to the arguments, the tree made of its label and these trees runs to the output
 pub record InProduct (A : Automaton) (t : Tree) (τ : PairTransition) : Type 0 where
-  pub pairs : (k : TreePair) → k ∈ τ .args → IsPair A t k
-  pub pair : IsPair A t (τ .out)
-  pub children : Forest
-  pub runs : pairsOf A t children ≡ τ .args
-  pub top : pairOf A t (node (τ .label) children) ≡ τ .out
+  pub args-pairs : (k : TreePair) → k ∈ τ .args → IsPair A t k
+  pub out-pair : IsPair A t (τ .out)
+  pub trees : Forest
+  pub trees-run : pairsOf A t trees ≡ τ .args
+  pub made-runs : pairOf A t (node (τ .label) trees) ≡ τ .out

@@ -5,14 +5,13 @@ use mathlib.Core.Logic.{_⊎_, inl, inr}
 use mathlib.Core.Path.{_≡_, ap, refl, subst, sym}
 use Prim.Native.Nat.{_≤_, suc, zero, ℕ}
 use native.Mathlib.Omega.{arith}
-use lib.ListN.{length, length-append, length-map}
+use lib.ListN.{length, length-append}
 use Rattle.lists.specs.Closure.{closure, elem}
 use Rattle.lists.specs.Positions.{Pair, grid, row, upFrom}
 use Rattle.lists.specs.Tests.{Distinct, _∈_, filter}
 use Rattle.lists.proofs.Closure.{closure-fixed}
 use Rattle.lists.proofs.Positions.{upFrom-in}
-use Rattle.lists.proofs.Tests.{append-in, filter-in, in-append-left, in-append-right, in-map}
-use Rattle.lists.proofs.Tests.{in-split, map-in}
+use Rattle.lists.proofs.Tests.{append-in, filter-in, in-append-left, in-append-right, in-split, map-in}
 
 module _ {A : Type 0} where
   pub filter-distinct : (p : A → Bool) (xs : List A) → Distinct xs → Distinct (filter p xs)
@@ -60,26 +59,6 @@ module _ {A B : Type 0} where
     where
       go : (y : A) × (y ∈ xs) × (f x ≡ f y) → ⊥
       go (y, i, e) = d .0 (rw (h x y (inl refl) (inr i) e) i)
-
-  -- what has different values is different
-  pub unmap-distinct : (f : A → B) (xs : List A) → Distinct (map f xs) → Distinct xs
-  unmap-distinct f [] d = tt
-  unmap-distinct f (x ∷ xs) d = (λ i. d .0 (in-map f xs x i), unmap-distinct f xs (d .1))
-
-  -- lists without duplicates are as long as each other where one has exactly the values of the other
-  pub mapped-length : (f : A → B) (xs : List A) (ys : List B) → Distinct xs → Distinct ys →
-      ((x y : A) → x ∈ xs → y ∈ xs → f x ≡ f y → x ≡ y) → ((x : A) → x ∈ xs → f x ∈ ys) →
-      ((y : B) → y ∈ ys → y ∈ map f xs) → length xs ≡ length ys
-  mapped-length f xs ys d e inj there onto =
-      omega (
-        arith,
-        distinct-length (map f xs) ys (map-distinct f xs inj d) within,
-        distinct-length ys (map f xs) e onto,
-        length-map xs f,
-      )
-    where
-      within : (y : B) → y ∈ map f xs → y ∈ ys
-      within y i = let (x, j, e) = map-in f xs y i in rw e (there x j)
 
 pub upFrom-distinct : (k n : ℕ) → Distinct (upFrom k n)
 upFrom-distinct k zero = tt
