@@ -23,7 +23,7 @@ use Rattle.automata.proofs.Change.{delete-canonical, insert-canonical}
 use Rattle.automata.proofs.Coaccessible.{useful-coaccessible}
 use Rattle.automata.proofs.Distinguishable.{separated-distinguishable}
 use Rattle.automata.proofs.Minimal.{bool-cases}
-use Rattle.automata.proofs.Steps.{run-plug}
+use Rattle.automata.proofs.Steps.{accepts-plug}
 use Rattle.automata.proofs.Unique.{children}
 use Rattle.automata.proofs.Valid.{range-in, ranged-fits}
 use Rattle.lists.proofs.Positions.{upFrom-in}
@@ -77,14 +77,14 @@ module _ (S : Tree → Bool) (A : Automaton) (X : Canonical S A) where
       go q i (t, (c, h), e) =
           let r = upFrom-in 1 (states A) q i in
           useful-coaccessible A canonical-fits c q (r .0) (omega arith)
-          (ap (accepting A) (sym (run-plug A c t ∙ ap (runContext A c) e)) ∙ canonical-accepts S A X (plug c t) ∙ h)
+          (sym (accepts-plug A c t e) ∙ canonical-accepts S A X (plug c t) ∙ h)
 
   -- states that no context separates have equivalent subtrees
   alike : (p q : ℕ) (t u : Tree) → run A t ≡ p → run A u ≡ q →
       ((c : Context) → accepting A (runContext A c p) ≡ accepting A (runContext A c q)) → Equivalent S t u
   alike p q t u e d h c =
-      sym (canonical-accepts S A X (plug c t)) ∙ ap (accepting A) (run-plug A c t ∙ ap (runContext A c) e) ∙ h c
-      ∙ ap (accepting A) (sym (run-plug A c u ∙ ap (runContext A c) d)) ∙ canonical-accepts S A X (plug c u)
+      sym (canonical-accepts S A X (plug c t)) ∙ accepts-plug A c t e ∙ h c ∙ sym (accepts-plug A c u d)
+      ∙ canonical-accepts S A X (plug c u)
 
   differ : (p q : ℕ) → p ∈ upFrom 1 (states A) → q ∈ upFrom 1 (states A) → (eqb p q || distinguishable A p q) ≡ true
   unfolding Witness

@@ -2,52 +2,37 @@
 use mathlib.Core.Bool.{Bool, _||_, false, true}
 use mathlib.Core.List.{List, []}
 use mathlib.Core.Logic.{_↔_, _≢_, _⊎_, inl, inr}
-use mathlib.Core.Path.{_∙_, _≡_, ap, refl, sym}
+use mathlib.Core.Path.{_∙_, _≡_, refl, sym}
 use Prim.Native.Nat.{ℕ}
-use native.Mathlib.Omega.{arith}
 use lib.Dec.{eqb}
 use borrow.Author.Tests.{eqb-false, eqb-true}
 use Rattle.automata.specs.Accessible.{ArgsAccessible, accessible, allAccessible}
-use Rattle.automata.specs.Automaton.{Automaton, Fits, IsState, accepting, accepts, run, states}
+use Rattle.automata.specs.Automaton.{Automaton, Fits, IsState, run, states}
 use Rattle.automata.specs.Coaccessible.{Used, allCoaccessible, coaccessible}
-use Rattle.automata.specs.ContextRun.{runContext}
 use Rattle.automata.specs.Distinguishable.{Alike, allDistinguishable, distinguishable}
 use Rattle.automata.specs.Order.{rising}
 use Rattle.automata.specs.Valid.{statesInRange}
 use Rattle.lists.specs.Positions.{upFrom}
-use Rattle.lists.specs.Tests.{_∈_, every}
-use Rattle.trees.specs.Context.{Context, plug}
+use Rattle.lists.specs.Tests.{every}
 use Rattle.trees.specs.Tree.{Tree}
 use Rattle.automata.proofs.Accessible.{tree-accessible}
 use Rattle.automata.proofs.Coaccessible.{coaccessible-useful, useful-coaccessible}
 use Rattle.automata.proofs.Distinguishable.{distinguishable-separated}
 use Rattle.automata.proofs.Minimal.{EquivalentStates, indistinguishable-equivalent}
-use Rattle.automata.proofs.Steps.{run-plug}
-use Rattle.automata.proofs.Valid.{args-accessible, ranged-fits, state-tree}
-use Rattle.lists.proofs.Positions.{in-upFrom, upFrom-in}
+use Rattle.automata.proofs.Steps.{accepts-plug}
+use Rattle.automata.proofs.Valid.{args-accessible, in-states, ranged-fits, state-tree, states-in}
 use Rattle.lists.proofs.Tests.{every-in, in-every, or-cases}
-
--- what a context makes of a tree depends on the tree's state
-accepts-plug : (A : Automaton) (c : Context) (t : Tree) {q : ℕ} → run A t ≡ q →
-    accepts A (plug c t) ≡ accepting A (runContext A c q)
-accepts-plug A c t e = ap (accepting A) (run-plug A c t ∙ ap (runContext A c) e)
 
 module _ (A : Automaton) (ranged : statesInRange A ≡ true) (rises : rising (A .transitions) ≡ true) where
   fit : Fits A
   fit = ranged-fits A ranged
-
-  in-states : (q : ℕ) → IsState A q → q ∈ upFrom 1 (states A)
-  in-states q (h, l) = in-upFrom 1 (states A) q h (omega arith)
-
-  states-in : (q : ℕ) → q ∈ upFrom 1 (states A) → IsState A q
-  states-in q i = let r = upFrom-in 1 (states A) q i in (r .0, omega arith)
 
   -- 01, refusal 9: every state has a tree that runs to it
   pub allAccessible-iff : (allAccessible A ≡ true) ↔ ((q : ℕ) → IsState A q → (t : Tree) × (run A t ≡ q))
   allAccessible-iff = (
     state-tree A ranged rises,
     λ trees.
-        in-every (accessible A) (upFrom 1 (states A)) (λ q i. let s = states-in q i in let (t, e) = trees q s in
+        in-every (accessible A) (upFrom 1 (states A)) (λ q i. let s = states-in A q i in let (t, e) = trees q s in
         tree-accessible A fit q (s .0) t e),
   )
 
@@ -63,12 +48,12 @@ module _ (A : Automaton) (ranged : statesInRange A ≡ true) (rises : rising (A 
         to e q s =
             let (t, d) = state-tree A ranged rises reached q s in
             let (c, a) = coaccessible-useful A rises (args-accessible A ranged rises reached) q
-            (every-in (coaccessible A) (upFrom 1 (states A)) e q (in-states q s)) in
+            (every-in (coaccessible A) (upFrom 1 (states A)) e q (in-states A q s)) in
             (c, t, d, accepts-plug A c t d ∙ a)
 
         from : ((q : ℕ) → IsState A q → Used A q) → allCoaccessible A ≡ true
         from used =
-            in-every (coaccessible A) (upFrom 1 (states A)) (λ q i. let s = states-in q i in
+            in-every (coaccessible A) (upFrom 1 (states A)) (λ q i. let s = states-in A q i in
             let (c, t, d, a) = used q s in
             useful-coaccessible A fit c q (s .0) (s .1) (sym (accepts-plug A c t d) ∙ a))
 
@@ -85,8 +70,8 @@ module _ (A : Automaton) (ranged : statesInRange A ≡ true) (rises : rising (A 
         to e p q s r ne alike =
             go (or-cases (eqb p q) (distinguishable A p q)
             (every-in (λ q. eqb p q || distinguishable A p q) ns
-            (every-in (λ p. every (λ q. eqb p q || distinguishable A p q) ns) ns e p (in-states p s)) q
-            (in-states q r)))
+            (every-in (λ p. every (λ q. eqb p q || distinguishable A p q) ns) ns e p (in-states A p s)) q
+            (in-states A q r)))
           where
             go : (eqb p q ≡ true) ⊎ (distinguishable A p q ≡ true) → ⊥
             go (inl h) = ne (eqb-true p q h)
@@ -100,7 +85,7 @@ module _ (A : Automaton) (ranged : statesInRange A ≡ true) (rises : rising (A 
         from differ =
             in-every (λ p. every (λ q. eqb p q || distinguishable A p q) ns) ns (λ p i.
             in-every (λ q. eqb p q || distinguishable A p q) ns (λ q j.
-            go p q (states-in p i) (states-in q j) (eqb p q) refl (distinguishable A p q) refl))
+            go p q (states-in A p i) (states-in A q j) (eqb p q) refl (distinguishable A p q) refl))
           where
             go : (p q : ℕ) → IsState A p → IsState A q → (b : Bool) → eqb p q ≡ b → (d : Bool) →
                 distinguishable A p q ≡ d → (b || d) ≡ true

@@ -10,7 +10,8 @@ use borrow.Author.Tests.{leb-true}
 use Rattle.automata.specs.Accessible.{ArgsAccessible}
 use Rattle.automata.specs.Automaton.{Automaton, Fits, Transition, accepting, run, runs, states, step}
 use Rattle.automata.specs.ContextRun.{runContext, stepFrame}
-use Rattle.automata.specs.Distinguishable.{Separated, Slot, distinguishable, distinguishablePairs, distinguishableRule}
+use Rattle.automata.specs.Distinguishable.{Separated, Slot, distinguishable, distinguishablePairs}
+use Rattle.automata.specs.Distinguishable.{distinguishableRule}
 use Rattle.automata.specs.Distinguishable.{pairs, push, slots, slotsOf, stepSlot}
 use Rattle.lists.specs.Closure.{elem}
 use Rattle.lists.specs.Positions.{Pair, eqPair, upFrom}

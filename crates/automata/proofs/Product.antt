@@ -19,7 +19,7 @@ use Rattle.lists.specs.Positions.{Pair, eqPair, grid, upFrom}
 use Rattle.lists.specs.Tests.{_∈_, filter}
 use Rattle.trees.specs.Tree.{Forest, Tree, cons, nil, node}
 use Rattle.automata.proofs.Distinguishable.{step-fits}
-use Rattle.automata.proofs.Nodes.{in-nodes, nodes-in, pairNumbers-inj}
+use Rattle.automata.proofs.Nodes.{all-member, in-nodes, nodes-in, pairNumbers-inj}
 use Rattle.automata.proofs.PairRuns.{EachNumber, Follows, NumberOrNone, both, follows-run, out-run}
 use Rattle.automata.proofs.Sorting.{OneTransition, in-sort, sort-in, sort-rising}
 use Rattle.automata.proofs.Steps.{Taken, step-view}
@@ -225,10 +225,6 @@ module _ (A B : Automaton) where
         let (t, e) = h k (inl refl) in
         let (f, d) = forest-of ks (λ j i. h j (inr i)) in
         (cons t f, cc (e, d))
-
-    all-member : (L : List Pair) (ks : List Pair) → AllIn L ks → (k : Pair) → k ∈ ks → k ∈ L
-    all-member L (j ∷ ks) h k (inl e) = rw e (h .0)
-    all-member L (j ∷ ks) h k (inr i) = all-member L ks (h .1) k i
 
     -- some tree runs to each pair
     pub accessible-pair-tree : (k : Pair) → elem eqPair k (accessiblePairs A B) ≡ true →

@@ -8,7 +8,8 @@ use Prim.Native.Nat.{suc, zero, ℕ}
 use native.Mathlib.Omega.{arith}
 use lib.ListN.{getD}
 use Rattle.automata.specs.Automaton.{Automaton, Fits, Transition, run}
-use Rattle.automata.specs.Change.{productPairs, productTransitions, productWith, subtreeAutomaton, subtreeNumber, subtrees}
+use Rattle.automata.specs.Change.{productPairs, productTransitions, productWith, subtreeAutomaton, subtreeNumber}
+use Rattle.automata.specs.Change.{subtrees}
 use Rattle.automata.specs.Product.{Node, live, outPair, productTransition}
 use Rattle.automata.specs.ProductView.{AllIn, NumberedTransition, pairsWith}
 use Rattle.automata.specs.TreePairs.{InProduct, IsPair, PairTransition, TreePair, pairOf, pairsOf}
@@ -26,6 +27,7 @@ use Rattle.lists.proofs.Closure.{elem-in, in-elem}
 use Rattle.lists.proofs.Counts.{counts-mapped}
 use Rattle.lists.proofs.Positions.{eqPair-true, position-at, position-in, position-none}
 use Rattle.lists.proofs.Positions.{position-pos}
+use Rattle.lists.proofs.Tests.{map-inj}
 use Rattle.trees.proofs.Trees.{eqTree-same, eqTree-true}
 
 module _ (t : Tree) where
@@ -140,19 +142,6 @@ module _ (t : Tree) where
         let (f, d) = trees-of ks (h .1) in
         (cons u f, cc (to-pair u ∙ e, d))
 
-    pairs-inj : (js ks : List TreePair) → ((k : TreePair) → k ∈ js → IsPair A t k) →
-        ((k : TreePair) → k ∈ ks → IsPair A t k) → map toPair js ≡ map toPair ks → js ≡ ks
-    pairs-inj [] [] g h e = refl
-    pairs-inj [] (k ∷ ks) g h e = let z : _≡_ {A = ℕ} 0 1 = cc in absurd (omega arith)
-    pairs-inj (j ∷ js) [] g h e = let z : _≡_ {A = ℕ} 0 1 = cc in absurd (omega arith)
-    pairs-inj (j ∷ js) (k ∷ ks) g h e =
-        let u : toPair j ≡ toPair k = cc in
-        let v : map toPair js ≡ map toPair ks = cc in
-        cc (
-          to-pair-inj j k (g j (inl refl)) (h k (inl refl)) u,
-          pairs-inj js ks (λ x i. g x (inr i)) (λ x i. h x (inr i)) v,
-        )
-
     -- 01: the number of pairs
     pub pairs-counted : Counts (IsPair A t) (productPairs A t)
     unfolding productPairs
@@ -184,7 +173,8 @@ module _ (t : Tree) where
         let c = productTransition-inj A B R (σ .label, map toPair (σ .args)) (τ .label, map toPair (τ .args))
         (all-pairs (σ .args) (p .args-pairs)) e in
         let l = ap (λ (c : Node). c .0) c in
-        let a = pairs-inj (σ .args) (τ .args) (p .args-pairs) (q .args-pairs) (ap (λ (c : Node). c .1) c) in
+        let a = map-inj toPair (σ .args) (τ .args)
+        (λ j k i l. to-pair-inj j k (p .args-pairs j i) (q .args-pairs k l)) (ap (λ (c : Node). c .1) c) in
         let o = to-pair-inj (σ .out) (τ .out) (p .out-pair) (q .out-pair)
         (sym (out-of σ p) ∙ ap (outPair A B) c ∙ out-of τ q) in
         λ i. record { label = l i; args = a i; out = o i }

@@ -6,7 +6,7 @@ use mathlib.Core.Path.{_∙_, _≡_, ap, refl, sym}
 use Prim.Native.Nat.{ℕ}
 use lib.Dec.{eqb}
 use borrow.Author.Tests.{eqb-true}
-use Rattle.automata.specs.Automaton.{Automaton, Transition, lookup, matches, run, runs, step}
+use Rattle.automata.specs.Automaton.{Automaton, Transition, accepting, accepts, lookup, matches, run, runs, step}
 use Rattle.automata.specs.ContextRun.{runContext, stepFrame}
 use Rattle.lists.specs.Tests.{_∈_, any}
 use Rattle.trees.specs.Context.{Context, Frame, fill, plug}
@@ -81,6 +81,11 @@ run-fill A f t = rw runs-append
 pub run-plug : (A : Automaton) (c : Context) (t : Tree) → run A (plug c t) ≡ runContext A c (run A t)
 run-plug A [] t = refl
 run-plug A (f ∷ c) t = rw (run-plug A c (fill f t), run-fill A f t)
+
+-- what a context makes of a tree depends on the tree's state
+pub accepts-plug : (A : Automaton) (c : Context) (t : Tree) {q : ℕ} → run A t ≡ q →
+    accepts A (plug c t) ≡ accepting A (runContext A c q)
+accepts-plug A c t e = ap (accepting A) (run-plug A c t ∙ ap (runContext A c) e)
 
 pub runContext-append : (A : Automaton) (c d : Context) (q : ℕ) →
     runContext A (c ++ d) q ≡ runContext A d (runContext A c q)

@@ -39,8 +39,8 @@ pub record PairTransition : Type 0 where
   pub args : List TreePair
   pub out : TreePair
 
--- a transition of the product (01: a line of the pair automaton): its arguments and its output are pairs, and with trees
--- that run to the arguments, the tree made of its label and these trees runs to the output
+-- a transition of the product (01: a line of the pair automaton): its arguments and its output are pairs, and with
+-- trees that run to the arguments, the tree made of its label and these trees runs to the output
 pub record InProduct (A : Automaton) (t : Tree) (τ : PairTransition) : Type 0 where
   pub args-pairs : (k : TreePair) → k ∈ τ .args → IsPair A t k
   pub out-pair : IsPair A t (τ .out)
