@@ -75,7 +75,8 @@ module _ (A : Automaton) (fit : Fits A) where
       -- what comes to 0 comes to no accepting state
       lost : stepFrame A f q ≡ 0 → ⊥
       lost z =
-          true≢false (sym e ∙ ap (λ (x : ℕ). accepting A (runContext A c x)) z ∙ ap (accepting A) (runContext-zero A c))
+          true≢false
+          (sym e ∙ ap (λ (x : ℕ). accepting A (runContext A c x)) z ∙ ap (accepting A) (runContext-zero A c))
 
       go : (stepFrame A f q ≡ 0) ⊎ Taken A (f .label) (runs A (f .before) ++ (q ∷ runs A (f .after))) →
           (1 ≤ stepFrame A f q → coaccessible A (stepFrame A f q) ≡ true) → coaccessible A q ≡ true

@@ -1,4 +1,4 @@
--- Two states are distinguishable exactly when some context tells them apart.
+-- Two states are distinguishable exactly when some context separates them.
 use mathlib.Core.Bool.{Bool, Bool·beq, false, false≢true, not, true, true≢false}
 use mathlib.Core.List.{List, [], _++_, _∷_}
 use mathlib.Core.Logic.{_≢_, _⊎_, inl, inr}

@@ -40,7 +40,7 @@ IsState A q = (1 ≤ q) × (q ≤ states A)
 abbrev pub Fits : Automaton → Type 0
 Fits A = every (λ τ. leb (τ .out) (states A)) (A .transitions) ≡ true
 
--- the state of a node from its label and its children's states; 0 where a child has none
+-- the state of a node from its label and its children's states; 0 if a child has none
 abbrev pub step : Automaton → ℕ → List ℕ → ℕ
 step A a qs = cond (any (eqb 0) qs) 0 (lookup a qs (A .transitions))
 

@@ -12,7 +12,7 @@ use Rattle.lists.specs.Tests.{every}
 abbrev pub opens : ℕ → Transition → Bool
 opens k τ = every (λ q. leb q k) (τ .args) && ltb k (τ .out)
 
--- the output of the first transition that opens; 0 where none does
+-- the output of the first transition that opens; 0 if none does
 abbrev pub firstOpen : ℕ → List Transition → ℕ
 firstOpen k [] = 0
 firstOpen k (τ ∷ τs) = let r = firstOpen k τs in cond (opens k τ) (τ .out) r
@@ -23,7 +23,7 @@ numbered A = every (λ k. eqb (firstOpen k (A .transitions)) (suc k)) (upFrom 0 
 
 -- ---- the condition in one pass over the transitions
 
--- the greatest of a list of states; 0 where there is none
+-- the greatest of a list of states; 0 if there is none
 abbrev pub top : List ℕ → ℕ
 top [] = 0
 top (q ∷ qs) = max q (top qs)

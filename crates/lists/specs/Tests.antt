@@ -1,4 +1,4 @@
--- Membership in a list, and tests over lists that compute.
+-- Membership in a list, lists without repeats and how many elements have a property, and tests over lists that compute.
 use mathlib.Core.Bool.{Bool, _&&_, _||_, cond, false, true}
 use mathlib.Core.List.{List, [], _∷_}
 use mathlib.Core.Logic.{_↔_, _⊎_}
@@ -45,7 +45,7 @@ module _ {A : Type 0} where
   filter p [] = []
   filter p (x ∷ xs) = let r = filter p xs in cond (p x) (x ∷ r) r
 
--- 1 where a test passes, 0 where not
+-- 1 if a test passes, else 0
 abbrev pub bit : Bool → ℕ
 bit true = 1
 bit false = 0
