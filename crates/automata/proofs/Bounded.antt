@@ -1,7 +1,7 @@
--- BOUNDED: a canonical automaton is acyclic exactly where its set is bounded.
+-- BOUNDED: a canonical automaton is acyclic exactly when its set is bounded.
 use mathlib.Core.Bool.{Bool, false, true, true≢false}
 use mathlib.Core.List.{List, [], _++_, _∷_}
-use mathlib.Core.Logic.{_⊎_, inl, inr}
+use mathlib.Core.Logic.{_↔_, _⊎_, inl, inr}
 use mathlib.Core.Path.{_∙_, _≡_, ap, refl, subst, sym}
 use Prim.Native.Nat.{_<_, _≤_, max, suc, zero, ℕ}
 use native.Mathlib.Omega.{arith}
@@ -182,3 +182,7 @@ module _ (S : Tree → Bool) (A : Automaton) (X : Canonical S A) where
   bounded-acyclic b =
       let ranged = canonical-ranged S A X in
       acyclic-iff A ranged .1 (λ q l. no-way b q (leads-range A ranged l .0) (leads-way l))
+
+-- a canonical automaton is acyclic exactly when its set is bounded
+pub bounded-iff : (A : Automaton) → Canonical (accepts A) A → (acyclic A ≡ true) ↔ Bounded (accepts A)
+bounded-iff A X = (acyclic-bounded A (canonical-ranged (accepts A) A X), bounded-acyclic (accepts A) A X)

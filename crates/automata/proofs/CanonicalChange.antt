@@ -1,12 +1,13 @@
 -- A canonical automaton is valid, and a change of its set by one tree keeps it canonical.
 use mathlib.Core.Bool.{Bool, _&&_, _||_, false, not, true, true≢false}
+use mathlib.Core.Logic.{_↔_}
 use mathlib.Core.Path.{_∙_, _≡_, ap, fun-ext, refl, subst, sym}
 use Prim.Native.Nat.{ℕ}
 use native.Mathlib.Omega.{arith}
 use lib.Dec.{eqb}
 use borrow.Author.Tests.{eq-eqb}
 use Rattle.automata.specs.Accessible.{accessible, allAccessible}
-use Rattle.automata.specs.Automaton.{Automaton, Fits, Transition, accepting, run, states}
+use Rattle.automata.specs.Automaton.{Automaton, Fits, Transition, accepting, accepts, run, states}
 use Rattle.automata.specs.Canonical.{Canonical, Equivalent, Occurs, Subtree, eachTree}
 use Rattle.automata.specs.Change.{deleteTree, insertTree}
 use Rattle.automata.specs.Coaccessible.{allCoaccessible, coaccessible}
@@ -25,7 +26,7 @@ use Rattle.automata.proofs.Distinguishable.{separated-distinguishable}
 use Rattle.automata.proofs.Minimal.{bool-cases}
 use Rattle.automata.proofs.Steps.{accepts-plug}
 use Rattle.automata.proofs.Unique.{children}
-use Rattle.automata.proofs.Valid.{range-in, ranged-fits}
+use Rattle.automata.proofs.Valid.{range-in, ranged-fits, valid-canonical}
 use Rattle.lists.proofs.Positions.{upFrom-in}
 use Rattle.lists.proofs.Tests.{and-both, in-every, or-left, or-right}
 use Rattle.trees.proofs.Trees.{AllTrees}
@@ -112,6 +113,10 @@ module _ (S : Tree → Bool) (A : Automaton) (X : Canonical S A) where
         (λ p i. in-every (λ q. eqb p q || distinguishable A p q) (upFrom 1 (states A)) (λ q j. differ p q i j));
     ruled = X .ruled;
   }
+
+-- conditions 7 (range), 8 to 10, 12 and 13 hold exactly of the canonical automata
+pub valid-iff : (A : Automaton) → Valid A ↔ Canonical (accepts A) A
+valid-iff A = (valid-canonical A, canonical-valid (accepts A) A)
 
 pub insert-kept : (S : Tree → Bool) (A : Automaton) → Canonical S A → (t : Tree) →
     Canonical (λ v. S v || eqTree v t) (insertTree t A)

@@ -235,14 +235,6 @@ module _ (A : Automaton) (fit : Fits A)
       (grouping-same S groupOf (quotient A (distinguishablePairs A)) R there back grouped) (accepting A)
       group-accepting
 
-  pub quotient-canonical : (O : List ℕ) → Opened-each (quotient A (distinguishablePairs A)) O →
-      Exhausted (quotient A (distinguishablePairs A)) O → (L : List Transition) → rising L ≡ true →
-      ((τ : Transition) → τ ∈ L → τ ∈ map (renumber O) (quotient A (distinguishablePairs A))) →
-      ((τ : Transition) → τ ∈ map (renumber O) (quotient A (distinguishablePairs A)) → τ ∈ L) →
-      Canonical S (record { classes = map (accepting A) O; transitions = L })
-  quotient-canonical =
-      same-quotient-canonical (quotient A (distinguishablePairs A)) (λ τ i. i) (λ τ i. i)
-
   pub minimal-canonical : Canonical (accepts A) (minimal A)
   unfolding minimal
   minimal-canonical =
