@@ -16,7 +16,8 @@ use Rattle.automata.specs.Automaton.{Automaton, accepting, accepts, emptyAutoma
 use Rattle.automata.specs.Canonical.{Canonical}
 use Rattle.automata.specs.Valid.{Valid}
 use Rattle.format.specs.Format.{AllBytes, countAt, headBytes, tableBytes, transitionBytes}
-use Rattle.table.specs.Intake.{WithinLimits, automatonConditions, contentConditions, lengthCondition, tableRefusal}
+use Rattle.table.specs.Intake.{CanonicalTable, WithinLimits, automatonConditions, contentConditions}
+use Rattle.table.specs.Intake.{lengthCondition, tableRefusal}
 use Rattle.table.specs.Layout.{byteAt, decode, encode, layoutFits}
 use Rattle.trees.specs.Tree.{Tree}
 use Rattle.automata.proofs.Bounded.{acyclic-bounded, bounded-acyclic}
@@ -67,14 +68,6 @@ passes-unrefused b p =
       v .apart,
       v .ruled,
     )
-
--- the table of a canonical automaton of a bounded set, within the limits
-pub record CanonicalTable (b : List ℕ) : Type 0 where
-  pub automaton : Automaton
-  pub limits : WithinLimits automaton
-  pub canonical : Canonical (accepts automaton) automaton
-  pub bounded : Bounded (accepts automaton)
-  pub bytes : b ≡ encode automaton
 
 -- the automaton of a table that passes is the one that it holds: its fields speak of `decode b`
 abbrev pub passes-canonical : (b : List ℕ) → AllBytes b → tableRefusal b ≡ 0 → CanonicalTable b
