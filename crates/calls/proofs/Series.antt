@@ -25,7 +25,9 @@ use Rattle.table.specs.Layout.{decode, encode}
 use Rattle.trees.specs.Legal.{Legal}
 use Rattle.trees.specs.Listing.{listingConditions, listingRefusal, readTree}
 use Rattle.trees.specs.Tree.{Tree}
+use Rattle.automata.proofs.CanonicalChange.{canonical-fits}
 use Rattle.automata.proofs.Legal.{accepted-legal, canonical-legal}
+use Rattle.automata.proofs.ProductCounted.{product-counted}
 use Rattle.calls.proofs.Conditions.{model-from-one, table-from-one}
 use Rattle.calls.proofs.Model.{change-canonical, changed-bounded, changed-legal, model-accepts}
 use Rattle.lists.proofs.Conditions.{AllHold, append-same, hold-append, hold-first, hold-last, unbroken-hold}
@@ -79,6 +81,7 @@ module _ (b : List ℕ) (m : Model) (X : InStep b m) where
   in-step-meaning = record {
     canonical = X .canonical;
     changes = change-canonical m (X .canonical);
+    pairs = λ t. product-counted t (canonicalOf m) (canonical-fits (member m) (canonicalOf m) (X .canonical));
     asked = λ s. ap onlyAnswer (ap (askAnswer s) (sym (X .table)) ∙ ask-same s);
     taken = ap onlyAnswer (ap intakeAnswer (sym (X .table)) ∙ intake-same);
   }

@@ -6,19 +6,25 @@ use mathlib.Core.Path.{_≡_}
 use Prim.Native.Nat.{ℕ}
 use Rattle.automata.specs.Acyclic.{Bounded}
 use Rattle.automata.specs.Canonical.{Canonical}
+use Rattle.automata.specs.Change.{productTransitions}
+use Rattle.automata.specs.TreePairs.{InProduct}
 use Rattle.calls.specs.Calls.{Change, acceptedWith, approval, refusedOr}
 use Rattle.calls.specs.Series.{Call, Model, ask, canonicalOf, changedSet, intake, member, modelAfter}
 use Rattle.calls.specs.Series.{modelResponses, onlyAnswer, queryResult, respond, responses, tableAfter}
 use Rattle.calls.specs.Series.{withChange}
+use Rattle.lists.specs.Tests.{Counts}
 use Rattle.table.specs.Intake.{WithinLimits}
 use Rattle.table.specs.Layout.{encode}
 use Rattle.trees.specs.Listing.{listingRefusal, readTree}
+use Rattle.trees.specs.Tree.{Tree}
 
--- What the model stands for, from its set alone: its automaton is the set's, and so is the one that 17 looks at for
--- the changed set; ask says whether the tree is in the set, and intake has the numbers of the set's automaton.
+-- What the model stands for, from its set alone. Its automaton is the set's, and the one that 17 looks at is the
+-- changed set's. 16 counts the pair automaton's transitions. Ask says whether the tree is in the set, and intake has
+-- the numbers of the set's automaton.
 pub record Meaning (m : Model) : Type 0 where
   pub canonical : Canonical (member m) (canonicalOf m)
   pub changes : (c : Change) → Canonical (changedSet c (member m)) (canonicalOf (withChange c m))
+  pub pairs : (t : Tree) → Counts (InProduct (canonicalOf m) t) (productTransitions (canonicalOf m) t)
   pub asked : (s : List ℕ) →
       queryResult (ask s) (encode (canonicalOf m)) ≡
       onlyAnswer (refusedOr (listingRefusal s) (approval (member m (readTree s))))
