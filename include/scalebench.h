@@ -44,7 +44,13 @@
 
 #ifdef __cplusplus
 extern "C" {
+#define SCALEBENCH_AS(type, number) static_cast<type>(number)
+#else
+#define SCALEBENCH_AS(type, number) ((type)(number))
 #endif
+
+/* The version of the library, of this header and of the host. */
+#define SCALEBENCH_VERSION "0.2.0"
 
 /* The lengths that a table and a scratch must have, and the greatest length of a listing for ask, add and remove. */
 #define SCALEBENCH_TABLE_BYTES 11467
@@ -98,19 +104,19 @@ enum {
  * The number that a call returns is refusal + 256 * kind + 65536 * first + 4294967296 * second. A refused call returns
  * the number of the refusal and nothing else; 0 is no refusal.
  */
-static inline unsigned scalebench_refusal(uint64_t answer) { return (unsigned)(answer & 255); }
-static inline unsigned scalebench_kind(uint64_t answer) { return (unsigned)(answer >> 8 & 255); }
+static inline unsigned scalebench_refusal(uint64_t answer) { return SCALEBENCH_AS(unsigned, answer & 255); }
+static inline unsigned scalebench_kind(uint64_t answer) { return SCALEBENCH_AS(unsigned, answer >> 8 & 255); }
 
 /* Of ask: whether the tree is approved. */
 static inline int scalebench_approved(uint64_t answer) { return scalebench_kind(answer) == 1; }
 
 /* Of intake, add and remove, not refused: the numbers of states and of transitions that the table has now. */
-static inline unsigned scalebench_states(uint64_t answer) { return (unsigned)(answer >> 16 & 65535); }
-static inline unsigned scalebench_transitions(uint64_t answer) { return (unsigned)(answer >> 32); }
+static inline unsigned scalebench_states(uint64_t answer) { return SCALEBENCH_AS(unsigned, answer >> 16 & 65535); }
+static inline unsigned scalebench_transitions(uint64_t answer) { return SCALEBENCH_AS(unsigned, answer >> 32); }
 
 /* Of read: the length of the listing; the column, from 1, of the first byte that no well-formed line has there. */
-static inline size_t scalebench_length(uint64_t answer) { return (size_t)(answer >> 16 & 65535); }
-static inline unsigned scalebench_column(uint64_t answer) { return (unsigned)(answer >> 16 & 65535); }
+static inline size_t scalebench_length(uint64_t answer) { return SCALEBENCH_AS(unsigned, answer >> 16 & 65535); }
+static inline unsigned scalebench_column(uint64_t answer) { return SCALEBENCH_AS(unsigned, answer >> 16 & 65535); }
 
 /*
  * A refusal in words. Each condition is checked over its whole input before the next, so that the number returned is
@@ -141,6 +147,7 @@ static inline const char *scalebench_reason(unsigned refusal)
     return refusal < sizeof reasons / sizeof reasons[0] ? reasons[refusal] : "no such refusal";
 }
 
+#undef SCALEBENCH_AS
 #ifdef __cplusplus
 }
 #endif
