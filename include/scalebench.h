@@ -6,14 +6,15 @@
  * set is all zeros. The same set always has the same table, byte for byte.
  *
  * Every call may be handed any bytes of any length: it checks all that it is given and answers with the first
- * condition that is broken. A pointer may be NULL where its length is 0.
+ * condition that is broken. A pointer may be NULL if its length is 0.
  *
  * Aliasing. What a call writes (table and scratch of add and remove, the listing of read) shares no byte with anything
  * else that the call gets, and nobody else writes to what a call is given while it runs. Two things that a call only
  * reads may overlap.
  *
- * Threads. The library has no state of its own and takes no memory but less than 256 KiB of stack. Calls on different
- * tables may run at the same time; so may ask and intake on one table while nobody changes it.
+ * Threads. The library has no state of its own and takes no memory but stack: SCALEBENCH_CHANGE_STACK_BYTES and the like
+ * below are upper bounds for a thread that makes a call. Calls on different tables may run at the same time; so may ask
+ * and intake on one table while nobody changes it.
  *
  * A whole program. It prints "approved, 2 states, 2 transitions".
  *
@@ -61,6 +62,14 @@ extern "C" {
 #define SCALEBENCH_READ_BYTES 252
 #define SCALEBENCH_LINE_BYTES 512
 
+/*
+ * The stack that a call takes at most: add and remove, ask and intake, read. Measured on x86-64 and rounded up by about
+ * a fifth (160, 79 and 41 KiB measured); tests/stack.c makes the calls on stacks of these sizes.
+ */
+#define SCALEBENCH_CHANGE_STACK_BYTES 196608
+#define SCALEBENCH_ASK_STACK_BYTES 98304
+#define SCALEBENCH_READ_STACK_BYTES 49152
+
 /* Whether the tree is approved. Refuses by 1 to 5 and 7 to 13. Writes nothing. */
 uint64_t scalebench_ask(const uint8_t *tree, size_t tree_len, const uint8_t *table, size_t table_len);
 
@@ -85,9 +94,9 @@ uint64_t scalebench_remove(const uint8_t *tree, size_t tree_len, uint8_t *table,
 
 /*
  * Reads one line of text, without its end: (add TREE), (drop TREE) or (ask TREE), where TREE is a label in decimal with
- * its child trees behind it in brackets, as in (1 (1) (2)). The kind of the answer is one of those below. The listing
- * of the line's tree goes to the start of `listing`, with zeros behind it; all zeros where the line has no listing. It
- * may break the conditions of the calls (label 0, nine children, more than 48 nodes), which then refuse it.
+ * its child trees after it, in brackets, as in (1 (1) (2)). The kind of the answer is one of those below. The listing of
+ * the line's tree goes to the start of `listing`, with zeros after it; all zeros if the line has no listing. It may
+ * break the conditions of the calls (label 0, nine children, more than 48 nodes), which then refuse it.
  */
 uint64_t scalebench_read(const uint8_t *line, size_t line_len, uint8_t *listing, size_t listing_len);
 
