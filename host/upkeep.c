@@ -43,10 +43,12 @@ enum status back_up(struct book *book, const char *path, const char *copy)
     if (!place_find(&place, copy, 1))
         return STATUS_FAILED;
     int file = save_new(&place, 0600, book->table);
-    if (file < 0)
+    if (file < 0) {
         complain("cannot back up to", copy, "%s", strerror(errno));
-    else
+    } else {
+        remove_strays(place.folder, file);
         close(file);
+    }
     place_leave(&place);
     return file < 0 ? STATUS_FAILED : STATUS_FINE;
 }

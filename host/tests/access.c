@@ -16,15 +16,15 @@
 
 static const char list_name[] = "system.posix_acl_access", default_name[] = "system.posix_acl_default";
 
-/* As the kernel has it: version 2, then tag, permissions and number of each entry; owner, user 1234, group, mask, others. */
+/* As the kernel has it: version 2, then tag, permissions and number of each entry; owner, a user, group, mask, others. */
 struct entry {
     uint16_t tag, permissions;
     uint32_t number;
 };
-static const struct {
+static struct {
     uint32_t version;
     struct entry entries[5];
-} list = {2, {{1, 6, UINT32_MAX}, {2, 6, 1234}, {4, 4, UINT32_MAX}, {16, 6, UINT32_MAX}, {32, 0, UINT32_MAX}}};
+} list = {2, {{1, 6, UINT32_MAX}, {2, 6, 0}, {4, 4, UINT32_MAX}, {16, 6, UINT32_MAX}, {32, 0, UINT32_MAX}}};
 
 static int save(const char *host, const char *command)
 {
@@ -48,6 +48,7 @@ int main(int count, char **arguments)
 {
     char bytes[sizeof list + 1];
     struct stat status;
+    list.entries[1].number = (uint32_t)geteuid();
     if (count != 2 || chmod("book", 0640) != 0)
         return 2;
     if (setxattr(".", default_name, &list, sizeof list, 0) != 0)

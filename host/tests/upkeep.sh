@@ -28,6 +28,10 @@ run 'no such folder' 5 '' --backup none/copy book
 run 'no book to copy' 3 '' --backup other none
 holds 'nothing else' book copy kept link
 
+head -c 100 book >.scalebench-0123456789abcdef0123456789abcdef
+run 'a copy after one that was killed' 0 '' --backup third book
+holds 'what that one left is removed' book copy kept link third
+
 # Copies while another host saves: each is the book between two changes.
 {
     k=0
