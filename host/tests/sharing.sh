@@ -4,8 +4,7 @@
 . "$(dirname "$0")/checks"
 
 "$host" --new book '(add (1))' >/dev/null
-answers() { grep -c '' "$1"; }
-answered() { [ "$(answers "$1")" -ge "$2" ]; } # FILE LINES
+answered() { [ -e "$1" ] && [ "$(wc -l <"$1")" -ge "$2" ]; } # FILE LINES
 
 # Two people with one book open.
 mkfifo ../first ../second
@@ -85,6 +84,7 @@ for how in 'rm book' 'cp book other && mv other book'; do
 done
 
 # A book that is replaced, written over or deleted while a host has it open.
+rm -f ../out1
 "$host" book <../first >../out1 2>../err &
 one=$!
 exec 3>../first
