@@ -1,8 +1,8 @@
 /*
- * See book.h. The lock is on the book's own file. A save puts another file in its place, which is locked before it gets
- * there; whoever gets the lock of a file looks whether the book's name still stands for that file, and else tries again.
- * So there is no lock file that could be deleted, planted or left. A file in the book's place is never written again,
- * so that a reader needs no lock.
+ * See book.h. The lock is on the book's own file. A save puts another file in its place, which is locked before it
+ * gets there. Whoever gets the lock of a file looks whether the book's name still stands for that file, and if not
+ * tries again. So there is no lock file that could be deleted, planted or left. A file in the book's place is never
+ * written again, so that a reader needs no lock.
  */
 #define _GNU_SOURCE
 
@@ -179,7 +179,7 @@ static int open_locked(const struct book *book, enum status *status)
     }
 }
 
-/* Whether the locked file may be replaced. Root may write any file, but one without write permission is meant to stay. */
+/* Whether the locked file may be replaced. Root may write any file, but one that nobody may write is meant to stay. */
 static int changeable(struct book *book, int file)
 {
     struct stat status;

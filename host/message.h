@@ -1,4 +1,4 @@
-/* What the host writes to standard error. Each message is one line and names the line of the input that it is about. */
+/* What the host writes to standard error: one line each, with the line of the input that it is about. */
 #ifndef MESSAGE_H
 #define MESSAGE_H
 

@@ -18,8 +18,8 @@ int save_over(const struct place *place, int old, const uint8_t *table);
 int save_new(const struct place *place, mode_t mode, const uint8_t *table);
 
 /*
- * Removes what killed saves have left in the folder: files of this user that no living host writes, and second names of
- * the file that this host has locked.
+ * Removes what killed saves have left in the folder: files of this user that no living host writes, and second names
+ * of the file that this host has locked.
  */
 void remove_strays(int folder, int locked);
 

@@ -12,9 +12,9 @@
  * else that the call gets, and nobody else writes to what a call is given while it runs. Two things that a call only
  * reads may overlap.
  *
- * Threads. The library has no state of its own and takes no memory but stack: SCALEBENCH_CHANGE_STACK_BYTES and the like
- * below are upper bounds for a thread that makes a call. Calls on different tables may run at the same time; so may ask
- * and intake on one table while nobody changes it.
+ * Threads. The library has no state of its own and takes no memory but stack; SCALEBENCH_CHANGE_STACK_BYTES and the
+ * like below say how much. Calls on different tables may run at the same time; so may ask and intake on one table
+ * while nobody changes it.
  *
  * A whole program. It prints "approved, 2 states, 2 transitions".
  *
@@ -63,8 +63,8 @@ extern "C" {
 #define SCALEBENCH_LINE_BYTES 512
 
 /*
- * The stack that a call takes at most: add and remove, ask and intake, read. Measured on x86-64 and rounded up by about
- * a fifth (160, 79 and 41 KiB measured); tests/stack.c makes the calls on stacks of these sizes.
+ * The stack that a call takes at most: add and remove; ask and intake; read. Measured on x86-64 (160, 79 and 41 KiB)
+ * and rounded up by about a fifth. tests/stack.c makes the calls on stacks of these sizes.
  */
 #define SCALEBENCH_CHANGE_STACK_BYTES 196608
 #define SCALEBENCH_ASK_STACK_BYTES 98304
@@ -93,8 +93,8 @@ uint64_t scalebench_remove(const uint8_t *tree, size_t tree_len, uint8_t *table,
                            size_t scratch_len);
 
 /*
- * Reads one line of text, without its end: (add TREE), (drop TREE) or (ask TREE), where TREE is a label in decimal with
- * its child trees after it, in brackets, as in (1 (1) (2)). The kind of the answer is one of those below. The listing of
+ * Reads one line of text, without its end: (add TREE), (drop TREE) or (ask TREE). TREE is a label in decimal with its
+ * child trees after it, in brackets, as in (1 (1) (2)). The kind of the answer is one of those below. The listing of
  * the line's tree goes to the start of `listing`, with zeros after it; all zeros if the line has no listing. It may
  * break the conditions of the calls (label 0, nine children, more than 48 nodes), which then refuse it.
  */

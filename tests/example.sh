@@ -21,8 +21,8 @@ passed=$((passed + 1))
 
 if command -v g++ >/dev/null; then
     cp $example.c $example.cc
-    if ! g++ -Wall -Wextra -Wpedantic -Wconversion -Wsign-conversion -Wold-style-cast -Wuseless-cast -Werror -Iinclude \
-        -o $example-cc $example.cc target/staticlib/libscalebench.a || [ "$($example-cc)" != "$want" ]; then
+    if ! g++ -Wall -Wextra -Wpedantic -Wconversion -Wsign-conversion -Wold-style-cast -Wuseless-cast -Werror \
+        -Iinclude -o $example-cc $example.cc target/staticlib/libscalebench.a || [ "$($example-cc)" != "$want" ]; then
         echo "$passed passed, 1 failed"
         exit 1
     fi

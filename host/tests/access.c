@@ -16,7 +16,7 @@
 
 static const char list_name[] = "system.posix_acl_access", default_name[] = "system.posix_acl_default";
 
-/* As the kernel has it: version 2, then tag, permissions and number of each entry; owner, a user, group, mask, others. */
+/* As the kernel has it: version 2, then tag, permissions and number of owner, a user, group, mask and others. */
 struct entry {
     uint16_t tag, permissions;
     uint32_t number;
@@ -54,7 +54,7 @@ int main(int count, char **arguments)
     if (setxattr(".", default_name, &list, sizeof list, 0) != 0)
         return errno == ENOTSUP ? 77 : 1;
     int fine = check(save(arguments[1], "(add (101))"), "no save in a folder with a list");
-    fine &= check(getxattr("book", list_name, bytes, sizeof bytes) < 0 && errno == ENODATA, "the folder's list is taken");
+    fine &= check(getxattr("book", list_name, bytes, sizeof bytes) < 0 && errno == ENODATA, "the folder's list taken");
     fine &= check(stat("book", &status) == 0 && (status.st_mode & 0777) == 0640, "the mode is not kept");
     removexattr(".", default_name);
     fine &= check(setxattr("book", list_name, &list, sizeof list, 0) == 0, "no list for the book");

@@ -52,7 +52,7 @@ equal 'its file' "$(wc -c <./--book)" 11467
 # Names with bytes that a terminal would obey.
 name=$(printf 'a\033[31mb\tc\177d\\e')
 run 'a name with control bytes' 3 '' "$name"
-told 'a name with control bytes' 'cannot open a\x1b[31mb\x09c\x7fd\x5ce: No such file or directory (--new begins a book)'
+told 'a name with control bytes' 'cannot open a\x1b[31mb\x09c\x7fd\x5ce: No such file or directory (--new begins'
 run 'such an option' 2 '' "--$name"
 told 'such an option' 'unknown option: --a\x1b[31mb'
 run 'an empty name' 3 '' ''
