@@ -184,9 +184,9 @@ static int changeable(struct book *book, int file)
 {
     struct stat status;
     const char *reason = NULL;
-    if (!book->tidied)
+    if (!book->locked_before)
         remove_strays(book->place.folder, file);
-    book->tidied = 1;
+    book->locked_before = 1;
     if (fstat(file, &status) < 0)
         reason = strerror(errno);
     else if ((status.st_mode & 0222) == 0)
@@ -200,8 +200,12 @@ static int changeable(struct book *book, int file)
 
 enum status book_lock(struct book *book)
 {
+    const struct timespec moment = {0, 100000};
     struct stat now;
     enum status status;
+    /* A host that makes one change after another leaves the book alone for a moment, so that others get their turn. */
+    if (book->locked_before)
+        nanosleep(&moment, NULL);
     int file = open_locked(book, &status);
     if (file < 0)
         return status;
@@ -215,12 +219,9 @@ enum status book_lock(struct book *book)
     return STATUS_FINE;
 }
 
-/* A host that makes one change after another leaves the book alone for a moment, so that others get their turn. */
 void book_release(struct book *book)
 {
-    const struct timespec moment = {0, 100000};
     flock(book->file, LOCK_UN);
-    nanosleep(&moment, NULL);
 }
 
 enum status book_save(struct book *book)

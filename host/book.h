@@ -11,10 +11,10 @@
 struct book {
     uint8_t table[SCALEBENCH_TABLE_BYTES];
     struct place place;
-    int file;         /* the file that the table was read from or saved to; -1 if there is none */
-    struct stat seen; /* that file as it was then */
-    unsigned wait;    /* how many seconds to wait for another host */
-    int tidied;       /* strays have been removed */
+    int file;          /* the file that the table was read from or saved to; -1 if there is none */
+    struct stat seen;  /* that file as it was then */
+    unsigned wait;     /* how many seconds to wait for another host */
+    int locked_before; /* by this host */
 };
 
 /* A missing book is begun, as the empty table. The book is only tried: it is read once and not written. */
