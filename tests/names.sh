@@ -48,13 +48,13 @@ kind == "src" {
         for (i = 1; i <= count; i++) if (word[i] != ":") print word[i], file
     }
 }' crates/*/specs/*.antt crates/*/proofs/*.antt crates/*/src/*.rt >"$work/names"
-grep -oh '\(scalebench\|SCALEBENCH\)_[A-Za-z_0-9]*' include/*.h | sort -u | sed 's|$| include/scalebench|' >>"$work/names"
+tr -c 'A-Za-z_0-9' '\n' <include/scalebench.h | sed -n '/^scalebench_/p; /^SCALEBENCH_/p' | sort -u |
+    sed 's|$| include/scalebench|' >>"$work/names"
 
 # The paragraphs, list items and table rows of the documents, one a line. Blocks of code are left out.
 awk '
-function put() { if (text != "") print FILENAME_OF "\t" text; text = "" }
-FNR == 1 { put() }
-{ FILENAME_OF = FILENAME }
+function put() { if (text != "") print document "\t" text; text = "" }
+FNR == 1 { put(); document = FILENAME }
 /^    / { put(); next }
 /^$/ || /^\|/ || /^- / || /^#/ { put() }
 { line = $0; sub(/^ +/, "", line); text = text == "" ? line : text " " line }
