@@ -33,8 +33,9 @@ fn put_byte(out: &mut [u8; LINE_BYTES], at: usize, byte: u8) -> usize
     at + 1
 }
 
-fn put_word(out: &mut [u8; LINE_BYTES], at: usize, word: &[u8]) -> usize
-    requires { ⌜ TextRoom (now out) at (length (now word)) ⌝ }
+// Puts a text into a buffer of any size.
+pub fn put_word(out: &mut [u8], at: usize, word: &[u8]) -> usize
+    requires { ⌜ at + length (now word) ≤ length (now out) ⌝ }
     ensures { λ r. ⌜ Put (now (out .entry)) (now (out .exit)) at (now (word .entry)) r ⌝ }
 {
     let mut i = 0;
