@@ -1,12 +1,12 @@
 -- The digits of labels: what may follow a number, and the text of a number with one digit more.
-use mathlib.Core.Bool.{Bool, _&&_, false, true}
+use mathlib.Core.Bool.{Bool, false, not, true}
 use mathlib.Core.List.{[], _++_, _∷_}
 use mathlib.Core.Logic.{_⊎_, inl, inr}
-use mathlib.Core.Path.{_≡_, refl}
-use Prim.Native.Nat.{_%_, _-_, _/_, _<_, _≤_, ℕ}
+use mathlib.Core.Path.{_∙_, _≡_, sym}
+use Prim.Native.Nat.{_%_, _*_, _+_, _-_, _/_, _<_, _≤_, ℕ}
 use native.Mathlib.Omega.{arith}
 use lib.Dec.{leb, ltb}
-use borrow.Author.Tests.{le-leb, le-ltb, leb-true, lt-ltb, ltb-false, ltb-true}
+use borrow.Author.Tests.{le-leb, le-ltb, leb-true, lt-ltb, ltb-false, ltb-true, not-false, not-true}
 use Rattle.format.specs.Format.{maxLabel}
 use Rattle.text.specs.Grammar.{digit, labelText}
 use Rattle.text.specs.Reader.{extended, extends, isDigit}
@@ -15,6 +15,10 @@ use Rattle.lists.proofs.Tests.{and-both, and-left, and-right, test}
 pub digit-bounds : (b : ℕ) → isDigit b ≡ true → (digit 0 ≤ b) × (b ≤ digit 9)
 digit-bounds b e =
     (leb-true (digit 0) b (and-left _ _ e), leb-true b (digit 9) (and-right (leb (digit 0) b) _ e))
+
+-- b is a digit, by what a test of it returned
+pub digit-low : (b : ℕ) (r : Bool) → r ≡ isDigit b → not r ≡ false → digit 0 ≤ b
+digit-low b r e n = digit-bounds b (sym e ∙ not-false r n) .0
 
 pub record Extends (a b : ℕ) : Type 0 where
   pub low : digit 0 ≤ b
@@ -70,9 +74,14 @@ label-extended a b x = go (test (ltb a 10))
           r,
         )
 
-pub extends-zero : (a b : ℕ) → a ≡ 0 → false ≡ extends a b
-extends-zero a b e = go (isDigit b)
-  where
-    go : (d : Bool) → false ≡ (d && (ltb 0 a && leb (extended a b) maxLabel))
-    go true = rw e
-    go false = refl
+-- what `extends` returns, by its own tests
+module _ (a b : ℕ) (r : Bool) (e : r ≡ isDigit b) where
+  pub extends-other : not r ≡ true → false ≡ extends a b
+  extends-other n = let d = sym e ∙ not-true r n in rw d
+
+  module _ (n : not r ≡ false) where
+    pub extends-zero : a ≡ 0 → false ≡ extends a b
+    extends-zero z = let d = sym e ∙ not-false r n in rw (d, z)
+
+    pub extends-small : (a ≡ 0 → ⊥) → (v : ℕ) → v ≡ b - digit 0 → leb (10 * a + v) maxLabel ≡ extends a b
+    extends-small z v q = let d = sym e ∙ not-false r n in rw (d, lt-ltb 0 a (omega arith), q)

@@ -1,17 +1,19 @@
--- What the functions within the reader answer, in terms of the grammar and of the scan.
+-- What the functions within the reader return, in terms of the grammar and of the scan.
 use mathlib.Core.Bool.{cond, false}
 use mathlib.Core.List.{List, [], _++_, _∷_}
 use mathlib.Core.Path.{_≡_}
-use Prim.Native.Nat.{_+_, _≤_, suc, ℕ}
+use Prim.Native.Nat.{_*_, _≤_, suc, ℕ}
 use lib.Dec.{eqb}
 use lib.ListN.{drop, getD, length, take}
 use lib.Seq.{sets}
-use Rattle.format.specs.Format.{listingBytes, maxLabel, maxLine}
+use Rattle.format.specs.Format.{listingBytes, maxLabel, nodeBytes}
+use Rattle.text.specs.Columns.{Ahead, OnLine}
 use Rattle.text.specs.Grammar.{AllLabelled, Labelled, childrenText, closeBracket, labelText, openBracket}
 use Rattle.text.specs.Grammar.{treeText}
 use Rattle.text.specs.Outcome.{padded}
-use Rattle.text.specs.Reader.{Open, Place, among, bad, ending, expecting, extends, isDigit, readForm}
-use Rattle.text.specs.Reader.{scan, treeRead, whole}
+use Rattle.text.specs.Reader.{Open, Place, Reading, among, bad, ending, expecting, extends, isDigit}
+use Rattle.text.specs.Reader.{readForm, scan, treeRead, whole}
+use Rattle.text.specs.declared.cursor.Cursor.{Cursor}
 use Rattle.text.specs.declared.FormParsed.{FormParsed}
 use Rattle.text.specs.declared.FormParsed.the-variants.{Broken, Whole}
 use Rattle.text.specs.declared.Label.{Label}
@@ -43,51 +45,60 @@ unfoldable pub LabelRead : List ℕ → Label → Type 0
 LabelRead s (Number a i) = LabelTo s i a × (extends a (getD s i 0) ≡ false)
 LabelRead s Nothing = isDigit (getD s 0 0) ≡ false
 
--- the table l has its size, and a place of it that rises with the bytes read of s stays small
-pub record ListingRoom (s l : List ℕ) (at : ℕ) : Type 0 where
+-- a reader's cursor in the line s, and the table l of which a place rises with the cursor
+pub record ReaderAt (s : List ℕ) (c : Cursor) (l : List ℕ) (at : ℕ) : Type 0 where
+  pub line : OnLine s c
   pub size : length l ≡ listingBytes
-  pub bound : at + length s ≤ maxLine
+  pub room : at ≤ nodeBytes * c .place
 
--- s starts with a tree of n bytes, whose listing of u bytes was written to l from a place on, which gave m
-pub record TreeText (s l : List ℕ) (at : ℕ) (m : List ℕ) (n u : ℕ) : Type 0 where
+-- a tree stands between the cursors c and d, and its listing of u bytes was written to l from a place on, which gave m
+pub record TreeText (s : List ℕ) (c : Cursor) (l : List ℕ) (at : ℕ) (m : List ℕ) (d : Cursor) (u : ℕ) : Type 0 where
   pub tree : Tree
   pub labels : Labelled tree
-  pub text : s ≡ treeText tree ++ drop n s
-  pub size : n ≡ length (treeText tree)
+  pub text : drop (c .place) s ≡ treeText tree ++ drop (d .place) s
+  pub after : Ahead c (length (treeText tree)) d
   pub used : u ≡ length (listing tree)
   pub written : m ≡ sets l at (listing tree)
 
--- the same of k children and the closing bracket behind them
-pub record ChildrenText (s l : List ℕ) (at : ℕ) (m : List ℕ) (k n u : ℕ) : Type 0 where
+-- the same of k children and the closing bracket after them
+pub record ChildrenText (s : List ℕ) (c : Cursor) (l : List ℕ) (at : ℕ) (m : List ℕ) (k : ℕ) (d : Cursor) (u : ℕ) :
+    Type 0 where
   pub trees : Forest
   pub labels : AllLabelled trees
-  pub text : s ≡ childrenText trees ++ (closeBracket ∷ drop n s)
+  pub text : drop (c .place) s ≡ childrenText trees ++ (closeBracket ∷ drop (d .place) s)
   pub number : k ≡ count trees
-  pub size : n ≡ suc (length (childrenText trees))
+  pub after : Ahead c (suc (length (childrenText trees))) d
   pub used : u ≡ length (listings trees)
   pub written : m ≡ sets l at (listings trees)
 
--- scanned from these places, whatever nodes are around them, s is not allowed from its byte i on
-pub record Refused (s : List ℕ) (from : List Open → Place) (i : ℕ) : Type 0 where
-  pub within : i ≤ length s
-  pub refused : (n : ℕ) (os : List Open) → ending (n + length s) (scan s n (from os)) ≡ bad (n + i)
+-- what is read of the line s from the cursor c on, at a place of the grammar
+abbrev pub readFrom : List ℕ → Cursor → Place → Reading
+readFrom s c p = ending (suc (length s)) (scan (drop (c .place) s) (c .column) p)
 
-unfoldable pub TreeRead : List ℕ → List ℕ → ℕ → List ℕ → TreesRead → Type 0
-TreeRead s l at m (Trees k n u) = TreeText s l at m n u
-TreeRead s l at m (Bad i) = Refused s (expecting (openBracket ∷ [])) i × (length m ≡ length l)
+-- no tree stands at the cursor c, whatever nodes are around it: the first byte that is not allowed is at d
+pub record NoTree (s : List ℕ) (c : Cursor) (l m : List ℕ) (d : Cursor) : Type 0 where
+  pub refused : (os : List Open) → readFrom s c (expecting (openBracket ∷ []) os) ≡ bad (d .column)
+  pub size : length m ≡ length l
 
-unfoldable pub ChildrenRead : List ℕ → List ℕ → ℕ → List ℕ → TreesRead → Type 0
-ChildrenRead s l at m (Trees k n u) = ChildrenText s l at m k n u
-ChildrenRead s l at m (Bad i) = ((a : ℕ) (f : Forest) → Refused s (among a f) i) × (length m ≡ length l)
+-- the same of children and the closing bracket after them
+pub record NoChildren (s : List ℕ) (c : Cursor) (l m : List ℕ) (d : Cursor) : Type 0 where
+  pub refused : (a : ℕ) (f : Forest) (os : List Open) → readFrom s c (among a f os) ≡ bad (d .column)
+  pub size : length m ≡ length l
 
--- how a line is read that comes to the end of its tree, with a listing of u bytes, before byte e
-unfoldable pub LineEnd : List ℕ → ℕ → ℕ → FormParsed → Type 0
-LineEnd s e u (Whole n) =
-    (n ≡ u) × ((t : Tree) → ending (suc (length s)) (scan (drop e s) (suc e) (treeRead t)) ≡ whole t)
-LineEnd s e u (Broken i) =
-    (i ≤ length s) × ((t : Tree) → ending (suc (length s)) (scan (drop e s) (suc e) (treeRead t)) ≡ bad (suc i))
+unfoldable pub TreeRead : List ℕ → Cursor → List ℕ → ℕ → List ℕ → TreesRead → Type 0
+TreeRead s c l at m (Trees k d u) = TreeText s c l at m d u
+TreeRead s c l at m (Bad d) = NoTree s c l m d
+
+unfoldable pub ChildrenRead : List ℕ → Cursor → List ℕ → ℕ → List ℕ → TreesRead → Type 0
+ChildrenRead s c l at m (Trees k d u) = ChildrenText s c l at m k d u
+ChildrenRead s c l at m (Bad d) = NoChildren s c l m d
+
+-- how a line is read from the cursor c after its tree, which has a listing of u bytes
+unfoldable pub LineEnd : List ℕ → Cursor → ℕ → FormParsed → Type 0
+LineEnd s c u (Whole n) = (n ≡ u) × ((t : Tree) → readFrom s c (treeRead t) ≡ whole t)
+LineEnd s c u (Broken d) = (t : Tree) → readFrom s c (treeRead t) ≡ bad (d .column)
 
 -- the reading of a line with the bytes w before its tree
 unfoldable pub FormRead : List ℕ → List ℕ → List ℕ → FormParsed → Type 0
 FormRead w s m (Whole n) = (t : Tree) × (readForm w s ≡ whole t) × (n ≡ length (listing t)) × (m ≡ padded (listing t))
-FormRead w s m (Broken i) = (readForm w s ≡ bad (suc i)) × (i ≤ length s) × (length m ≡ listingBytes)
+FormRead w s m (Broken d) = (readForm w s ≡ bad (d .column)) × (length m ≡ listingBytes)

@@ -1,5 +1,5 @@
 pub mod Grammar
 pub mod Reader
 pub mod Outcome
-pub mod Answers
 pub mod Columns
+pub mod Answers
