@@ -8,3 +8,4 @@ pub mod Distinct
 pub mod Clearing
 pub mod Filling
 pub mod Parts
+pub mod Decimal

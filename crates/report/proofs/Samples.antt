@@ -1,7 +1,8 @@
 -- The lines that document 01 prints for its example, and others, computed.
 use mathlib.Core.List.{[], _∷_}
 use mathlib.Core.Path.{_≡_, refl}
-use Rattle.report.specs.Report.{decimal, digits, done, endText, field, form, lineText, outcomeText, refused}
+use Rattle.lists.specs.Decimal.{decimal, digits}
+use Rattle.report.specs.Report.{done, endText, field, form, lineText, outcomeText, refused}
 
 -- 1 done 2 2
 done-sample : lineText 1 (done 2 2) ≡ 49 ∷ 32 ∷ 100 ∷ 111 ∷ 110 ∷ 101 ∷ 32 ∷ 50 ∷ 32 ∷ 50 ∷ 10 ∷ []

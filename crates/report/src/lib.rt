@@ -3,8 +3,9 @@ ghost use mathlib.Core.Path.{_≡_};
 ghost use mathlib.Core.List.{[], _∷_};
 ghost use Prim.Native.Nat.{_+_, _<_, _≤_};
 ghost use lib.ListN.{length};
+ghost use Rattle.lists.specs.Decimal.{decimal, digit};
 ghost use Rattle.report.specs.Printing.{Printed, Put, TextRoom, fieldBytes, lineBytes, meaning, outcomeBytes};
-ghost use Rattle.report.specs.Report.{decimal, digit, endText, field, lineText, outcomeText};
+ghost use Rattle.report.specs.Report.{endText, field, lineText, outcomeText};
 
 // The bytes of the buffer. The longest line has 68.
 pub const LINE_BYTES: usize = 80;

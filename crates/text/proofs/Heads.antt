@@ -13,7 +13,8 @@ use mir.Val.{Fits}
 use borrow.Author.Tests.{eq-eqb, ne-eqb, not-false, not-true}
 use Rattle.format.specs.Format.{listingBytes}
 use Rattle.text.specs.Answers.{LabelRead, LabelTo, agreed}
-use Rattle.text.specs.Grammar.{digit, labelText}
+use Rattle.lists.specs.Decimal.{digit}
+use Rattle.text.specs.Grammar.{labelText}
 use Rattle.text.specs.Outcome.{noListing}
 use Rattle.text.specs.Reader.{extends, isDigit}
 use Rattle.text.specs.declared.Label.the-variants.{Nothing, Number}

@@ -11,7 +11,7 @@ use lib.ListN.{drop, getD, length, take, take-append-drop}
 use lib.Seq.{take-take}
 use borrow.Author.Tests.{eqb-false, eqb-true, le-leb, leb-false, leb-true, lt-leb}
 use Rattle.format.specs.Format.{maxLine}
-use Rattle.text.specs.Grammar.{Command, FirstBad, Labelled, head, commandText, toAdd, toAsk, toDrop}
+use Rattle.text.specs.Grammar.{Command, CommandLine, FirstBad, head, toAdd, toAsk, toDrop}
 use Rattle.text.specs.Reader.{Line, Reading, asLine, bad, form, formed, further, long, readForm}
 use Rattle.text.specs.Reader.{readLine, whole}
 use Rattle.trees.specs.Listing.{listing}
@@ -132,14 +132,8 @@ long-line : (s : List ℕ) → maxLine < length s → readLine s ≡ long
 unfolding readLine
 long-line s h = rw (lt-leb (length s) maxLine h)
 
--- a line is the text of a command and a tree with labels 0 to 255, whatever its size, and l is the tree's listing
-pub record Lists (s : List ℕ) (c : Command) (l : List ℕ) : Type 0 where
-  pub tree : Tree
-  pub labels : Labelled tree
-  pub text : s ≡ commandText c tree
-  pub bytes : l ≡ listing tree
-
-pub line-formed : (s : List ℕ) (c : Command) (l : List ℕ) → length s ≤ maxLine → readLine s ≡ formed c l ↔ Lists s c l
+pub line-formed : (s : List ℕ) (c : Command) (l : List ℕ) → length s ≤ maxLine →
+    readLine s ≡ formed c l ↔ CommandLine s c l
 line-formed s c l h = (
   λ e.
       let (t, q, b) = formed-one (readings s) c l (sym (short-line s h) ∙ e) in

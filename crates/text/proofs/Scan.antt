@@ -10,7 +10,8 @@ use native.Mathlib.Omega.{arith}
 use lib.Dec.{eqb}
 use lib.ListN.{drop, getD, length}
 use lib.Seq.{drop-cons}
-use Rattle.text.specs.Grammar.{closeBracket, digit, space}
+use Rattle.lists.specs.Decimal.{digit}
+use Rattle.text.specs.Grammar.{closeBracket, space}
 use Rattle.text.specs.Reader.{Open, Place, among, bad, behind, ending, expecting, extends, isDigit, lineRead}
 use Rattle.text.specs.Reader.{naming, next, onward, scan, stuck, treeRead}
 use Rattle.trees.specs.Tree.{Forest, Tree, _⧺_, cons, nil, node}

@@ -1,31 +1,20 @@
 -- Sizes: a tree's listing against its text, and a listing written byte by byte.
-use mathlib.Core.Bool.{Bool, cond, false, true}
 use mathlib.Core.List.{List, [], _++_, _∷_}
 use mathlib.Core.Path.{_∙_, _≡_, ap, refl, sym}
-use Prim.Native.Nat.{_%_, _*_, _+_, _/_, _<_, _≤_, suc, ℕ}
+use Prim.Native.Nat.{_*_, _+_, _<_, _≤_, suc, ℕ}
 use native.Mathlib.Nat.{add-zero}
 use native.Mathlib.Omega.{arith}
-use lib.Dec.{ltb}
 use lib.ListN.{drop, length, length-append, length-drop, set}
 use lib.Seq.{length-sets, set-comm, sets}
 use Rattle.format.specs.Format.{nodeBytes}
 use Rattle.text.specs.Answers.{ChildrenText, TreeText}
 use Rattle.text.specs.Columns.{OnLine}
-use Rattle.text.specs.Grammar.{childrenText, closeBracket, digit, labelText, treeText}
+use Rattle.text.specs.Grammar.{childrenText, closeBracket, labelText, treeText}
 use Rattle.text.specs.declared.cursor.Cursor.{Cursor}
 use Rattle.trees.specs.Listing.{listing, listings}
 use Rattle.trees.specs.Tree.{Forest, Tree, cons, count, nil, node}
+use Rattle.lists.proofs.Decimal.{decimal-some}
 use Rattle.text.proofs.Cursors.{ahead-on-line}
-
-label-some : (a : ℕ) → 1 ≤ length (labelText a)
-unfolding labelText
-label-some a = go (ltb a 10) (ltb a 100)
-  where
-    go : (p q : Bool) → 1 ≤ length (cond p (digit a ∷ []) (cond q (digit (a / 10) ∷ digit (a % 10) ∷ [])
-        (digit (a / 100) ∷ digit (a / 10 % 10) ∷ digit (a % 10) ∷ [])))
-    go true q = omega arith
-    go false true = omega arith
-    go false false = omega arith
 
 -- n nodes have a listing of n times a node's bytes, and a text of 4 n, but for the first node's space
 pub record TreeSize (t : Tree) : Type 0 where
@@ -52,7 +41,7 @@ mutual
             nodes = suc (x .nodes);
             some = omega arith;
             listed = omega (arith, x .listed);
-            text = omega (arith, x .text, l, k, label-some a);
+            text = omega (arith, x .text, l, k, decimal-some a);
           }
 
   pub forest-size : (f : Forest) → ForestSize f

@@ -3,3 +3,4 @@ pub mod Reader
 pub mod Outcome
 pub mod Columns
 pub mod Answers
+pub mod Samples

@@ -5,7 +5,8 @@ use Prim.Native.Nat.{_*_, _+_, _-_, max, suc, ℕ}
 use lib.Dec.{eqb, leb, ltb}
 use lib.ListN.{length}
 use Rattle.format.specs.Format.{maxLabel, maxLine}
-use Rattle.text.specs.Grammar.{Command, closeBracket, digit, head, openBracket, space, toAdd, toAsk, toDrop}
+use Rattle.lists.specs.Decimal.{digit}
+use Rattle.text.specs.Grammar.{Command, closeBracket, head, openBracket, space, toAdd, toAsk, toDrop}
 use Rattle.trees.specs.Listing.{listing}
 use Rattle.trees.specs.Tree.{Forest, Tree, _⧺_, cons, nil, node}
 
