@@ -2,10 +2,11 @@
 use mathlib.Core.List.{List, [], _++_, _∷_, append-assoc}
 use mathlib.Core.Path.{_∙_, _≡_, ap, refl, sym}
 use Prim.Native.Nat.{_*_, _+_, _-_, _<_, _≤_, suc, ℕ}
+use native.Mathlib.Nat.{add-zero}
 use native.Mathlib.Omega.{arith}
 use lib.ListN.{drop, getD, length, length-append}
 use lib.Seq.{drop-cons, sets}
-use mir.Syntax.{w64, w8}
+use mir.Syntax.{w8}
 use mir.Val.{Fits}
 use borrow.Author.Tests.{ne-eqb}
 use Rattle.text.specs.Answers.{ChildrenRead, ChildrenText, NoChildren, NoTree, ReaderAt, TreeRead, TreeText}
@@ -52,7 +53,7 @@ module _ (s : List ℕ) (c : Cursor) (l : List ℕ) (at : ℕ) (x : ReaderAt s c
       byte-text b e =
           let i : suc (c .place) ≡ d .place = omega (arith, past) in drop-cons s (c .place) 0 h ∙ rw (e, i)
 
-      pub children-end : getD s (c .place) 0 ≡ closeBracket → ChildrenRead s c l at l (Trees 0 d 0)
+      pub children-end : getD s (c .place) 0 ≡ closeBracket → ChildrenRead s c l at l (Trees 0 d at)
       unfolding ChildrenRead
       children-end e =
           record {
@@ -61,7 +62,7 @@ module _ (s : List ℕ) (c : Cursor) (l : List ℕ) (at : ℕ) (x : ReaderAt s c
             text = byte-text closeBracket e;
             number = refl;
             after = past;
-            used = refl;
+            end = sym (add-zero at);
             written = refl;
           }
 
@@ -93,7 +94,7 @@ module _ (s : List ℕ) (c : Cursor) (l : List ℕ) (at : ℕ) (x : ReaderAt s c
             unfolding TreeRead
             first = rw z at y
 
-            first-bounds : Bounds s d l m f u
+            first-bounds : Bounds s d l at m f u
             first-bounds = tree-bounds past-on-line first
 
             child : (a : ℕ) (g : Forest) (os : List Open) →
@@ -105,11 +106,8 @@ module _ (s : List ℕ) (c : Cursor) (l : List ℕ) (at : ℕ) (x : ReaderAt s c
                 read-on past-on-line (treeText (first .tree)) (expecting (openBracket ∷ []) os') v (first .text)
                 (first .after) (λ k. scan-tree (first .tree) (drop (f .place) s) k os' (first .labels))
 
-            pub later-at-fits : Fits w64 (at + u)
-            later-at-fits = omega (arith, first-bounds .used, first-bounds .line, past, x .room)
-
             pub later-ready : (t : ℕ) → length s - c .place ≡ t →
-                (length s - f .place < t) × ReaderAt s f m (at + u)
+                (length s - f .place < t) × ReaderAt s f m u
             later-ready t k = (
               omega (arith, past, first-bounds .further, first-bounds .line),
               record {
@@ -120,7 +118,7 @@ module _ (s : List ℕ) (c : Cursor) (l : List ℕ) (at : ℕ) (x : ReaderAt s c
             )
 
             -- the others are read
-            module _ (o : List ℕ) (q : TreesRead) (v : ChildrenRead s f m (at + u) o q) where
+            module _ (o : List ℕ) (q : TreesRead) (v : ChildrenRead s f m u o q) where
               pub children-broken-later : (g : Cursor) → q ≡ Bad g → ChildrenRead s c l at o (Bad g)
               unfolding ChildrenRead
               children-broken-later g w =
@@ -131,21 +129,17 @@ module _ (s : List ℕ) (c : Cursor) (l : List ℕ) (at : ℕ) (x : ReaderAt s c
                   }
 
               module _ (k : ℕ) (g : Cursor) (w : ℕ) (j : q ≡ Trees k g w) where
-                later : ChildrenText s f m (at + u) o k g w
+                later : ChildrenText s f m u o k g w
                 unfolding ChildrenRead
                 later = rw j at v
 
-                later-bounds : Bounds s f m o g w × (4 * k + f .place < g .place)
+                later-bounds : Bounds s f m u o g w × (4 * k + f .place < g .place)
                 later-bounds = children-bounds (first-bounds .line) later
 
                 pub children-count-fits : Fits w8 (k + 1)
                 children-count-fits = omega (arith, later-bounds, later-bounds .0 .line)
 
-                pub children-used-fits : Fits w64 (u + w)
-                children-used-fits =
-                    omega (arith, first-bounds .used, later-bounds .0 .used, later-bounds .0 .line)
-
-                pub children-whole : ChildrenRead s c l at o (Trees (k + 1) g (u + w))
+                pub children-whole : ChildrenRead s c l at o (Trees (k + 1) g w)
                 unfolding ChildrenRead
                 children-whole =
                     let t = first .tree in
@@ -165,8 +159,8 @@ module _ (s : List ℕ) (c : Cursor) (l : List ℕ) (at : ℕ) (x : ReaderAt s c
                         place = omega (arith, past, z', i, i');
                         column = omega (arith, past, z', i, i');
                       };
-                      used = omega (arith, first .used, later .used, length-append (listing t) (listings ts));
+                      end = omega (arith, first .end, later .end, length-append (listing t) (listings ts));
                       written =
-                          later .written ∙ (λ v. sets (first .written v) (at + first .used v) (listings ts)) ∙
+                          later .written ∙ (λ v. sets (first .written v) (first .end v) (listings ts)) ∙
                           sym (sets-append l at (listing t) (listings ts));
                     }

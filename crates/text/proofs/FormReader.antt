@@ -192,7 +192,7 @@ module _ (w s : List ℕ) (n : length s ≤ maxLine) (k : ℕ) (a : k ≡ agreed
               let z' = length-append (treeText t) (closeBracket ∷ []) in
               let a' = tree-size t in
               let p' : length (listing t) ≤ listingBytes = omega (arith, q, z', a' .listed, a' .text) in
-              (t, o, p ∙ form-tree .used, form-tree .written ∙ sets-blank (listing t) p')
+              (t, o, p ∙ form-tree .end ∙ zero-add (length (listing t)), form-tree .written ∙ sets-blank (listing t) p')
           form-closed i (Broken v) y = (
             after-tree ∙ y (form-tree .tree),
             ap length (form-tree .written) ∙ length-sets noListing 0 (listing (form-tree .tree)) ∙ length-blank,

@@ -73,14 +73,14 @@ set-sets l i a j (x ∷ v) h =
     ap (λ m. sets m (suc j) v) (sym (set-comm l i j a x (λ e. absurd (omega arith))))
 
 -- what was read ends on the line, and takes at most the bytes of a node in the listing for each byte of the text
-pub record Bounds (s : List ℕ) (c : Cursor) (l m : List ℕ) (d : Cursor) (u : ℕ) : Type 0 where
+pub record Bounds (s : List ℕ) (c : Cursor) (l : List ℕ) (at : ℕ) (m : List ℕ) (d : Cursor) (u : ℕ) : Type 0 where
   pub line : OnLine s d
   pub further : c .place < d .place
-  pub used : u + nodeBytes * c .place ≤ nodeBytes * d .place
+  pub used : u + nodeBytes * c .place ≤ at + nodeBytes * d .place
   pub size : length m ≡ length l
 
 module _ {s : List ℕ} {c : Cursor} {l : List ℕ} {at : ℕ} {m : List ℕ} {d : Cursor} {u : ℕ} (o : OnLine s c) where
-  pub tree-bounds : TreeText s c l at m d u → Bounds s c l m d u
+  pub tree-bounds : TreeText s c l at m d u → Bounds s c l at m d u
   tree-bounds x =
       let z = tree-size (x .tree) in
       let e = ap length (x .text) ∙ length-append (treeText (x .tree)) (drop (d .place) s) in
@@ -88,11 +88,11 @@ module _ {s : List ℕ} {c : Cursor} {l : List ℕ} {at : ℕ} {m : List ℕ} {d
       record {
         line = ahead-on-line o f (omega (arith, e, length-drop (c .place) s, length-drop (d .place) s));
         further = omega (arith, z .some, z .text);
-        used = omega (arith, z .listed, z .text, x .used);
+        used = omega (arith, z .listed, z .text, x .end);
         size = ap length (x .written) ∙ length-sets l at (listing (x .tree));
       }
 
-  pub children-bounds : {k : ℕ} → ChildrenText s c l at m k d u → Bounds s c l m d u × (4 * k + c .place < d .place)
+  pub children-bounds : {k : ℕ} → ChildrenText s c l at m k d u → Bounds s c l at m d u × (4 * k + c .place < d .place)
   children-bounds x =
       let z = forest-size (x .trees) in
       let e = ap length (x .text) ∙ length-append (childrenText (x .trees)) (closeBracket ∷ drop (d .place) s) in
@@ -100,7 +100,7 @@ module _ {s : List ℕ} {c : Cursor} {l : List ℕ} {at : ℕ} {m : List ℕ} {d
         record {
           line = ahead-on-line o f (omega (arith, e, length-drop (c .place) s, length-drop (d .place) s));
           further = omega arith;
-          used = omega (arith, z .listed, z .text, x .used);
+          used = omega (arith, z .listed, z .text, x .end);
           size = ap length (x .written) ∙ length-sets l at (listings (x .trees));
         },
         omega (arith, z .trees, z .text, x .number),

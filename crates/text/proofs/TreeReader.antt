@@ -162,17 +162,14 @@ module _ (s : List ℕ) (c : Cursor) (l : List ℕ) (at : ℕ) (x : ReaderAt s c
                   unfolding ChildrenRead
                   rest = rw j at v
 
-                  rest-bounds : Bounds s e m n f u
+                  rest-bounds : Bounds s e m (at + nodeBytes) n f u
                   rest-bounds = children-bounds inside-on-line rest .0
 
                   pub tree-size-kept : length n ≡ listingBytes
                   tree-size-kept = rest-bounds .size ∙ size-set ∙ x .size
 
-                  pub tree-used-fits : Fits w64 (nodeBytes + u)
-                  tree-used-fits = omega (arith, rest-bounds .used, rest-bounds .line)
-
                   pub tree-whole : (g : List ℕ) → g ≡ set n (at + labelBytes) b →
-                      TreeRead s c l at g (Trees 1 f (nodeBytes + u))
+                      TreeRead s c l at g (Trees 1 f u)
                   unfolding TreeRead
                   tree-whole g i' =
                       let fs = rest .trees in
@@ -194,7 +191,7 @@ module _ (s : List ℕ) (c : Cursor) (l : List ℕ) (at : ℕ) (x : ReaderAt s c
                           place = omega (arith, name, inside, label-size, l1, l2, a');
                           column = omega (arith, name, inside, label-size, l1, l2, a');
                         };
-                        used = omega (arith, rest .used);
+                        end = omega (arith, rest .end);
                         written =
                             i' ∙ ap (λ r. set r (at + labelBytes) b) (rest .written) ∙
                             set-sets m (at + labelBytes) b (at + nodeBytes) (listings fs) (omega arith) ∙

@@ -2,7 +2,7 @@
 use mathlib.Core.Bool.{cond, false}
 use mathlib.Core.List.{List, [], _++_, _∷_}
 use mathlib.Core.Path.{_≡_}
-use Prim.Native.Nat.{_*_, _≤_, suc, ℕ}
+use Prim.Native.Nat.{_*_, _+_, _≤_, suc, ℕ}
 use lib.Dec.{eqb}
 use lib.ListN.{drop, getD, length, take}
 use lib.Seq.{sets}
@@ -51,13 +51,13 @@ pub record ReaderAt (s : List ℕ) (c : Cursor) (l : List ℕ) (at : ℕ) : Type
   pub size : length l ≡ listingBytes
   pub room : at ≤ nodeBytes * c .place
 
--- a tree stands between the cursors c and d, and its listing of u bytes was written to l from a place on, which gave m
+-- a tree stands between the cursors c and d, and its listing was written to l from `at` up to u, which gave m
 pub record TreeText (s : List ℕ) (c : Cursor) (l : List ℕ) (at : ℕ) (m : List ℕ) (d : Cursor) (u : ℕ) : Type 0 where
   pub tree : Tree
   pub labels : Labelled tree
   pub text : drop (c .place) s ≡ treeText tree ++ drop (d .place) s
   pub after : Ahead c (length (treeText tree)) d
-  pub used : u ≡ length (listing tree)
+  pub end : u ≡ at + length (listing tree)
   pub written : m ≡ sets l at (listing tree)
 
 -- the same of k children and the closing bracket after them
@@ -68,7 +68,7 @@ pub record ChildrenText (s : List ℕ) (c : Cursor) (l : List ℕ) (at : ℕ) (m
   pub text : drop (c .place) s ≡ childrenText trees ++ (closeBracket ∷ drop (d .place) s)
   pub number : k ≡ count trees
   pub after : Ahead c (suc (length (childrenText trees))) d
-  pub used : u ≡ length (listings trees)
+  pub end : u ≡ at + length (listings trees)
   pub written : m ≡ sets l at (listings trees)
 
 -- what is read of the line s from the cursor c on, at a place of the grammar

@@ -47,7 +47,7 @@ enum Label {
     Nothing,
 }
 
-// Trees in a row: how many, the cursor after them and the bytes of their listings; or the cursor at the first byte
+// Trees in a row: how many, the cursor after them and the byte after their listings; or the cursor at the first byte
 // that is not allowed.
 enum TreesRead {
     Trees(u8, Cursor, usize),
@@ -151,9 +151,9 @@ fn tree(line: &[u8], c: Cursor, listing: &mut [u8; LISTING_BYTES], at: usize) ->
     put_label(listing, at, value);
     let inside = stepped(name, len);
     match children(line, inside, listing, at + NODE_BYTES) {
-        TreesRead::Trees(count, end, used) => {
+        TreesRead::Trees(count, end, filled) => {
             put(listing, at + LABEL_BYTES, count);
-            TreesRead::Trees(1, end, NODE_BYTES + used)
+            TreesRead::Trees(1, end, filled)
         }
         TreesRead::Bad(end) => TreesRead::Bad(end),
     }
@@ -169,14 +169,14 @@ fn children(line: &[u8], c: Cursor, listing: &mut [u8; LISTING_BYTES], at: usize
         return TreesRead::Bad(c);
     }
     if line[place] == CLOSE {
-        return TreesRead::Trees(0, stepped(c, 1), 0);
+        return TreesRead::Trees(0, stepped(c, 1), at);
     }
     if line[place] != SPACE {
         return TreesRead::Bad(c);
     }
     match tree(line, stepped(c, 1), listing, at) {
-        TreesRead::Trees(_, next, used) => match children(line, next, listing, at + used) {
-            TreesRead::Trees(count, end, rest) => TreesRead::Trees(count + 1, end, used + rest),
+        TreesRead::Trees(_, next, free) => match children(line, next, listing, free) {
+            TreesRead::Trees(count, end, filled) => TreesRead::Trees(count + 1, end, filled),
             TreesRead::Bad(end) => TreesRead::Bad(end),
         },
         TreesRead::Bad(end) => TreesRead::Bad(end),
@@ -244,7 +244,7 @@ fn read_form(line: &[u8], head: &[u8], listing: &mut [u8; LISTING_BYTES]) -> For
     }
     clear(listing);
     match tree(line, c, listing, 0) {
-        TreesRead::Trees(_, end, used) => close_line(line, end, used),
+        TreesRead::Trees(_, end, len) => close_line(line, end, len),
         TreesRead::Bad(end) => FormParsed::Broken { at: end },
     }
 }

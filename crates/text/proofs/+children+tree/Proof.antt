@@ -6,10 +6,9 @@ use borrow.Fn.PlainCycle.{Measures, and, falls, is}
 use Prim.Native.Nat.{_-_, _<_, ℕ}
 use lib.ListN.{length}
 use Rattle.text.proofs.ChildrenReader.{child-ready, children-broken, children-broken-later, children-count-fits}
-use Rattle.text.proofs.ChildrenReader.{children-end, children-none, children-other, children-used-fits}
-use Rattle.text.proofs.ChildrenReader.{children-whole, later-at-fits, later-ready}
-use Rattle.text.proofs.TreeReader.{children-ready, label-ready, name-inside, tree-broken, tree-nameless, tree-none}
-use Rattle.text.proofs.TreeReader.{tree-other, tree-size-kept, tree-used-fits, tree-whole}
+use Rattle.text.proofs.ChildrenReader.{children-end, children-none, children-other, children-whole, later-ready}
+use Rattle.text.proofs.TreeReader.{children-ready, label-ready, name-inside, tree-broken, tree-nameless}
+use Rattle.text.proofs.TreeReader.{tree-none, tree-other, tree-size-kept, tree-whole}
 use Rattle.text.proofs.children.Reads as children
 use Rattle.text.proofs.children.Kinds as children-kinds
 use Rattle.text.proofs.+children+tree.Lts-children as children-lts
@@ -109,9 +108,6 @@ module _ (t : ℕ) where
   children-enum-known-next : InChildren children-lts.Need-enum-known-next
   children-enum-known-next c = search needs
 
-  children-add-children : InChildren children-lts.Need-add-children
-  children-add-children c = search later-at-fits
-
   children-children-requires : InChildren children-lts.Need-children-requires
   children-children-requires c κs =
       let after-next = c .before .before in
@@ -126,11 +122,8 @@ module _ (t : ℕ) where
   children-enum-known-count : InChildren children-lts.Need-enum-known-count
   children-enum-known-count c = search needs
 
-  children-add-t27 : InChildren children-lts.Need-add-t27
-  children-add-t27 c = search children-count-fits
-
-  children-add-t28 : InChildren children-lts.Need-add-t28
-  children-add-t28 c = search children-used-fits
+  children-add-t26 : InChildren children-lts.Need-add-t26
+  children-add-t26 c = search children-count-fits
 
   children-enum-known-end : InChildren children-lts.Need-enum-known-end
   children-enum-known-end c = search needs
@@ -234,9 +227,6 @@ module _ (t : ℕ) where
       (after-stepped2 .stepped2 .ensures) _ (after-put-label .put-label .ensures) _ _ (after-children .children
       .ensures) _ _ _ (after-count .count .given .1)
 
-  tree-add-t30 : InTree tree-lts.Need-add-t30
-  tree-add-t30 c = search tree-used-fits
-
   tree-enum-known-end : InTree tree-lts.Need-enum-known-end
   tree-enum-known-end c = search needs
 
@@ -260,11 +250,9 @@ pub +children+tree-spec : {M : Type 1} → statement M
     (children-stepped-requires-2 t)
     (children-tree-requires t)
     (children-enum-known-next t)
-    (children-add-children t)
     (children-children-requires t)
     (children-enum-known-count t)
-    (children-add-t27 t)
-    (children-add-t28 t)
+    (children-add-t26 t)
     (children-enum-known-end t)
     (children-enum-known-end-2 t)
     (children-returns-4 t)
@@ -290,7 +278,6 @@ pub +children+tree-spec : {M : Type 1} → statement M
     (tree-enum-known-count t)
     (tree-add-put t)
     (tree-put-requires t)
-    (tree-add-t30 t)
     (tree-enum-known-end t)
     (tree-returns-4 t)
     (tree-returns-5 t))
