@@ -1,5 +1,5 @@
--- Text cursors on a line: a step that stays on the line does not wrap, and what is read from a cursor on is what is read
--- from a later one after the bytes between.
+-- Text cursors on a line: a step that stays on the line does not wrap, and what is read from a cursor on is what is
+-- read from a later one after the bytes between.
 use mathlib.Core.List.{List, _++_}
 use mathlib.Core.Path.{_∙_, _≡_, ap, sym}
 use Prim.Native.Nat.{_%_, _+_, _<_, _^_, _≤_, suc, ℕ}
@@ -43,7 +43,8 @@ module _ {s : List ℕ} {c : Cursor} (o : OnLine s c) where
 
   module _ (h : c .place < length s) (p : Place) where
     -- past one byte
-    pub read-byte : {d : Cursor} → Ahead c 1 d → readFrom s c p ≡ readFrom s d (next (c .column) p (getD s (c .place) 0))
+    pub read-byte : {d : Cursor} → Ahead c 1 d →
+        readFrom s c p ≡ readFrom s d (next (c .column) p (getD s (c .place) 0))
     read-byte {d} a =
         let q = next (c .column) p (getD s (c .place) 0) in
         let i : suc (c .place) ≡ d .place = omega arith in

@@ -16,7 +16,8 @@ use Rattle.text.specs.Answers.{shortestHead}
 use Rattle.text.specs.Columns.{Ahead, OnLine, advanced, lineStart}
 use Rattle.text.specs.Grammar.{closeBracket, openBracket, treeText}
 use Rattle.text.specs.Outcome.{noListing, padded}
-use Rattle.text.specs.Reader.{Open, bad, ending, expecting, lineRead, next, readForm, scan, stuck, treeRead, whole}
+use Rattle.text.specs.Reader.{Open, bad, ending, expecting, lineRead, next, readForm, scan, stuck, treeRead}
+use Rattle.text.specs.Reader.{whole}
 use Rattle.text.specs.declared.cursor.Cursor.{Cursor}
 use Rattle.text.specs.declared.FormParsed.{FormParsed}
 use Rattle.text.specs.declared.FormParsed.the-variants.{Broken, Whole}

@@ -59,11 +59,8 @@ module _ (s : List ℕ) (c : Cursor) (l : List ℕ) (at : ℕ) (x : ReaderAt s c
     pub tree-other : (getD s (c .place) 0 ≡ openBracket → ⊥) → TreeRead s c l at l (Bad c)
     unfolding TreeRead next
     tree-other e =
-        record {
-          refused = λ os.
-              read-stuck (x .line) h (expecting (openBracket ∷ []) os) (rw (ne-eqb (getD s (c .place) 0) openBracket e));
-          size = refl;
-        }
+        let q = ne-eqb (getD s (c .place) 0) openBracket e in
+        record { refused = λ os. read-stuck (x .line) h (expecting (openBracket ∷ []) os) (rw q); size = refl }
 
     -- the bracket is read
     module _ (o : getD s (c .place) 0 ≡ openBracket) (d : Cursor) (p : d ≡ advanced c 1) where

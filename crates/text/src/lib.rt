@@ -238,12 +238,13 @@ fn read_form(line: &[u8], head: &[u8], listing: &mut [u8; LISTING_BYTES]) -> For
     ensures { λ r. ⌜ FormRead (now (head .entry)) (now (line .entry)) (now (listing .exit)) r ⌝ }
 {
     let len = agreeing(line, head);
-    let c = stepped(start(), len);
     if len < head.len() {
-        return FormParsed::Broken { at: c };
+        return FormParsed::Broken {
+            at: stepped(start(), len),
+        };
     }
     clear(listing);
-    match tree(line, c, listing, 0) {
+    match tree(line, stepped(start(), len), listing, 0) {
         TreesRead::Trees(_, end, len) => close_line(line, end, len),
         TreesRead::Bad(end) => FormParsed::Broken { at: end },
     }

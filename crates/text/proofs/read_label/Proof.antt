@@ -4,6 +4,7 @@ use Rattle.text.proofs.Heads.{label-absent, label-first, label-fits, la
 use Rattle.text.proofs.Heads.{label-other, label-stopped, tenfold-fits}
 use Rattle.text.proofs.Labels.{digit-low}
 use Rattle.text.specs.Answers.{LabelTo}
+use native.Mathlib.Omega.{arith}
 use lib.ListN.{length}
 use borrow.Author.Needs.{needs}
 use Rattle.text.proofs.read_label.Statement.{statement}
@@ -53,7 +54,12 @@ shared-slice-read-digit-value-2 c = search needs
 
 digit-value-requires-2 : tie.Need-digit-value-requires-2 Inv-loop μ-loop
 digit-value-requires-2 c κs =
-    label-low (c .before .before .before .before .before .before .before .before .before .before .before .before .before .args .s .now) (c .before .before .before .before .before .loop .i) (c .before .before .before .before .before .loop .value) _ (c .before .before .extends .ensures) (c .before .if3 .left)
+    let after-if3 = c .before in
+    let after-extends = after-if3 .before in
+    let after-loop = after-extends .before .before .before in
+    let start = after-loop .before .before .before .before .before .before .before .before in
+    label-low (start .args .s .now) (after-loop .loop .i) (after-loop .loop .value) _ (after-extends .extends
+    .ensures) (after-if3 .if3 .left)
 
 add-value : tie.Need-add-value Inv-loop μ-loop
 add-value c = search label-fits
@@ -66,7 +72,11 @@ loop-less c = search needs
 
 loop-again : tie.Need-loop-again Inv-loop μ-loop
 loop-again c =
-    label-next (c .before .before .before .before .before .before .before .before .before .before .before .before .before .before .args .s .now) (c .before .before .before .before .before .before .loop .i) (c .before .before .before .before .before .before .loop .value) _ (c .before .before .before .extends .ensures) (c .before .before .if3 .left) _ (c .digit-value2 .ensures) (c .before .before .before .before .before .before .loop .inv) (c .before .before .before .before .before .loop-test .taken)
+    let after-if3 = c .before .before in
+    let after-extends = after-if3 .before in
+    let after-loop = after-extends .before .before .before in
+    label-next _ _ _ _ (after-extends .extends .ensures) (after-if3 .if3 .left) _ (c .digit-value2 .ensures)
+    (after-loop .loop .inv) (omega arith)
 
 returns-4 : tie.Need-returns-4 Inv-loop μ-loop
 returns-4 c = search label-last

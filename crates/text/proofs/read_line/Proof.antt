@@ -25,7 +25,11 @@ enum-known-len c = search needs
 
 returns-2 : tie.Need-returns-2
 returns-2 c =
-    parsed-whole toAdd _ _ _ (c .before .before .before .read-form .ensures) (omega arith) _ (c .before .len .given .1)
+    let after-len = c .before in
+    let after-read-form = after-len .before .before in
+    let after-if1 = after-read-form .before .before .before in
+    parsed-whole toAdd _ _ _ (after-read-form .read-form .ensures) (after-if1 .if1 .left) _ (after-len .len .given
+    .1)
 
 enum-known-at : tie.Need-enum-known-at
 enum-known-at c = search needs
@@ -35,14 +39,22 @@ slice-aggregate-read-form-2 c = search needs
 
 read-form-requires-2 : tie.Need-read-form-requires-2
 read-form-requires-2 c κs =
-    (omega arith, (omega arith, broken-size toAdd _ _ _ (c .before .before .before .before .before .read-form .ensures) _ (c .before .before .before .at .given .1)))
+    let after-at = c .before .before .before in
+    let after-read-form = after-at .before .before in
+    let after-if1 = after-read-form .before .before .before in
+    let size = broken-size toAdd _ _ _ (after-read-form .read-form .ensures) _ (after-at .at .given .1) in
+    (after-if1 .if1 .left, (omega arith, size))
 
 enum-known-len-2 : tie.Need-enum-known-len-2
 enum-known-len-2 c = search needs
 
 returns-3 : tie.Need-returns-3
 returns-3 c =
-    parsed-whole toDrop _ _ _ (c .before .before .before .read-form2 .ensures) (omega arith) _ (c .before .len2 .given .1)
+    let after-len2 = c .before in
+    let after-read-form2 = after-len2 .before .before in
+    let after-if1 = after-read-form2 .before .before .before .before .before .before .before .before .before in
+    parsed-whole toDrop _ _ _ (after-read-form2 .read-form2 .ensures) (after-if1 .if1 .left) _ (after-len2 .len2
+    .given .1)
 
 enum-known-at-2 : tie.Need-enum-known-at-2
 enum-known-at-2 c = search needs
@@ -52,21 +64,31 @@ slice-aggregate-read-form-3 c = search needs
 
 read-form-requires-3 : tie.Need-read-form-requires-3
 read-form-requires-3 c κs =
-    (omega arith, (omega arith, broken-size toDrop _ _ _ (c .before .before .before .before .before .read-form2 .ensures) _ (c .before .before .before .at2 .given .1)))
+    let after-at2 = c .before .before .before in
+    let after-read-form2 = after-at2 .before .before in
+    let after-if1 = after-read-form2 .before .before .before .before .before .before .before .before .before in
+    let size = broken-size toDrop _ _ _ (after-read-form2 .read-form2 .ensures) _ (after-at2 .at2 .given .1) in
+    (after-if1 .if1 .left, (omega arith, size))
 
 enum-known-len-3 : tie.Need-enum-known-len-3
 enum-known-len-3 c = search needs
 
 returns-4 : tie.Need-returns-4
 returns-4 c =
-    parsed-whole toAsk _ _ _ (c .before .before .before .read-form3 .ensures) (omega arith) _ (c .before .len3 .given .1)
+    let after-len3 = c .before in
+    let after-read-form3 = after-len3 .before .before in
+    let after-if1 = after-read-form3 .before .before .before .before .before .before .before .before .before .before .before .before .before .before .before in
+    parsed-whole toAsk _ _ _ (after-read-form3 .read-form3 .ensures) (after-if1 .if1 .left) _ (after-len3 .len3
+    .given .1)
 
 enum-known-at-3 : tie.Need-enum-known-at-3
 enum-known-at-3 c = search needs
 
 clear-requires-2 : tie.Need-clear-requires-2
 clear-requires-2 c κs =
-    broken-size toAsk _ _ _ (c .before .before .before .before .read-form3 .ensures) _ (c .before .before .at3 .given .1)
+    let after-at3 = c .before .before in
+    let after-read-form3 = after-at3 .before .before in
+    broken-size toAsk _ _ _ (after-read-form3 .read-form3 .ensures) _ (after-at3 .at3 .given .1)
 
 further-requires : tie.Need-further-requires
 further-requires c κs = search needs
