@@ -9,8 +9,8 @@ use lib.Seq.{drop-cons, sets}
 use mir.Syntax.{w8}
 use mir.Val.{Fits}
 use borrow.Author.Tests.{ne-eqb}
-use Rattle.text.specs.Answers.{ChildrenRead, ChildrenText, NoChildren, NoTree, ReaderAt, TreeRead, TreeText}
-use Rattle.text.specs.Answers.{readFrom}
+use Rattle.text.specs.Contracts.{ChildrenRead, ChildrenText, NoChildren, NoTree, ReaderAt, TreeRead, TreeText}
+use Rattle.text.specs.Contracts.{readFrom}
 use Rattle.text.specs.Columns.{Ahead, OnLine, advanced}
 use Rattle.text.specs.Grammar.{childrenText, closeBracket, openBracket, space, treeText}
 use Rattle.text.specs.Reader.{Open, among, ending, expecting, next, onward}

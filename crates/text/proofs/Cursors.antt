@@ -6,7 +6,7 @@ use Prim.Native.Nat.{_%_, _+_, _<_, _^_, _≤_, suc, ℕ}
 use native.Mathlib.Omega.{arith}
 use lib.ListN.{drop, drop-of-length-le, getD, length}
 use Rattle.format.specs.Format.{maxLine}
-use Rattle.text.specs.Answers.{readFrom}
+use Rattle.text.specs.Contracts.{readFrom}
 use Rattle.text.specs.Columns.{Ahead, OnLine, advanced, lineStart}
 use Rattle.text.specs.Reader.{Place, bad, ending, next, scan, stuck}
 use Rattle.text.specs.declared.cursor.Cursor.{Cursor}

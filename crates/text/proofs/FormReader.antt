@@ -11,8 +11,8 @@ use lib.ListN.{drop, drop-of-length-le, getD, length, length-append, length-repl
 use lib.Seq.{length-sets, sets, sets-eq}
 use borrow.Author.Tests.{eq-eqb, eqb-true, ne-eqb}
 use Rattle.format.specs.Format.{listingBytes, maxLine}
-use Rattle.text.specs.Answers.{FormRead, LineEnd, NoTree, ReaderAt, TreeRead, TreeText, agreed, readFrom}
-use Rattle.text.specs.Answers.{shortestHead}
+use Rattle.text.specs.Contracts.{FormRead, LineEnd, NoTree, ReaderAt, TreeRead, TreeText, agreed, readFrom}
+use Rattle.text.specs.Contracts.{shortestHead}
 use Rattle.text.specs.Columns.{Ahead, OnLine, advanced, lineStart}
 use Rattle.text.specs.Grammar.{closeBracket, openBracket, treeText}
 use Rattle.text.specs.Outcome.{noListing, padded}

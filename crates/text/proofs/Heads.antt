@@ -12,7 +12,7 @@ use mir.Syntax.{w16}
 use mir.Val.{Fits}
 use borrow.Author.Tests.{eq-eqb, ne-eqb, not-false, not-true}
 use Rattle.format.specs.Format.{listingBytes}
-use Rattle.text.specs.Answers.{LabelRead, LabelTo, agreed}
+use Rattle.text.specs.Contracts.{LabelRead, LabelTo, agreed}
 use Rattle.lists.specs.Decimal.{digit}
 use Rattle.text.specs.Grammar.{labelText}
 use Rattle.text.specs.Outcome.{noListing}

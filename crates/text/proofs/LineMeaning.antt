@@ -1,4 +1,4 @@
--- What `readLine` says of a line: the command and the listing of its tree exactly where it is well-formed, else the
+-- What `readLine` says of a line: the command and the listing of its tree exactly if it is well-formed, else the
 -- column of the first byte that no well-formed line has there; and which lines are long.
 use mathlib.Core.Bool.{false, true}
 use mathlib.Core.List.{List, _++_, append-assoc}
@@ -107,7 +107,7 @@ module _ (R : Command → Reading) where
       go (bad i) (bad j) (whole t) e = let z : _≡_ {A = ℕ} 0 1 = cc in omega arith
       go (bad i) (bad j) (bad k) e = let z : _≡_ {A = ℕ} 0 1 = cc in omega arith
 
--- the third byte tells the commands apart
+-- the third byte distinguishes the commands
 head-apart : (c d : Command) (s r : List ℕ) → head c ++ s ≡ head d ++ r → c ≡ d
 head-apart toAdd toAdd s r e = refl
 head-apart toAdd toDrop s r e = absurd (omega (arith, ap (λ (l : List ℕ). getD l 2 0) e))
@@ -155,7 +155,7 @@ line-long s = (λ e. go (test (leb (length s) maxLine)) e, λ h. long-line s h)
         absurd (furthest-not-long (readings s) (sym (short-line s (leb-true (length s) maxLine h)) ∙ e))
     go (inr h) e = leb-false (length s) maxLine h
 
--- where no form with the head of c begins so early, none begins later
+-- if no form with the head of c begins so early, none begins later
 none-later : (w s : List ℕ) (k m : ℕ) → FormStop w s k → k ≤ m → m ≤ length s → FormBegins w (take m s) → ⊥
 none-later w s k m x h l g =
     x .there (omega arith) (record {

@@ -7,7 +7,7 @@ use lib.ListN.{length, length-append, replicate, take}
 use lib.Seq.{take-append-seam}
 use borrow.Author.Tests.{le-leb}
 use Rattle.format.specs.Format.{listingBytes, maxLine}
-use Rattle.text.specs.Answers.{FormRead, shortestHead}
+use Rattle.text.specs.Contracts.{FormRead, shortestHead}
 use Rattle.text.specs.Grammar.{Command, closeBracket, head, toAdd, toAsk, toDrop, treeText}
 use Rattle.text.specs.Outcome.{noListing, listed, padded, parsed, parsedAs}
 use Rattle.text.specs.Reader.{bad, formed, readForm, readLine}

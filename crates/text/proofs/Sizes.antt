@@ -7,7 +7,7 @@ use native.Mathlib.Omega.{arith}
 use lib.ListN.{drop, length, length-append, length-drop, set}
 use lib.Seq.{length-sets, set-comm, sets}
 use Rattle.format.specs.Format.{nodeBytes}
-use Rattle.text.specs.Answers.{ChildrenText, TreeText}
+use Rattle.text.specs.Contracts.{ChildrenText, TreeText}
 use Rattle.text.specs.Columns.{OnLine}
 use Rattle.text.specs.Grammar.{childrenText, closeBracket, labelText, treeText}
 use Rattle.text.specs.declared.cursor.Cursor.{Cursor}

@@ -15,7 +15,7 @@ use Rattle.format.specs.Format.{maxLabel}
 use Rattle.lists.specs.Decimal.{digit}
 use Rattle.text.specs.Grammar.{AllLabelled, Labelled, childrenText, closeBracket, labelText}
 use Rattle.text.specs.Grammar.{openBracket, treeText}
-use Rattle.text.specs.Reader.{Open, among, behind, expecting, extended, naming, next, onward, scan}
+use Rattle.text.specs.Reader.{Open, among, afterTree, expecting, extended, naming, next, onward, scan}
 use Rattle.trees.specs.Tree.{Forest, Tree, _⧺_, cons, nil, node}
 use Rattle.lists.proofs.Decimal.{decimal-digit}
 use Rattle.lists.proofs.Tests.{test}
@@ -51,7 +51,7 @@ module _ (os : List Open) where
       let e : extended (a / 10) (digit (a % 10)) ≡ a = omega arith in
       (record { low = omega arith; high = omega arith; nonzero = omega arith; fits = omega arith }, e)
 
-  -- a number is scanned where that without its last digit is
+  -- a number is scanned if that without its last digit is
   scanned-last : (a : ℕ) → 10 ≤ a → a ≤ maxLabel → Scanned (a / 10) → Scanned a
   scanned-last a h k ih =
       let d = last-digit a h k in
@@ -73,7 +73,7 @@ append-none : (f : Forest) → f ⧺ nil ≡ f
 append-none nil = refl
 append-none (cons t f) = ap (cons t) (append-none f)
 
--- behind a label children are read as behind a child
+-- after a label children are read as after a child
 naming-children : (f : Forest) (s : List ℕ) (n a : ℕ) (os : List Open) →
     scan (childrenText f ++ (closeBracket ∷ s)) n (naming a os) ≡
     scan (childrenText f ++ (closeBracket ∷ s)) n (among a nil os)
@@ -81,18 +81,18 @@ unfolding scan next
 naming-children nil s n a os = refl
 naming-children (cons t f) s n a os = refl
 
--- where the whole tree is behind, the nodes around it go on
+-- after a whole tree the nodes around it go on
 mutual
   unfolding scan next onward
 
   pub scan-tree : (t : Tree) (s : List ℕ) (n : ℕ) (os : List Open) → Labelled t →
-      scan (treeText t ++ s) n (expecting (openBracket ∷ []) os) ≡ scan s (n + length (treeText t)) (behind t os)
+      scan (treeText t ++ s) n (expecting (openBracket ∷ []) os) ≡ scan s (n + length (treeText t)) (afterTree t os)
   scan-tree (node a f) s n os h = go (λ m. scan-children f (closeBracket ∷ s) m a nil os (h .1))
     where
       go : ((m : ℕ) → scan (childrenText f ++ (closeBracket ∷ s)) m (among a nil os) ≡
           scan (closeBracket ∷ s) (m + length (childrenText f)) (among a f os)) →
           scan ((labelText a ++ (childrenText f ++ (closeBracket ∷ []))) ++ s) (suc n) (expecting [] os) ≡
-          scan s (n + suc (length (labelText a ++ (childrenText f ++ (closeBracket ∷ []))))) (behind (node a f) os)
+          scan s (n + suc (length (labelText a ++ (childrenText f ++ (closeBracket ∷ []))))) (afterTree (node a f) os)
       go ih =
           let l = labelText a in
           let k = suc n + length l in

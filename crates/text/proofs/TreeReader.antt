@@ -13,8 +13,8 @@ use mir.Syntax.{w64}
 use mir.Val.{Fits}
 use borrow.Author.Tests.{eq-eqb, ltb-false, ltb-true, ne-eqb}
 use Rattle.format.specs.Format.{labelBytes, listingBytes, maxLabel, nodeBytes}
-use Rattle.text.specs.Answers.{ChildrenRead, ChildrenText, LabelRead, LabelTo, NoChildren, ReaderAt, TreeRead}
-use Rattle.text.specs.Answers.{readFrom}
+use Rattle.text.specs.Contracts.{ChildrenRead, ChildrenText, LabelRead, LabelTo, NoChildren, ReaderAt, TreeRead}
+use Rattle.text.specs.Contracts.{readFrom}
 use Rattle.text.specs.Columns.{Ahead, OnLine, advanced}
 use Rattle.text.specs.Grammar.{childrenText, closeBracket, labelText, openBracket}
 use Rattle.text.specs.Reader.{Open, among, bad, ending, expecting, extends, isDigit, naming, next, scan}

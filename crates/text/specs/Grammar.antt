@@ -43,7 +43,7 @@ head toAsk = openBracket ∷ 97 ∷ 115 ∷ 107 ∷ space ∷ []
 abbrev pub commandText : Command → Tree → List ℕ
 commandText c t = head c ++ (treeText t ++ (closeBracket ∷ []))
 
--- every label of a tree is 0 to 255
+-- no label of a tree is above the largest, which is 255
 abbrev mutual
   pub Labelled : Tree → Type 0
   Labelled (node a f) = (a ≤ maxLabel) × AllLabelled f
@@ -52,14 +52,15 @@ abbrev mutual
   AllLabelled nil = Unit {0}
   AllLabelled (cons t f) = Labelled t × AllLabelled f
 
--- a line is the text of a command and a tree, of any size, with labels 0 to 255
+-- a line is the text of a command and a tree, of any size, with labels up to the largest
 pub record WellFormed (s : List ℕ) : Type 0 where
   pub command : Command
   pub tree : Tree
   pub labels : Labelled tree
   pub text : s ≡ commandText command tree
 
--- a line is the text of the command c and a tree, of any size, with labels 0 to 255, and l is the tree's listing
+-- a line is the text of the command c and a tree, of any size, with labels up to the largest; l is the tree's
+-- listing
 pub record CommandLine (s : List ℕ) (c : Command) (l : List ℕ) : Type 0 where
   pub tree : Tree
   pub labels : Labelled tree

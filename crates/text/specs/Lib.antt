@@ -2,5 +2,5 @@ pub mod Grammar
 pub mod Reader
 pub mod Outcome
 pub mod Columns
-pub mod Answers
+pub mod Contracts
 pub mod Samples

@@ -3,7 +3,7 @@ use Prim.Native.Nat.{_-_}
 use Rattle.text.proofs.Heads.{label-absent, label-first, label-fits, label-last, label-low, label-next}
 use Rattle.text.proofs.Heads.{label-other, label-stopped, tenfold-fits}
 use Rattle.text.proofs.Labels.{digit-low}
-use Rattle.text.specs.Answers.{LabelTo}
+use Rattle.text.specs.Contracts.{LabelTo}
 use native.Mathlib.Omega.{arith}
 use lib.ListN.{length}
 use borrow.Author.Needs.{needs}

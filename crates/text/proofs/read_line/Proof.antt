@@ -77,7 +77,8 @@ returns-4 : tie.Need-returns-4
 returns-4 c =
     let after-len3 = c .before in
     let after-read-form3 = after-len3 .before .before in
-    let after-if1 = after-read-form3 .before .before .before .before .before .before .before .before .before .before .before .before .before .before .before in
+    let middle = after-read-form3 .before .before .before .before .before .before in
+    let after-if1 = middle .before .before .before .before .before .before .before .before .before in
     parsed-whole toAsk _ _ _ (after-read-form3 .read-form3 .ensures) (after-if1 .if1 .left) _ (after-len3 .len3
     .given .1)
 

@@ -1,4 +1,4 @@
--- What the functions within the reader return, in terms of the grammar and of the scan.
+-- The contracts of the functions within the reader: what they return, in terms of the grammar and of the scan.
 use mathlib.Core.Bool.{cond, false}
 use mathlib.Core.List.{List, [], _++_, _∷_}
 use mathlib.Core.Path.{_≡_}
