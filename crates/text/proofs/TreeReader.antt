@@ -8,7 +8,7 @@ use native.Mathlib.Numerals.{add-one}
 use native.Mathlib.Omega.{arith}
 use lib.Dec.{ltb}
 use lib.ListN.{drop, getD, length, length-append, length-drop, length-set, set, take-append-drop}
-use lib.Seq.{drop-cons, drop-drop, getD-drop, length-take-le, sets}
+use lib.Seq.{drop-cons, drop-drop, getD-drop, length-sets, length-take-le, sets}
 use mir.Syntax.{w64}
 use mir.Val.{Fits}
 use borrow.Author.Tests.{eq-eqb, ltb-false, ltb-true, ne-eqb}
@@ -28,8 +28,21 @@ use Rattle.trees.specs.Tree.{nil, node}
 use Rattle.lists.proofs.Parts.{part, part-drop}
 use Rattle.lists.proofs.Tests.{test}
 use Rattle.text.proofs.Cursors.{ahead, ahead-on-line, read-byte, read-end, read-on, read-stuck}
-use Rattle.text.proofs.Sizes.{Bounds, children-bounds, set-sets}
+use Rattle.text.proofs.Sizes.{set-sets}
 use Rattle.text.proofs.Text.{scan-label}
+
+pub label-small : (s : List ℕ) (r : Label) → LabelRead s r → (a i : ℕ) → r ≡ Number a i → a ≤ maxLabel
+unfolding LabelRead
+label-small s r x a i z = (rw z at x) .0 .fits
+
+-- the table keeps its size
+pub tree-size-kept : (s : List ℕ) (c : Cursor) (l : List ℕ) (at : ℕ) → ReaderAt s c l at → (a : ℕ) (m : List ℕ) →
+    m ≡ set l at a → (d : Cursor) (i : ℕ) (n : List ℕ) (r : TreesRead) → ChildrenRead s d m i n r →
+    (k : ℕ) (e : Cursor) (u : ℕ) → r ≡ Trees k e u → length n ≡ listingBytes
+unfolding ChildrenRead
+tree-size-kept s c l at x a m w d i n r y k e u z =
+    let v : ChildrenText s d m i n k e u = rw z at y in
+    ap length (v .written) ∙ length-sets m i (listings (v .trees)) ∙ ap length w ∙ length-set l at a ∙ x .size
 
 -- after a label that does not go on children are read as after a child
 naming-among : (r : List ℕ) (k n a : ℕ) (os : List Open) → extends a (getD r 0 0) ≡ false →
@@ -98,9 +111,6 @@ module _ (s : List ℕ) (c : Cursor) (l : List ℕ) (at : ℕ) (x : ReaderAt s c
           label =
               subst (λ v. LabelTo v i a × (extends a (getD v i 0) ≡ false)) (part-drop s (d .place)) (rw z at y)
 
-          pub label-ready : (length l ≡ listingBytes) × (a ≤ maxLabel)
-          label-ready = (x .size, label .0 .fits)
-
           label-size : i ≡ length (labelText a)
           label-size =
               sym (length-take-le i (drop (d .place) s) (label .0 .within)) ∙ ap length (label .0 .text)
@@ -158,12 +168,6 @@ module _ (s : List ℕ) (c : Cursor) (l : List ℕ) (at : ℕ) (x : ReaderAt s c
                   rest : ChildrenText s e m (at + nodeBytes) n b f u
                   unfolding ChildrenRead
                   rest = rw j at v
-
-                  rest-bounds : Bounds s e m (at + nodeBytes) n f u
-                  rest-bounds = children-bounds inside-on-line rest .0
-
-                  pub tree-size-kept : length n ≡ listingBytes
-                  tree-size-kept = rest-bounds .size ∙ size-set ∙ x .size
 
                   pub tree-whole : (g : List ℕ) → g ≡ set n (at + labelBytes) b →
                       TreeRead s c l at g (Trees 1 f u)

@@ -7,7 +7,7 @@ use Prim.Native.Nat.{_-_, _<_, ℕ}
 use lib.ListN.{length}
 use Rattle.text.proofs.ChildrenReader.{child-ready, children-broken, children-broken-later, children-count-fits}
 use Rattle.text.proofs.ChildrenReader.{children-end, children-none, children-other, children-whole, later-ready}
-use Rattle.text.proofs.TreeReader.{children-ready, label-ready, name-inside, tree-broken, tree-nameless}
+use Rattle.text.proofs.TreeReader.{children-ready, label-small, name-inside, tree-broken, tree-nameless}
 use Rattle.text.proofs.TreeReader.{tree-none, tree-other, tree-size-kept, tree-whole}
 use Rattle.text.proofs.children.Reads as children
 use Rattle.text.proofs.children.Kinds as children-kinds
@@ -174,15 +174,7 @@ module _ (t : ℕ) where
   tree-returns-3 c = search tree-nameless
 
   tree-put-label-requires : InTree tree-lts.Need-put-label-requires
-  tree-put-label-requires c κs =
-      let after-value = c .before .before in
-      let after-read-label = after-value .before .before in
-      let after-stepped = after-read-label .before .before in
-      let after-if2 = after-stepped .before in
-      let after-if1 = after-if2 .before .before in
-      let start = after-if1 .before .before in
-      label-ready _ _ _ _ (start .pre .1) (after-if1 .if1 .left) (after-if2 .if2 .left) _ (after-stepped .stepped
-      .ensures) _ (after-read-label .read-label .ensures) _ _ (after-value .value .given .1)
+  tree-put-label-requires c κs = search label-small
 
   tree-stepped-requires-2 : InTree tree-lts.Need-stepped-requires-2
   tree-stepped-requires-2 c κs = search needs
@@ -214,18 +206,11 @@ module _ (t : ℕ) where
   tree-put-requires c κs =
       let after-count = c .before .before in
       let after-children = after-count .before .before in
-      let after-stepped2 = after-children .before .before in
-      let after-put-label = after-stepped2 .before in
-      let after-value = after-put-label .before .before .before in
-      let after-read-label = after-value .before .before in
-      let after-stepped = after-read-label .before .before in
-      let after-if2 = after-stepped .before in
-      let after-if1 = after-if2 .before .before in
-      let start = after-if1 .before .before in
-      tree-size-kept _ _ _ _ (start .pre .1) (after-if1 .if1 .left) (after-if2 .if2 .left) _ (after-stepped
-      .stepped .ensures) _ (after-read-label .read-label .ensures) _ _ (after-value .value .given .1) _
-      (after-stepped2 .stepped2 .ensures) _ (after-put-label .put-label .ensures) _ _ (after-children .children
-      .ensures) _ _ _ (after-count .count .given .1)
+      let after-put-label = after-children .before .before .before in
+      let middle = after-put-label .before .before .before .before in
+      let start = middle .before .before .before .before .before .before .before .before in
+      tree-size-kept _ _ _ _ (start .pre .1) _ _ (after-put-label .put-label .ensures) _ _ _ _ (after-children
+      .children .ensures) _ _ _ (after-count .count .given .1)
 
   tree-enum-known-end : InTree tree-lts.Need-enum-known-end
   tree-enum-known-end c = search needs
