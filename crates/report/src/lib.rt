@@ -3,8 +3,9 @@ ghost use mathlib.Core.Path.{_≡_};
 ghost use mathlib.Core.List.{[], _++_, _∷_};
 ghost use Prim.Native.Nat.{_+_, _<_, _≤_};
 ghost use lib.ListN.{length};
+ghost use Rattle.lists.specs.Decimal.{decimal, digit};
 ghost use Rattle.report.specs.Printing.{Printed, Put, TextRoom, answerBytes, fieldBytes, lineBytes};
-ghost use Rattle.report.specs.Report.{answerText, decimal, digit, endText, field, lineText, outcomeText};
+ghost use Rattle.report.specs.Report.{answerText, endText, field, lineText, outcomeText};
 use calls::Answer;
 
 // The bytes of the buffer. The longest line has 72.
