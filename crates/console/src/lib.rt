@@ -3,7 +3,6 @@
 ghost use mathlib.Core.Path.{_≡_};
 ghost use Prim.Native.Nat.{_+_, _<_, _^_, _≤_};
 ghost use lib.ListN.{length};
-ghost use Rattle.report.specs.Printing.{Put, lineBytes};
 ghost use Rattle.console.specs.Buffers.{ClosedTo, FedTo, LineKept, Moved, Buffered, ProgressRoom, emptyScratch, emptyTable};
 ghost use Rattle.console.specs.Buffers.{outBytes, console};
 ghost use Rattle.console.specs.Console.{heldBytes, inputEnded, lineEnded, stepped};
@@ -11,6 +10,7 @@ use format::MAX_LINE;
 use format::SCRATCH_BYTES;
 use format::TABLE_BYTES;
 use report::LINE_BYTES;
+use report::put_word;
 
 // The bytes that are held of a line: one more than a line may have, so that a longer one is known by its length.
 pub const HELD_BYTES: usize = MAX_LINE + 1;
@@ -46,20 +46,6 @@ pub fn empty_scratch() -> [u8; SCRATCH_BYTES]
     [0u8; SCRATCH_BYTES]
 }
 
-// Puts a text behind what is printed, and answers where it ends.
-fn append(out: &mut [u8; OUT_BYTES], at: usize, text: &[u8]) -> usize
-    requires { ⌜ length (now out) ≡ outBytes ⌝ }
-    requires { ⌜ at + length (now text) ≤ outBytes ⌝ }
-    ensures { λ r. ⌜ Put (now (out .entry)) (now (out .exit)) at (now (text .entry)) r ⌝ }
-{
-    let mut i = 0;
-    while i < text.len() {
-        out[at + i] = text[i];
-        i += 1;
-    }
-    at + i
-}
-
 // Keeps a byte of a line, where it is among those that are held; answers how many are.
 fn keep(line: &mut [u8; HELD_BYTES], held: usize, byte: u8) -> usize
     requires { ⌜ length (now line) ≡ heldBytes ⌝ }
@@ -90,7 +76,7 @@ fn end_line(
     let number = p.lines + 1;
     let mut text = [0u8; LINE_BYTES];
     let len = serving::serve(&line[0..held], number, table, scratch, &mut text);
-    let printed = append(out, p.printed, &text[0..len]);
+    let printed = put_word(out, p.printed, &text[0..len]);
     Progress {
         held: 0,
         lines: number,
@@ -191,5 +177,5 @@ pub fn close(
     let q = end_input(p, line, table, scratch, out);
     let mut text = [0u8; LINE_BYTES];
     let len = serving::finish(q.lines, table, &mut text);
-    append(out, q.printed, &text[0..len])
+    put_word(out, q.printed, &text[0..len])
 }

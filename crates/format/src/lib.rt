@@ -1,6 +1,8 @@
 // The widths and limits of document 01 for code. specs/Format.antt has the same numbers, and says what each is.
 ghost use mathlib.Core.Path.{_≡_};
 
+pub const MAX_LABEL: usize = 255;
+
 pub const MAX_ARITY: usize = 8;
 
 pub const LABEL_BYTES: usize = 1;

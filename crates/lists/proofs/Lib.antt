@@ -9,3 +9,4 @@ pub mod Counts
 pub mod Clearing
 pub mod Filling
 pub mod Parts
+pub mod Decimal

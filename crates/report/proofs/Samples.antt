@@ -2,7 +2,8 @@
 use mathlib.Core.List.{[], _∷_}
 use mathlib.Core.Path.{_≡_, refl}
 use Rattle.calls.specs.declared.Answer.the-variants.{Done, Refused}
-use Rattle.report.specs.Report.{answerText, decimal, digits, endText, field, lineText, outcomeText}
+use Rattle.lists.specs.Decimal.{decimal, digits}
+use Rattle.report.specs.Report.{answerText, endText, field, lineText, outcomeText}
 use Rattle.report.specs.declared.Outcome.the-variants.{Answered, Form}
 
 -- 1 done 2 2

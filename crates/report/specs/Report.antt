@@ -1,11 +1,10 @@
 -- What the bench program prints for a line and at the end of its input, as document 01 words it. Fields stand one
 -- space apart: the line number, a word, then states and transitions, the refusal, or the column.
-use mathlib.Core.Bool.{cond}
 use mathlib.Core.List.{List, [], _++_, _∷_}
-use Prim.Native.Nat.{_%_, _+_, _/_, suc, zero, ℕ}
-use lib.Dec.{ltb}
+use Prim.Native.Nat.{ℕ}
 use Rattle.calls.specs.declared.Answer.{Answer}
 use Rattle.calls.specs.declared.Answer.the-variants.{Accepted, Approved, Done, NotApproved, Refused}
+use Rattle.lists.specs.Decimal.{decimal}
 use Rattle.report.specs.declared.Outcome.{Outcome}
 use Rattle.report.specs.declared.Outcome.the-variants.{Answered, Form, Long}
 
@@ -14,20 +13,6 @@ space = 32
 
 abbrev pub newline : ℕ
 newline = 10
-
--- the byte of a decimal digit
-abbrev pub digit : ℕ → ℕ
-digit d = 48 + d
-
--- a number in decimal without leading zeros, if it has at most k digits
-unfoldable pub digits : ℕ → ℕ → List ℕ
-digits zero n = []
-digits (suc k) n =
-    let before = digits k (n / 10) in cond (ltb n 10) (digit n ∷ []) (before ++ (digit (n % 10) ∷ []))
-
--- a number in decimal without leading zeros; n has at most n + 1 digits
-unfoldable pub decimal : ℕ → List ℕ
-decimal n = digits (suc n) n
 
 abbrev pub doneWord : List ℕ
 doneWord = 100 ∷ 111 ∷ 110 ∷ 101 ∷ []

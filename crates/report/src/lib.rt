@@ -3,8 +3,9 @@ ghost use mathlib.Core.Path.{_≡_};
 ghost use mathlib.Core.List.{[], _++_, _∷_};
 ghost use Prim.Native.Nat.{_+_, _<_, _≤_};
 ghost use lib.ListN.{length};
+ghost use Rattle.lists.specs.Decimal.{decimal, digit};
 ghost use Rattle.report.specs.Printing.{Printed, Put, TextRoom, answerBytes, fieldBytes, lineBytes};
-ghost use Rattle.report.specs.Report.{answerText, decimal, digit, endText, field, lineText, outcomeText};
+ghost use Rattle.report.specs.Report.{answerText, endText, field, lineText, outcomeText};
 use calls::Answer;
 
 // The bytes of the buffer. The longest line has 72.
@@ -33,8 +34,9 @@ fn put_byte(out: &mut [u8; LINE_BYTES], at: usize, byte: u8) -> usize
     at + 1
 }
 
-fn put_word(out: &mut [u8; LINE_BYTES], at: usize, word: &[u8]) -> usize
-    requires { ⌜ TextRoom (now out) at (length (now word)) ⌝ }
+// Puts a text into a buffer of any size.
+pub fn put_word(out: &mut [u8], at: usize, word: &[u8]) -> usize
+    requires { ⌜ at + length (now word) ≤ length (now out) ⌝ }
     ensures { λ r. ⌜ Put (now (out .entry)) (now (out .exit)) at (now (word .entry)) r ⌝ }
 {
     let mut i = 0;

@@ -1,61 +1,85 @@
--- The answers of the functions that read labels and heads.
-use mathlib.Core.Bool.{cond, false, true}
+-- What `read_label`, `agreeing` and `clear` return.
+use mathlib.Core.Bool.{Bool, cond, false, not, true}
 use mathlib.Core.List.{List, [], _∷_}
 use mathlib.Core.Path.{_∙_, _≡_, ap, refl, sym}
-use Prim.Native.Nat.{_+_, _-_, _<_, _≤_, suc, ℕ}
+use Prim.Native.Nat.{_*_, _+_, _-_, _<_, _≤_, suc, ℕ}
 use native.Mathlib.Numerals.{add-one}
 use native.Mathlib.Omega.{arith}
 use lib.Dec.{eqb}
-use lib.ListN.{List·getD-eq-default, drop, drop-of-length-le, getD, length, length-drop, length-replicate}
+use lib.ListN.{List·getD-eq-default, drop, getD, length, length-drop, length-replicate}
 use lib.Seq.{drop-cons, take-suc}
-use borrow.Author.Tests.{eq-eqb, ne-eqb}
+use mir.Syntax.{w16}
+use mir.Val.{Fits}
+use borrow.Author.Tests.{eq-eqb, ne-eqb, not-false, not-true}
 use Rattle.format.specs.Format.{listingBytes}
-use Rattle.text.specs.Answers.{LabelRead, LabelTo, LineEnd, agreed}
-use Rattle.text.specs.Grammar.{closeBracket, digit}
+use Rattle.text.specs.Contracts.{LabelRead, LabelTo, agreed}
+use Rattle.lists.specs.Decimal.{digit}
+use Rattle.text.specs.Grammar.{labelText}
 use Rattle.text.specs.Outcome.{noListing}
-use Rattle.text.specs.Reader.{Reading, bad, ending, extended, extends, isDigit, lineRead, next, scan, stuck}
-use Rattle.text.specs.Reader.{treeRead, whole}
-use Rattle.text.specs.declared.FormParsed.the-variants.{Broken, Whole}
+use Rattle.text.specs.Reader.{extends, isDigit}
 use Rattle.text.specs.declared.Label.the-variants.{Nothing, Number}
-use Rattle.trees.specs.Tree.{Tree}
 use Rattle.lists.proofs.Clearing.{ClearedTo, cleared-end}
-use Rattle.text.proofs.Labels.{digit-bounds, extends-true, label-digit, label-extended}
-use Rattle.text.proofs.Scan.{ending-stuck, scan-from}
+use Rattle.text.proofs.Labels.{Extends, digit-bounds, extends-true, label-digit, label-extended}
 
--- ---- labels
+-- ---- labels: each law is what a search finds for a need of `read_label`
 
 pub label-absent : (s : List ℕ) → length s < 1 → LabelRead s Nothing
 unfolding LabelRead
 label-absent [] h = refl
 label-absent (b ∷ s) h = absurd (omega arith)
 
-pub label-other : (s : List ℕ) → isDigit (getD s 0 0) ≡ false → LabelRead s Nothing
-unfolding LabelRead
-label-other s e = e
+-- r is what the test of the first byte returned
+module _ (s : List ℕ) (r : Bool) (e : r ≡ isDigit (getD s 0 0)) where
+  pub label-other : not r ≡ true → LabelRead s Nothing
+  unfolding LabelRead
+  label-other n = sym e ∙ not-true r n
 
-pub label-first : (s : List ℕ) → 1 ≤ length s → isDigit (getD s 0 0) ≡ true → LabelTo s 1 (getD s 0 0 - digit 0)
-label-first [] h e = absurd (omega arith)
-label-first (b ∷ s) h e =
-    let (low, high) = digit-bounds b e in
-    record { nonempty = omega arith; within = h; fits = omega arith; text = sym (label-digit b low high) }
+  pub label-first : 1 ≤ length s → not r ≡ false → (a : ℕ) → a ≡ getD s 0 0 - digit 0 → LabelTo s 1 a
+  label-first h n a v = go s h (sym e ∙ not-false r n) v
+    where
+      go : (s : List ℕ) → 1 ≤ length s → isDigit (getD s 0 0) ≡ true → a ≡ getD s 0 0 - digit 0 → LabelTo s 1 a
+      go [] h d v = absurd (omega arith)
+      go (b ∷ s) h d v =
+          let (low, high) = digit-bounds b d in
+          record {
+            nonempty = omega arith;
+            within = h;
+            fits = omega arith;
+            text = sym (ap labelText v ∙ label-digit b low high);
+          }
 
-pub label-next : (s : List ℕ) (i a : ℕ) → LabelTo s i a → i < length s → extends a (getD s i 0) ≡ true →
-    LabelTo s (i + 1) (extended a (getD s i 0))
-label-next s i a x h e =
-    let y = extends-true a (getD s i 0) e in
-    record {
-      nonempty = omega arith;
-      within = omega arith;
-      fits = y .fits;
-      text = rw (add-one i, take-suc s i 0 h, x .text) (sym (label-extended a (getD s i 0) y));
-    }
+-- r is what the test of byte i returned, after the label a
+module _ (s : List ℕ) (i a : ℕ) (r : Bool) (e : r ≡ extends a (getD s i 0)) where
+  pub label-stopped : LabelTo s i a → not r ≡ true → LabelRead s (Number a i)
+  unfolding LabelRead
+  label-stopped x n = (x, sym e ∙ not-true r n)
 
-pub label-stopped : (s : List ℕ) (i a : ℕ) → LabelTo s i a → extends a (getD s i 0) ≡ false → LabelRead s (Number a i)
-unfolding LabelRead
-label-stopped s i a x e = (x, e)
+  module _ (n : not r ≡ false) where
+    more : Extends a (getD s i 0)
+    more = extends-true a (getD s i 0) (sym e ∙ not-false r n)
+
+    pub tenfold-fits : Fits w16 (10 * a)
+    tenfold-fits = omega (arith, more .fits)
+
+    pub label-low : digit 0 ≤ getD s i 0
+    label-low = more .low
+
+    module _ (d : ℕ) (v : d ≡ getD s i 0 - digit 0) where
+      pub label-fits : Fits w16 (10 * a + d)
+      label-fits = omega (arith, more .fits)
+
+      pub label-next : LabelTo s i a → i < length s → LabelTo s (i + 1) (10 * a + d)
+      label-next x h =
+          record {
+            nonempty = omega arith;
+            within = omega arith;
+            fits = omega (arith, more .fits);
+            text = rw (v, add-one i, take-suc s i 0 h, x .text) (sym (label-extended a (getD s i 0) more));
+          }
 
 pub label-last : (s : List ℕ) (i a : ℕ) → LabelTo s i a → length s ≤ i → LabelRead s (Number a i)
-label-last s i a x h = label-stopped s i a x (rw (List·getD-eq-default s 0 h))
+unfolding LabelRead
+label-last s i a x h = (x, rw (List·getD-eq-default s 0 h))
 
 -- ---- heads
 
@@ -100,60 +124,6 @@ module _ (s w : List ℕ) (i : ℕ) (x : AgreedFrom s w i) where
       let z : agreed (drop i s) (drop i w) ≡ suc (agreed (drop (suc i) s) (drop (suc i) w)) =
       agreed-step h k ∙ rw (eq-eqb (getD s i 0) (getD w i 0) e) in
       record { within = (omega arith, omega arith); left = rw (add-one i) (omega (arith, x .left)) }
-
--- ---- the end of a line
-
--- how a line goes on behind its tree, which ends before byte e
-abbrev restReading : List ℕ → ℕ → Tree → Reading
-restReading s e t = ending (suc (length s)) (scan (drop e s) (suc e) (treeRead t))
-
-module _ (s : List ℕ) (e : ℕ) (t : Tree) where
-  cut : e ≤ length s → length s ≤ e → restReading s e t ≡ bad (suc e)
-  unfolding scan ending
-  cut k h = let d : length s ≡ e = omega arith in rw (drop-of-length-le s {i = e} h) (ap (λ n. bad (suc n)) d)
-
-  unclosed : e < length s → (getD s e 0 ≡ closeBracket → ⊥) → restReading s e t ≡ bad (suc e)
-  unfolding next
-  unclosed h k =
-      let q : next (suc e) (treeRead t) (getD s e 0) ≡ stuck (suc e) = rw (ne-eqb (getD s e 0) closeBracket k) in
-      ap (ending (suc (length s))) (scan-from s e (suc e) (treeRead t) h ∙
-      ap (scan (drop (suc e) s) (suc (suc e))) q) ∙
-      ending-stuck (suc (length s)) (drop (suc e) s) (suc (suc e)) (suc e)
-
-  module _ (h : e < length s) (k : getD s e 0 ≡ closeBracket) where
-    closed : scan (drop e s) (suc e) (treeRead t) ≡ scan (drop (suc e) s) (suc (suc e)) (lineRead t)
-    unfolding next
-    closed = scan-from s e (suc e) (treeRead t) h ∙ rw (eq-eqb (getD s e 0) closeBracket k)
-
-    more : e + 1 < length s → restReading s e t ≡ bad (suc (e + 1))
-    unfolding next
-    more l =
-        ap (ending (suc (length s))) (closed ∙ scan-from s (suc e) (suc (suc e)) (lineRead t) (omega arith)) ∙
-        ending-stuck (suc (length s)) (drop (suc (suc e)) s) (suc (suc (suc e))) (suc (suc e)) ∙
-        ap (λ n. bad (suc n)) (sym (add-one e))
-
-    whole-line : length s ≤ e + 1 → restReading s e t ≡ whole t
-    unfolding scan ending
-    whole-line l =
-        ap (ending (suc (length s))) closed ∙ rw (drop-of-length-le s {i = suc e} (omega arith))
-
-module _ (s : List ℕ) (e u : ℕ) where
-  pub line-cut : e ≤ length s → length s ≤ e → LineEnd s e u (Broken e)
-  unfolding LineEnd
-  line-cut k h = (k, λ t. cut s e t k h)
-
-  pub line-unclosed : e < length s → (getD s e 0 ≡ closeBracket → ⊥) → LineEnd s e u (Broken e)
-  unfolding LineEnd
-  line-unclosed h k = (omega arith, λ t. unclosed s e t h k)
-
-  module _ (h : e < length s) (k : getD s e 0 ≡ closeBracket) where
-    pub line-more : e + 1 < length s → LineEnd s e u (Broken (e + 1))
-    unfolding LineEnd
-    line-more l = (omega arith, λ t. more s e t h k l)
-
-    pub line-closed : length s ≤ e + 1 → LineEnd s e u (Whole u)
-    unfolding LineEnd
-    line-closed l = (refl, λ t. whole-line s e t h k l)
 
 -- ---- a table of zeros
 

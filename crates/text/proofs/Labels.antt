@@ -1,20 +1,28 @@
 -- The digits of labels: what may follow a number, and the text of a number with one digit more.
-use mathlib.Core.Bool.{Bool, _&&_, false, true}
+use mathlib.Core.Bool.{Bool, false, not, true}
 use mathlib.Core.List.{[], _++_, _∷_}
-use mathlib.Core.Logic.{_⊎_, inl, inr}
-use mathlib.Core.Path.{_≡_, refl}
-use Prim.Native.Nat.{_%_, _-_, _/_, _<_, _≤_, ℕ}
+use mathlib.Core.Path.{_∙_, _≡_, sym}
+use Prim.Native.Nat.{_%_, _*_, _+_, _-_, _/_, _<_, _≤_, ℕ}
 use native.Mathlib.Omega.{arith}
 use lib.Dec.{leb, ltb}
-use borrow.Author.Tests.{le-leb, le-ltb, leb-true, lt-ltb, ltb-false, ltb-true}
+use borrow.Author.Tests.{le-leb, leb-true, lt-ltb, ltb-true, not-false, not-true}
 use Rattle.format.specs.Format.{maxLabel}
-use Rattle.text.specs.Grammar.{digit, labelText}
+use Rattle.lists.specs.Decimal.{digit}
+use Rattle.text.specs.Grammar.{labelText}
 use Rattle.text.specs.Reader.{extended, extends, isDigit}
-use Rattle.lists.proofs.Tests.{and-both, and-left, and-right, test}
+use Rattle.lists.proofs.Decimal.{decimal-digit, decimal-more}
+use Rattle.lists.proofs.Tests.{and-both, and-left, and-right}
 
 pub digit-bounds : (b : ℕ) → isDigit b ≡ true → (digit 0 ≤ b) × (b ≤ digit 9)
 digit-bounds b e =
     (leb-true (digit 0) b (and-left _ _ e), leb-true b (digit 9) (and-right (leb (digit 0) b) _ e))
+
+pub digit-true : (d : ℕ) → d < 10 → isDigit (digit d) ≡ true
+digit-true d h = and-both (le-leb (digit 0) (digit d) (omega arith)) (le-leb (digit d) (digit 9) (omega arith))
+
+-- b is a digit, by what a test of it returned
+pub digit-low : (b : ℕ) (r : Bool) → r ≡ isDigit b → not r ≡ false → digit 0 ≤ b
+digit-low b r e n = digit-bounds b (sym e ∙ not-false r n) .0
 
 pub record Extends (a b : ℕ) : Type 0 where
   pub low : digit 0 ≤ b
@@ -40,39 +48,23 @@ true-extends a b x =
 
 -- the text of a number of one digit, and that of a number with one digit more
 pub label-digit : (b : ℕ) → digit 0 ≤ b → b ≤ digit 9 → labelText (b - digit 0) ≡ b ∷ []
-unfolding labelText
 label-digit b low high =
-    let d : digit (b - digit 0) ≡ b = omega arith in
-    rw (lt-ltb (b - digit 0) 10 (omega arith), d)
+    let d : digit (b - digit 0) ≡ b = omega arith in decimal-digit (b - digit 0) (omega arith) ∙ rw d
 
 pub label-extended : (a b : ℕ) → Extends a b → labelText (extended a b) ≡ labelText a ++ (b ∷ [])
-unfolding labelText
-label-extended a b x = go (test (ltb a 10))
-  where
-    go : (ltb a 10 ≡ true) ⊎ (ltb a 10 ≡ false) → labelText (extended a b) ≡ labelText a ++ (b ∷ [])
-    go (inl h) =
-        let l : a < 10 = ltb-true a 10 h in
-        let p : digit (extended a b / 10) ≡ digit a = omega arith in
-        let q : digit (extended a b % 10) ≡ b = omega arith in
-        rw (h, le-ltb (extended a b) 10 (omega arith), lt-ltb (extended a b) 100 (omega arith), p, q)
-    go (inr h) =
-        let l : 10 ≤ a = ltb-false a 10 h in
-        let p : digit (extended a b / 100) ≡ digit (a / 10) = omega arith in
-        let q : digit (extended a b / 10 % 10) ≡ digit (a % 10) = omega arith in
-        let r : digit (extended a b % 10) ≡ b = omega arith in
-        rw (
-          h,
-          lt-ltb a 100 (omega arith),
-          le-ltb (extended a b) 10 (omega arith),
-          le-ltb (extended a b) 100 (omega arith),
-          p,
-          q,
-          r,
-        )
+label-extended a b x =
+    let p : extended a b / 10 ≡ a = omega arith in
+    let q : digit (extended a b % 10) ≡ b = omega arith in
+    decimal-more (extended a b) (omega arith) ∙ rw (p, q)
 
-pub extends-zero : (a b : ℕ) → a ≡ 0 → false ≡ extends a b
-extends-zero a b e = go (isDigit b)
-  where
-    go : (d : Bool) → false ≡ (d && (ltb 0 a && leb (extended a b) maxLabel))
-    go true = rw e
-    go false = refl
+-- what `extends` returns, by its own tests
+module _ (a b : ℕ) (r : Bool) (e : r ≡ isDigit b) where
+  pub extends-other : not r ≡ true → false ≡ extends a b
+  extends-other n = let d = sym e ∙ not-true r n in rw d
+
+  module _ (n : not r ≡ false) where
+    pub extends-zero : a ≡ 0 → false ≡ extends a b
+    extends-zero z = let d = sym e ∙ not-false r n in rw (d, z)
+
+    pub extends-small : (a ≡ 0 → ⊥) → (v : ℕ) → v ≡ b - digit 0 → leb (10 * a + v) maxLabel ≡ extends a b
+    extends-small z v q = let d = sym e ∙ not-false r n in rw (d, lt-ltb 0 a (omega arith), q)

@@ -5,8 +5,10 @@ pub mod Places
 pub mod Forms
 pub mod LineMeaning
 pub mod Heads
+pub mod Cursors
 pub mod Sizes
-pub mod Readers
-pub mod ReaderCalls
+pub mod TreeReader
+pub mod ChildrenReader
+pub mod FormReader
 pub mod Lines
 pub mod Samples

@@ -1,9 +1,9 @@
--- What `readLine` says of a line: the command and the listing of its tree exactly where it is well-formed, else the
+-- What `readLine` says of a line: the command and the listing of its tree exactly if it is well-formed, else the
 -- column of the first byte that no well-formed line has there; and which lines are long.
 use mathlib.Core.Bool.{false, true}
 use mathlib.Core.List.{List, _++_, append-assoc}
 use mathlib.Core.Logic.{_↔_, _⊎_, inl, inr}
-use mathlib.Core.Path.{_∙_, _≡_, ap, refl, sym}
+use mathlib.Core.Path.{_∙_, _≡_, ap, refl, subst, sym}
 use Prim.Native.Nat.{_<_, _≤_, max, ℕ}
 use native.Mathlib.Omega.{arith}
 use lib.Dec.{eqb, leb}
@@ -11,7 +11,7 @@ use lib.ListN.{drop, getD, length, take, take-append-drop}
 use lib.Seq.{take-take}
 use borrow.Author.Tests.{eqb-false, eqb-true, le-leb, leb-false, leb-true, lt-leb}
 use Rattle.format.specs.Format.{maxLine}
-use Rattle.text.specs.Grammar.{Command, FirstBad, Labelled, head, commandText, toAdd, toAsk, toDrop}
+use Rattle.text.specs.Grammar.{Command, CommandLine, FirstBad, head, toAdd, toAsk, toDrop}
 use Rattle.text.specs.Reader.{Line, Reading, asLine, bad, form, formed, further, long, readForm}
 use Rattle.text.specs.Reader.{readLine, whole}
 use Rattle.trees.specs.Listing.{listing}
@@ -24,90 +24,84 @@ module _ (R : Command → Reading) where
   furthest : Line
   furthest = further (asLine toAdd (R toAdd)) (further (asLine toDrop (R toDrop)) (asLine toAsk (R toAsk)))
 
-  formed-one : (c : Command) (l : List ℕ) → furthest ≡ formed c l → (t : Tree) × (R c ≡ whole t) × (l ≡ listing t)
-  unfolding furthest
-  formed-one c l e = go (R toAdd) refl (R toDrop) refl (R toAsk) refl e
-    where
-      found : (d : Command) (t : Tree) → R d ≡ whole t → formed d (listing t) ≡ formed c l →
-          (t : Tree) × (R c ≡ whole t) × (l ≡ listing t)
-      found d t q z = let p : d ≡ c = cc in (t, rw p at q, cc)
-
-      go : (x : Reading) → R toAdd ≡ x → (y : Reading) → R toDrop ≡ y → (z : Reading) → R toAsk ≡ z →
-          further (asLine toAdd x) (further (asLine toDrop y) (asLine toAsk z)) ≡ formed c l →
-          (t : Tree) × (R c ≡ whole t) × (l ≡ listing t)
-      go (whole t) p y q z r e = found toAdd t p e
-      go (bad i) p (whole t) q z r e = found toDrop t q e
-      go (bad i) p (bad j) q (whole t) r e = found toAsk t r e
-      go (bad i) p (bad j) q (bad k) r e = let z : _≡_ {A = ℕ} 0 1 = cc in absurd (omega arith)
-
-  one-formed : (c : Command) (t : Tree) → R c ≡ whole t → ((d : Command) (u : Tree) → R d ≡ whole u → d ≡ c) →
-      furthest ≡ formed c (listing t)
-  unfolding furthest
-  one-formed c t e h = go (R toAdd) refl (R toDrop) refl (R toAsk) refl
-    where
-      found : (d : Command) (u : Tree) → R d ≡ whole u → formed d (listing u) ≡ formed c (listing t)
-      found d u q = let p = h d u q in let v : u ≡ t = cc in cc
-
-      none : (c : Command) → R c ≡ whole t → (i j k : ℕ) → R toAdd ≡ bad i → R toDrop ≡ bad j → R toAsk ≡ bad k → ⊥
-      none toAdd e i j k p q r = let z : _≡_ {A = ℕ} 0 1 = cc in omega arith
-      none toDrop e i j k p q r = let z : _≡_ {A = ℕ} 0 1 = cc in omega arith
-      none toAsk e i j k p q r = let z : _≡_ {A = ℕ} 0 1 = cc in omega arith
-
-      go : (x : Reading) → R toAdd ≡ x → (y : Reading) → R toDrop ≡ y → (z : Reading) → R toAsk ≡ z →
-          further (asLine toAdd x) (further (asLine toDrop y) (asLine toAsk z)) ≡ formed c (listing t)
-      go (whole u) p y q z r = found toAdd u p
-      go (bad i) p (whole u) q z r = found toDrop u q
-      go (bad i) p (bad j) q (whole u) r = found toAsk u r
-      go (bad i) p (bad j) q (bad k) r = absurd (none c e i j k p q r)
-
   -- all three are malformed, and one of them comes to column m and none further
   record Furthest (m : ℕ) : Type 0 where
     command : Command
     reached : R command ≡ bad m
     others : (c : Command) → (k : ℕ) × (R c ≡ bad k) × (k ≤ m)
 
-  form-furthest : (m : ℕ) → furthest ≡ form m → Furthest m
-  unfolding furthest
-  form-furthest m e = go (R toAdd) refl (R toDrop) refl (R toAsk) refl e
-    where
-      all : (i j k : ℕ) → R toAdd ≡ bad i → R toDrop ≡ bad j → R toAsk ≡ bad k → max i (max j k) ≡ m →
-          (c : Command) → (k : ℕ) × (R c ≡ bad k) × (k ≤ m)
-      all i j k p q r e toAdd = (i, p, omega arith)
-      all i j k p q r e toDrop = (j, q, omega arith)
-      all i j k p q r e toAsk = (k, r, omega arith)
+  -- one of the three is well-formed, or they are all malformed
+  data Cases : Type 0 where
+    one-whole : (c : Command) (t : Tree) → R c ≡ whole t → furthest ≡ formed c (listing t) → Cases
+    all-bad : (m : ℕ) → Furthest m → furthest ≡ form m → Cases
 
-      one : (i j k : ℕ) → R toAdd ≡ bad i → R toDrop ≡ bad j → R toAsk ≡ bad k → max i (max j k) ≡ m →
-          (eqb i m ≡ true) ⊎ (eqb i m ≡ false) → (eqb j m ≡ true) ⊎ (eqb j m ≡ false) →
-          (c : Command) × (R c ≡ bad m)
-      one i j k p q r e (inl h) b = (toAdd, p ∙ ap bad (eqb-true i m h))
-      one i j k p q r e (inr h) (inl g) = (toDrop, q ∙ ap bad (eqb-true j m g))
-      one i j k p q r e (inr h) (inr g) =
-          let h' = eqb-false i m h in
-          let g' = eqb-false j m g in
-          let d : k ≡ m = omega arith in
-          (toAsk, r ∙ ap bad d)
+  furthest-cases : Cases
+  unfolding furthest
+  furthest-cases = go (R toAdd) refl (R toDrop) refl (R toAsk) refl
+    where
+      furthest-bad : (i j k m : ℕ) → R toAdd ≡ bad i → R toDrop ≡ bad j → R toAsk ≡ bad k → m ≡ max i (max j k) →
+          (eqb i m ≡ true) ⊎ (eqb i m ≡ false) → (eqb j m ≡ true) ⊎ (eqb j m ≡ false) → Furthest m
+      furthest-bad i j k m p q r e a b =
+          let o = one a b in record { command = o .0; reached = o .1; others = all }
+        where
+          all : (c : Command) → (k : ℕ) × (R c ≡ bad k) × (k ≤ m)
+          all toAdd = (i, p, omega arith)
+          all toDrop = (j, q, omega arith)
+          all toAsk = (k, r, omega arith)
+
+          one : (eqb i m ≡ true) ⊎ (eqb i m ≡ false) → (eqb j m ≡ true) ⊎ (eqb j m ≡ false) →
+              (c : Command) × (R c ≡ bad m)
+          one (inl h) b = (toAdd, p ∙ ap bad (eqb-true i m h))
+          one (inr h) (inl g) = (toDrop, q ∙ ap bad (eqb-true j m g))
+          one (inr h) (inr g) =
+              let h' = eqb-false i m h in
+              let g' = eqb-false j m g in
+              let d : k ≡ m = omega arith in
+              (toAsk, r ∙ ap bad d)
 
       go : (x : Reading) → R toAdd ≡ x → (y : Reading) → R toDrop ≡ y → (z : Reading) → R toAsk ≡ z →
-          further (asLine toAdd x) (further (asLine toDrop y) (asLine toAsk z)) ≡ form m → Furthest m
-      go (whole t) p y q z r e = let z : _≡_ {A = ℕ} 0 1 = cc in absurd (omega arith)
-      go (bad i) p (whole t) q z r e = let z : _≡_ {A = ℕ} 0 1 = cc in absurd (omega arith)
-      go (bad i) p (bad j) q (whole t) r e = let z : _≡_ {A = ℕ} 0 1 = cc in absurd (omega arith)
-      go (bad i) p (bad j) q (bad k) r e =
-          let d : max i (max j k) ≡ m = cc in
-          let o = one i j k p q r d (test (eqb i m)) (test (eqb j m)) in
-          record { command = o .0; reached = o .1; others = all i j k p q r d }
+          Cases
+      go (whole t) p y q z r = one-whole toAdd t p (rw p)
+      go (bad i) p (whole t) q z r = one-whole toDrop t q (rw (p, q))
+      go (bad i) p (bad j) q (whole t) r = one-whole toAsk t r (rw (p, q, r))
+      go (bad i) p (bad j) q (bad k) r =
+          let m = max i (max j k) in
+          all-bad m (furthest-bad i j k m p q r refl (test (eqb i m)) (test (eqb j m))) (rw (p, q, r))
+
+  formed-one : (c : Command) (l : List ℕ) → furthest ≡ formed c l → (t : Tree) × (R c ≡ whole t) × (l ≡ listing t)
+  formed-one c l e = go furthest-cases
+    where
+      go : Cases →
+          (t : Tree) × (R c ≡ whole t) × (l ≡ listing t)
+      go (one-whole d t q f) = let p : d ≡ c = cc in (t, rw p at q, cc)
+      go (all-bad m x f) = let z : _≡_ {A = ℕ} 0 1 = cc in absurd (omega arith)
+
+  one-formed : (c : Command) (t : Tree) → R c ≡ whole t → ((d : Command) (u : Tree) → R d ≡ whole u → d ≡ c) →
+      furthest ≡ formed c (listing t)
+  one-formed c t e h = go furthest-cases
+    where
+      go : Cases → furthest ≡ formed c (listing t)
+      go (one-whole d u q f) = let p = h d u q in let v : u ≡ t = cc in cc
+      go (all-bad m x f) =
+          let (k, q, j) = x .others c in
+          let z : _≡_ {A = ℕ} 0 1 = cc in
+          absurd (omega arith)
+
+  form-furthest : (m : ℕ) → furthest ≡ form m → Furthest m
+  form-furthest m e = go furthest-cases
+    where
+      go : Cases → Furthest m
+      go (one-whole d u q f) = let z : _≡_ {A = ℕ} 0 1 = cc in absurd (omega arith)
+      go (all-bad n x f) = let d : n ≡ m = cc in subst Furthest d x
 
   furthest-not-long : furthest ≡ long → ⊥
-  unfolding furthest
-  furthest-not-long e = go (R toAdd) (R toDrop) (R toAsk) e
+  furthest-not-long e = go furthest-cases
     where
-      go : (x y z : Reading) → further (asLine toAdd x) (further (asLine toDrop y) (asLine toAsk z)) ≡ long → ⊥
-      go (whole t) y z e = let z : _≡_ {A = ℕ} 0 1 = cc in omega arith
-      go (bad i) (whole t) z e = let z : _≡_ {A = ℕ} 0 1 = cc in omega arith
-      go (bad i) (bad j) (whole t) e = let z : _≡_ {A = ℕ} 0 1 = cc in omega arith
-      go (bad i) (bad j) (bad k) e = let z : _≡_ {A = ℕ} 0 1 = cc in omega arith
+      go : Cases → ⊥
+      go (one-whole d u q f) = let z : _≡_ {A = ℕ} 0 1 = cc in omega arith
+      go (all-bad n x f) = let z : _≡_ {A = ℕ} 0 1 = cc in omega arith
 
--- the third byte tells the commands apart
+-- the third byte distinguishes the commands
 head-apart : (c d : Command) (s r : List ℕ) → head c ++ s ≡ head d ++ r → c ≡ d
 head-apart toAdd toAdd s r e = refl
 head-apart toAdd toDrop s r e = absurd (omega (arith, ap (λ (l : List ℕ). getD l 2 0) e))
@@ -132,14 +126,8 @@ long-line : (s : List ℕ) → maxLine < length s → readLine s ≡ long
 unfolding readLine
 long-line s h = rw (lt-leb (length s) maxLine h)
 
--- a line is the text of a command and a tree with labels 0 to 255, whatever its size, and l is the tree's listing
-pub record Lists (s : List ℕ) (c : Command) (l : List ℕ) : Type 0 where
-  pub tree : Tree
-  pub labels : Labelled tree
-  pub text : s ≡ commandText c tree
-  pub bytes : l ≡ listing tree
-
-pub line-formed : (s : List ℕ) (c : Command) (l : List ℕ) → length s ≤ maxLine → readLine s ≡ formed c l ↔ Lists s c l
+pub line-formed : (s : List ℕ) (c : Command) (l : List ℕ) → length s ≤ maxLine →
+    readLine s ≡ formed c l ↔ CommandLine s c l
 line-formed s c l h = (
   λ e.
       let (t, q, b) = formed-one (readings s) c l (sym (short-line s h) ∙ e) in
@@ -161,7 +149,7 @@ line-long s = (λ e. go (test (leb (length s) maxLine)) e, λ h. long-line s h)
         absurd (furthest-not-long (readings s) (sym (short-line s (leb-true (length s) maxLine h)) ∙ e))
     go (inr h) e = leb-false (length s) maxLine h
 
--- where no form with the head of c begins so early, none begins later
+-- if no form with the head of c begins so early, none begins later
 none-later : (w s : List ℕ) (k m : ℕ) → FormStop w s k → k ≤ m → m ≤ length s → FormBegins w (take m s) → ⊥
 none-later w s k m x h l g =
     x .there (omega arith) (record {

@@ -10,7 +10,7 @@ use borrow.Author.Tests.{eqb-true}
 use Rattle.format.specs.Format.{maxLabel}
 use Rattle.text.specs.Grammar.{AllLabelled, Labelled, childrenText, closeBracket, labelText, openBracket}
 use Rattle.text.specs.Grammar.{space, treeText}
-use Rattle.text.specs.Reader.{Open, Place, among, behind, expecting, extends, isDigit, lineRead, naming, next}
+use Rattle.text.specs.Reader.{Open, Place, among, afterTree, expecting, extends, isDigit, lineRead, naming, next}
 use Rattle.text.specs.Reader.{onward, scan, stuck, treeRead}
 use Rattle.trees.specs.Tree.{Forest, Tree, _⧺_, cons, nil, node}
 use Rattle.lists.proofs.Tests.{test}
@@ -37,7 +37,7 @@ abbrev FitOpen : List Open → Type 0
 FitOpen [] = Unit {0}
 FitOpen (o ∷ os) = (o .label ≤ maxLabel) × AllLabelled (o .children) × FitOpen os
 
--- every label read is 0 to 255
+-- every label read is up to the largest
 abbrev Fit : Place → Type 0
 Fit (expecting v os) = FitOpen os
 Fit (naming a os) = (a ≤ maxLabel) × FitOpen os
@@ -63,12 +63,12 @@ node-text : (a : ℕ) (f : Forest) → nodeStart a f ++ (closeBracket ∷ []) �
 unfolding nodeStart
 node-text a f = ap (λ x. openBracket ∷ x) (append-assoc (labelText a) (childrenText f) (closeBracket ∷ []))
 
-known-behind : (w : List ℕ) (a : ℕ) (f : Forest) (os : List Open) (s : List ℕ) → a ≤ maxLabel → AllLabelled f →
-    FitOpen os → s ≡ openText w os ++ nodeStart a f → Known w (behind (node a f) os) (s ++ (closeBracket ∷ []))
+known-after : (w : List ℕ) (a : ℕ) (f : Forest) (os : List Open) (s : List ℕ) → a ≤ maxLabel → AllLabelled f →
+    FitOpen os → s ≡ openText w os ++ nodeStart a f → Known w (afterTree (node a f) os) (s ++ (closeBracket ∷ []))
 unfolding Known nodeStart
-known-behind w a f [] s h k l e =
+known-after w a f [] s h k l e =
     (rw (e, append-assoc w (nodeStart a f) (closeBracket ∷ [])) (ap (λ x. w ++ x) (node-text a f)), (h, k))
-known-behind w a f (o ∷ os) s h k l e =
+known-after w a f (o ∷ os) s h k l e =
     let b = openText w os in
     let l' = labelText (o .label) in
     let c = childrenText (o .children) in
@@ -93,7 +93,7 @@ known-onward w n a f os b s h k l e = go (test (eqb b closeBracket)) (test (eqb 
   where
     go : (eqb b closeBracket ≡ true) ⊎ (eqb b closeBracket ≡ false) → (eqb b space ≡ true) ⊎ (eqb b space ≡ false) →
         Known w (onward n a f os b) (s ++ (b ∷ []))
-    go (inl p) r = rw (p, eqb-true b closeBracket p) (known-behind w a f os s h k l e)
+    go (inl p) r = rw (p, eqb-true b closeBracket p) (known-after w a f os s h k l e)
     go (inr p) (inl q) =
         rw (p, q, eqb-true b space q) (
           ap (λ x. (x ++ (space ∷ [])) ++ (openBracket ∷ [])) e ∙ ap (λ x. x ++ (openBracket ∷ []))

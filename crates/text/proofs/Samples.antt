@@ -1,30 +1,7 @@
--- Columns of "form" and whole lines, computed: what each line is read as, in one table with a single claim.
-use mathlib.Core.List.{List, [], _∷_}
-use mathlib.Core.Path.{_≡_, refl}
-use Prim.Native.Nat.{ℕ}
-use Rattle.text.specs.Grammar.{toAdd, toDrop}
-use Rattle.text.specs.Reader.{Line, ending, form, formed, next, onward, readForm, readLine, scan}
-
--- a line and what it is read as
-abbrev pub Sample : Type 0
-Sample = List ℕ × Line
-
--- "" | "(add" | "(ask (1)" | "(ask (1)))" | "(ask (01))" | "(ask (256))" | "(drop (0))" | "(add (1 (1) (2)))"
-pub samples : List Sample
-samples =
-    ([], form 1) ∷ (40 ∷ 97 ∷ 100 ∷ 100 ∷ [], form 5) ∷
-    (40 ∷ 97 ∷ 115 ∷ 107 ∷ 32 ∷ 40 ∷ 49 ∷ 41 ∷ [], form 9) ∷
-    (40 ∷ 97 ∷ 115 ∷ 107 ∷ 32 ∷ 40 ∷ 49 ∷ 41 ∷ 41 ∷ 41 ∷ [], form 10) ∷
-    (40 ∷ 97 ∷ 115 ∷ 107 ∷ 32 ∷ 40 ∷ 48 ∷ 49 ∷ 41 ∷ 41 ∷ [], form 8) ∷
-    (40 ∷ 97 ∷ 115 ∷ 107 ∷ 32 ∷ 40 ∷ 50 ∷ 53 ∷ 54 ∷ 41 ∷ 41 ∷ [], form 9) ∷
-    (40 ∷ 100 ∷ 114 ∷ 111 ∷ 112 ∷ 32 ∷ 40 ∷ 48 ∷ 41 ∷ 41 ∷ [], formed toDrop (0 ∷ 0 ∷ [])) ∷ (
-      40 ∷ 97 ∷ 100 ∷ 100 ∷ 32 ∷ 40 ∷ 49 ∷ 32 ∷ 40 ∷ 49 ∷ 41 ∷ 32 ∷ 40 ∷ 50 ∷ 41 ∷ 41 ∷ 41 ∷ [],
-      formed toAdd (1 ∷ 2 ∷ 1 ∷ 0 ∷ 2 ∷ 0 ∷ []),
-    ) ∷ []
-
-pub AllRead : List Sample → Type 0
-AllRead [] = Unit {0}
-AllRead (x ∷ xs) = (readLine (x .0) ≡ x .1) × AllRead xs
+-- The sample lines are read as their table says, by computing.
+use mathlib.Core.Path.{refl}
+use Rattle.text.specs.Reader.{ending, next, onward, readForm, readLine, scan}
+use Rattle.text.specs.Samples.{AllRead, samples}
 
 pub samples-read : AllRead samples
 unfolding readLine scan next ending readForm onward AllRead samples

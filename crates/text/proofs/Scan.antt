@@ -10,8 +10,9 @@ use native.Mathlib.Omega.{arith}
 use lib.Dec.{eqb}
 use lib.ListN.{drop, getD, length}
 use lib.Seq.{drop-cons}
-use Rattle.text.specs.Grammar.{closeBracket, digit, space}
-use Rattle.text.specs.Reader.{Open, Place, among, bad, behind, ending, expecting, extends, isDigit, lineRead}
+use Rattle.lists.specs.Decimal.{digit}
+use Rattle.text.specs.Grammar.{closeBracket, space}
+use Rattle.text.specs.Reader.{Open, Place, among, bad, afterTree, ending, expecting, extends, isDigit, lineRead}
 use Rattle.text.specs.Reader.{naming, next, onward, scan, stuck, treeRead}
 use Rattle.trees.specs.Tree.{Forest, Tree, _⧺_, cons, nil, node}
 use Rattle.lists.proofs.Tests.{eqb-same}
@@ -55,14 +56,14 @@ cond-stuck : (b : Bool) (n : ℕ) (p q : Place) → StuckAt n p → StuckAt n q 
 cond-stuck true n p q h k = h
 cond-stuck false n p q h k = k
 
-behind-live : (t : Tree) (os : List Open) → Live (behind t os)
-behind-live t [] = tt
-behind-live t (o ∷ os) = tt
+after-live : (t : Tree) (os : List Open) → Live (afterTree t os)
+after-live t [] = tt
+after-live t (o ∷ os) = tt
 
 onward-stuck : (n a : ℕ) (f : Forest) (os : List Open) (b : ℕ) → StuckAt n (onward n a f os b)
 unfolding onward StuckAt
 onward-stuck n a f os b =
-    cond-stuck (eqb b closeBracket) n _ _ (inl (behind-live (node a f) os))
+    cond-stuck (eqb b closeBracket) n _ _ (inl (after-live (node a f) os))
     (cond-stuck (eqb b space) n _ _ (inl tt) (inr refl))
 
 next-stuck : (n : ℕ) (p : Place) (b : ℕ) → Live p → StuckAt n (next n p b)
@@ -122,22 +123,22 @@ pub record Completion (p : Place) : Type 0 where
   pub tree : Tree
   pub ends : (n : ℕ) → scan rest n p ≡ lineRead tree
 
--- b, and then what completes the place behind it
+-- b, and then what completes the place after it
 before : (p q : Place) (b : ℕ) → ((n : ℕ) → next n p b ≡ q) → Completion q → Completion p
 unfolding scan
 before p q b e c = record { rest = b ∷ c .rest; tree = c .tree; ends = λ n. rw (e n) (c .ends (suc n)) }
 
-complete-behind : (os : List Open) (t : Tree) → Completion (behind t os)
+complete-after : (os : List Open) (t : Tree) → Completion (afterTree t os)
 unfolding scan next onward
-complete-behind [] t = record { rest = closeBracket ∷ []; tree = t; ends = λ n. refl }
-complete-behind (o ∷ os) t =
+complete-after [] t = record { rest = closeBracket ∷ []; tree = t; ends = λ n. refl }
+complete-after (o ∷ os) t =
     let u = node (o .label) (o .children ⧺ cons t nil) in
-    before (behind t (o ∷ os)) (behind u os) closeBracket (λ n. refl) (complete-behind os u)
+    before (afterTree t (o ∷ os)) (afterTree u os) closeBracket (λ n. refl) (complete-after os u)
 
 complete-naming : (a : ℕ) (os : List Open) → Completion (naming a os)
 unfolding next onward
 complete-naming a os =
-    before (naming a os) (behind (node a nil) os) closeBracket (λ n. refl) (complete-behind os (node a nil))
+    before (naming a os) (afterTree (node a nil) os) closeBracket (λ n. refl) (complete-after os (node a nil))
 
 complete-expecting : (w : List ℕ) (os : List Open) → Completion (expecting w os)
 unfolding next
@@ -150,7 +151,7 @@ unfolding scan next onward
 complete (expecting w os) h = complete-expecting w os
 complete (naming a os) h = complete-naming a os
 complete (among a f os) h =
-    before (among a f os) (behind (node a f) os) closeBracket (λ n. refl) (complete-behind os (node a f))
+    before (among a f os) (afterTree (node a f) os) closeBracket (λ n. refl) (complete-after os (node a f))
 complete (treeRead t) h = record { rest = closeBracket ∷ []; tree = t; ends = λ n. refl }
 complete (lineRead t) h = record { rest = []; tree = t; ends = λ n. refl }
 complete (stuck m) h = absurd h

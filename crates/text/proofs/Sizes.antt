@@ -1,39 +1,32 @@
 -- Sizes: a tree's listing against its text, and a listing written byte by byte.
-use mathlib.Core.Bool.{Bool, cond, false, true}
 use mathlib.Core.List.{List, [], _++_, _∷_}
 use mathlib.Core.Path.{_∙_, _≡_, ap, refl, sym}
-use Prim.Native.Nat.{_%_, _*_, _+_, _/_, _<_, _≤_, suc, ℕ}
+use Prim.Native.Nat.{_*_, _+_, _<_, _≤_, suc, ℕ}
 use native.Mathlib.Nat.{add-zero}
 use native.Mathlib.Omega.{arith}
-use lib.Dec.{ltb}
-use lib.ListN.{drop, length, length-append, set}
+use lib.ListN.{drop, length, length-append, length-drop, set}
 use lib.Seq.{length-sets, set-comm, sets}
-use Rattle.text.specs.Answers.{ChildrenText, TreeText}
-use Rattle.text.specs.Grammar.{childrenText, closeBracket, digit, labelText, treeText}
-use Rattle.text.specs.Outcome.{listed}
+use Rattle.format.specs.Format.{nodeBytes}
+use Rattle.text.specs.Contracts.{ChildrenText, TreeText}
+use Rattle.text.specs.Columns.{OnLine}
+use Rattle.text.specs.Grammar.{childrenText, closeBracket, labelText, treeText}
+use Rattle.text.specs.declared.cursor.Cursor.{Cursor}
 use Rattle.trees.specs.Listing.{listing, listings}
 use Rattle.trees.specs.Tree.{Forest, Tree, cons, count, nil, node}
+use Rattle.lists.proofs.Decimal.{decimal-some}
+use Rattle.text.proofs.Cursors.{ahead-on-line}
 
-label-some : (a : ℕ) → 1 ≤ length (labelText a)
-unfolding labelText
-label-some a = go (ltb a 10) (ltb a 100)
-  where
-    go : (p q : Bool) → 1 ≤ length (cond p (digit a ∷ []) (cond q (digit (a / 10) ∷ digit (a % 10) ∷ [])
-        (digit (a / 100) ∷ digit (a / 10 % 10) ∷ digit (a % 10) ∷ [])))
-    go true q = omega arith
-    go false true = omega arith
-    go false false = omega arith
-
--- n nodes have a listing of 2 n bytes, and a text of 4 n, but for the first node's space
+-- n nodes have a listing of n times a node's bytes, and a text of 4 n, but for the first node's space
 pub record TreeSize (t : Tree) : Type 0 where
   pub nodes : ℕ
-  pub listed : length (listing t) ≡ 2 * nodes
+  pub some : 1 ≤ nodes
+  pub listed : length (listing t) ≡ nodeBytes * nodes
   pub text : 4 * nodes ≤ length (treeText t) + 1
 
 pub record ForestSize (f : Forest) : Type 0 where
   pub nodes : ℕ
   pub trees : count f ≤ nodes
-  pub listed : length (listings f) ≡ 2 * nodes
+  pub listed : length (listings f) ≡ nodeBytes * nodes
   pub text : 4 * nodes ≤ length (childrenText f)
 
 mutual
@@ -46,27 +39,22 @@ mutual
           let k = length-append (childrenText f) (closeBracket ∷ []) in
           record {
             nodes = suc (x .nodes);
+            some = omega arith;
             listed = omega (arith, x .listed);
-            text = omega (arith, x .text, l, k, label-some a);
+            text = omega (arith, x .text, l, k, decimal-some a);
           }
 
   pub forest-size : (f : Forest) → ForestSize f
   forest-size nil = record { nodes = 0; trees = omega arith; listed = refl; text = omega arith }
   forest-size (cons t f) = go (tree-size t) (forest-size f)
     where
-      one : (x : TreeSize t) → 1 ≤ x .nodes
-      one x = go t x
-        where
-          go : (t : Tree) (x : TreeSize t) → 1 ≤ x .nodes
-          go (node a f) x = omega (arith, x .listed)
-
       go : TreeSize t → ForestSize f → ForestSize (cons t f)
       go x y =
           let l = length-append (listing t) (listings f) in
           let k = length-append (treeText t) (childrenText f) in
           record {
             nodes = x .nodes + y .nodes;
-            trees = omega (arith, one x, y .trees);
+            trees = omega (arith, x .some, y .trees);
             listed = omega (arith, l, x .listed, y .listed);
             text = omega (arith, k, x .text, y .text);
           }
@@ -84,31 +72,36 @@ set-sets l i a j (x ∷ v) h =
     set-sets (set l j x) i a (suc j) v (omega arith) ∙
     ap (λ m. sets m (suc j) v) (sym (set-comm l i j a x (λ e. absurd (omega arith))))
 
--- what was read lies within s, and takes no more bytes of the listing than of the text
-pub record Bounds (s l m : List ℕ) (n u : ℕ) : Type 0 where
-  pub within : n ≤ length s
-  pub used : u ≤ n
+-- what was read ends on the line, and takes at most the bytes of a node in the listing for each byte of the text
+pub record Bounds (s : List ℕ) (c : Cursor) (l : List ℕ) (at : ℕ) (m : List ℕ) (d : Cursor) (u : ℕ) : Type 0 where
+  pub line : OnLine s d
+  pub further : c .place < d .place
+  pub used : u + nodeBytes * c .place ≤ at + nodeBytes * d .place
   pub size : length m ≡ length l
 
-pub tree-bounds : (s l : List ℕ) (at : ℕ) (m : List ℕ) (n u : ℕ) → TreeText s l at m n u → Bounds s l m n u
-tree-bounds s l at m n u x =
-    let z = tree-size (x .tree) in
-    let e = ap length (x .text) ∙ length-append (treeText (x .tree)) (drop n s) in
-    record {
-      within = omega (arith, e, x .size);
-      used = omega (arith, z .listed, z .text, x .used, x .size);
-      size = ap length (x .written) ∙ length-sets l at (listing (x .tree));
-    }
-
-pub children-bounds : (s l : List ℕ) (at : ℕ) (m : List ℕ) (k n u : ℕ) → ChildrenText s l at m k n u →
-    Bounds s l m n u × (4 * k < n)
-children-bounds s l at m k n u x =
-    let z = forest-size (x .trees) in
-    let e = ap length (x .text) ∙ length-append (childrenText (x .trees)) (closeBracket ∷ drop n s) in (
+module _ {s : List ℕ} {c : Cursor} {l : List ℕ} {at : ℕ} {m : List ℕ} {d : Cursor} {u : ℕ} (o : OnLine s c) where
+  pub tree-bounds : TreeText s c l at m d u → Bounds s c l at m d u
+  tree-bounds x =
+      let z = tree-size (x .tree) in
+      let e = ap length (x .text) ∙ length-append (treeText (x .tree)) (drop (d .place) s) in
+      let f = x .after in
       record {
-        within = omega (arith, e, x .size);
-        used = omega (arith, z .listed, z .text, x .used, x .size);
-        size = ap length (x .written) ∙ length-sets l at (listings (x .trees));
-      },
-      omega (arith, z .trees, z .text, x .number, x .size),
-    )
+        line = ahead-on-line o f (omega (arith, e, length-drop (c .place) s, length-drop (d .place) s));
+        further = omega (arith, z .some, z .text);
+        used = omega (arith, z .listed, z .text, x .end);
+        size = ap length (x .written) ∙ length-sets l at (listing (x .tree));
+      }
+
+  pub children-bounds : {k : ℕ} → ChildrenText s c l at m k d u → Bounds s c l at m d u × (4 * k + c .place < d .place)
+  children-bounds x =
+      let z = forest-size (x .trees) in
+      let e = ap length (x .text) ∙ length-append (childrenText (x .trees)) (closeBracket ∷ drop (d .place) s) in
+      let f = x .after in (
+        record {
+          line = ahead-on-line o f (omega (arith, e, length-drop (c .place) s, length-drop (d .place) s));
+          further = omega arith;
+          used = omega (arith, z .listed, z .text, x .end);
+          size = ap length (x .written) ∙ length-sets l at (listings (x .trees));
+        },
+        omega (arith, z .trees, z .text, x .number),
+      )

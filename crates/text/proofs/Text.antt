@@ -4,20 +4,22 @@ use mathlib.Core.Bool.{false, true}
 use mathlib.Core.List.{List, [], _++_, _∷_, append-assoc}
 use mathlib.Core.Logic.{_⊎_, inl, inr}
 use mathlib.Core.Path.{_∙_, _≡_, ap, refl, subst}
-use Prim.Native.Nat.{_%_, _+_, _-_, _/_, _<_, _≤_, suc, ℕ}
+use Prim.Native.Nat.{_%_, _+_, _-_, _/_, _<_, _≤_, suc, zero, ℕ}
 use native.Mathlib.Nat.{add-zero}
 use native.Mathlib.Numerals.{add-one}
 use native.Mathlib.Omega.{arith}
 use lib.Dec.{ltb}
 use lib.ListN.{length, length-append}
-use borrow.Author.Tests.{le-leb, lt-ltb, ltb-false, ltb-true}
+use borrow.Author.Tests.{ltb-false, ltb-true}
 use Rattle.format.specs.Format.{maxLabel}
-use Rattle.text.specs.Grammar.{AllLabelled, Labelled, childrenText, closeBracket, digit, labelText}
+use Rattle.lists.specs.Decimal.{digit}
+use Rattle.text.specs.Grammar.{AllLabelled, Labelled, childrenText, closeBracket, labelText}
 use Rattle.text.specs.Grammar.{openBracket, treeText}
-use Rattle.text.specs.Reader.{Open, among, behind, expecting, extended, naming, next, onward, scan}
+use Rattle.text.specs.Reader.{Open, among, afterTree, expecting, extended, naming, next, onward, scan}
 use Rattle.trees.specs.Tree.{Forest, Tree, _⧺_, cons, nil, node}
+use Rattle.lists.proofs.Decimal.{decimal-digit}
 use Rattle.lists.proofs.Tests.{test}
-use Rattle.text.proofs.Labels.{Extends, label-extended, true-extends}
+use Rattle.text.proofs.Labels.{Extends, digit-true, label-extended, true-extends}
 use Rattle.trees.proofs.Trees.{snoc-append}
 
 -- ---- the text of a tree is scanned to its end
@@ -29,17 +31,12 @@ module _ (os : List Open) where
       scan (labelText a ++ s) n (expecting [] os) ≡ scan s (n + length (labelText a)) (naming a os)
 
   scanned-digit : (a : ℕ) → a < 10 → Scanned a
-  unfolding scan next labelText
+  unfolding scan next
   scanned-digit a h s n =
       let e : digit a - digit 0 ≡ a = omega arith in
-      rw (
-        lt-ltb a 10 h,
-        le-leb (digit 0) (digit a) (omega arith),
-        le-leb (digit a) (digit 9)
-            (omega arith),
-        e,
-        add-one n,
-      )
+      let p : scan (digit a ∷ s) n (expecting [] os) ≡ scan s (n + 1) (naming a os) =
+      rw (digit-true a h, e, add-one n) in
+      rw (decimal-digit a h) p
 
   scanned-more : (a b : ℕ) → Extends a b → Scanned a → Scanned (extended a b)
   unfolding scan next
@@ -54,31 +51,29 @@ module _ (os : List Open) where
       let e : extended (a / 10) (digit (a % 10)) ≡ a = omega arith in
       (record { low = omega arith; high = omega arith; nonzero = omega arith; fits = omega arith }, e)
 
-  -- a number is scanned where that without its last digit is
+  -- a number is scanned if that without its last digit is
   scanned-last : (a : ℕ) → 10 ≤ a → a ≤ maxLabel → Scanned (a / 10) → Scanned a
   scanned-last a h k ih =
       let d = last-digit a h k in
       subst Scanned (d .1) (scanned-more (a / 10) (digit (a % 10)) (d .0) ih)
 
-  pub scan-label : (a : ℕ) → a ≤ maxLabel → Scanned a
-  scan-label a k = go (test (ltb a 10)) (test (ltb a 100))
+  scan-label-below : (k a : ℕ) → a < k → a ≤ maxLabel → Scanned a
+  scan-label-below zero a h l = absurd (omega arith)
+  scan-label-below (suc k) a h l = go (test (ltb a 10)) (λ p q. scan-label-below k (a / 10) p q)
     where
-      go : (ltb a 10 ≡ true) ⊎ (ltb a 10 ≡ false) → (ltb a 100 ≡ true) ⊎ (ltb a 100 ≡ false) → Scanned a
-      go (inl h) r = scanned-digit a (ltb-true a 10 h)
-      go (inr h) (inl l) =
-          let h' = ltb-false a 10 h in
-          let l' = ltb-true a 100 l in
-          scanned-last a h' k (scanned-digit (a / 10) (omega arith))
-      go (inr h) (inr l) =
-          let l' = ltb-false a 100 l in
-          scanned-last a (ltb-false a 10 h) k
-          (scanned-last (a / 10) (omega arith) (omega arith) (scanned-digit (a / 10 / 10) (omega arith)))
+      go : (ltb a 10 ≡ true) ⊎ (ltb a 10 ≡ false) → (a / 10 < k → a / 10 ≤ maxLabel → Scanned (a / 10)) → Scanned a
+      go (inl e) ih = scanned-digit a (ltb-true a 10 e)
+      go (inr e) ih =
+          let m : 10 ≤ a = ltb-false a 10 e in scanned-last a m l (ih (omega arith) (omega arith))
+
+  pub scan-label : (a : ℕ) → a ≤ maxLabel → Scanned a
+  scan-label a l = scan-label-below (suc a) a (omega arith) l
 
 append-none : (f : Forest) → f ⧺ nil ≡ f
 append-none nil = refl
 append-none (cons t f) = ap (cons t) (append-none f)
 
--- behind a label children are read as behind a child
+-- after a label children are read as after a child
 naming-children : (f : Forest) (s : List ℕ) (n a : ℕ) (os : List Open) →
     scan (childrenText f ++ (closeBracket ∷ s)) n (naming a os) ≡
     scan (childrenText f ++ (closeBracket ∷ s)) n (among a nil os)
@@ -86,18 +81,18 @@ unfolding scan next
 naming-children nil s n a os = refl
 naming-children (cons t f) s n a os = refl
 
--- where the whole tree is behind, the nodes around it go on
+-- after a whole tree the nodes around it go on
 mutual
   unfolding scan next onward
 
   pub scan-tree : (t : Tree) (s : List ℕ) (n : ℕ) (os : List Open) → Labelled t →
-      scan (treeText t ++ s) n (expecting (openBracket ∷ []) os) ≡ scan s (n + length (treeText t)) (behind t os)
+      scan (treeText t ++ s) n (expecting (openBracket ∷ []) os) ≡ scan s (n + length (treeText t)) (afterTree t os)
   scan-tree (node a f) s n os h = go (λ m. scan-children f (closeBracket ∷ s) m a nil os (h .1))
     where
       go : ((m : ℕ) → scan (childrenText f ++ (closeBracket ∷ s)) m (among a nil os) ≡
           scan (closeBracket ∷ s) (m + length (childrenText f)) (among a f os)) →
           scan ((labelText a ++ (childrenText f ++ (closeBracket ∷ []))) ++ s) (suc n) (expecting [] os) ≡
-          scan s (n + suc (length (labelText a ++ (childrenText f ++ (closeBracket ∷ []))))) (behind (node a f) os)
+          scan s (n + suc (length (labelText a ++ (childrenText f ++ (closeBracket ∷ []))))) (afterTree (node a f) os)
       go ih =
           let l = labelText a in
           let k = suc n + length l in

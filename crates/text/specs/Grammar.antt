@@ -1,11 +1,11 @@
 -- The text of a line of the bench program, as document 01 words it: (add TREE), (drop TREE) or (ask TREE).
-use mathlib.Core.Bool.{cond}
 use mathlib.Core.List.{List, [], _++_, _∷_}
 use mathlib.Core.Path.{_≡_}
-use Prim.Native.Nat.{_%_, _+_, _-_, _/_, _≤_, suc, ℕ}
-use lib.Dec.{ltb}
+use Prim.Native.Nat.{_-_, _≤_, suc, ℕ}
 use lib.ListN.{length, take}
 use Rattle.format.specs.Format.{maxLabel}
+use Rattle.lists.specs.Decimal.{decimal}
+use Rattle.trees.specs.Listing.{listing}
 use Rattle.trees.specs.Tree.{Forest, Tree, cons, nil, node}
 
 abbrev pub openBracket : ℕ
@@ -17,15 +17,9 @@ closeBracket = 41
 abbrev pub space : ℕ
 space = 32
 
--- the byte of a decimal digit
-abbrev pub digit : ℕ → ℕ
-digit d = 48 + d
-
--- a label in decimal without leading zeros; a label of a well-formed line has at most three digits
-unfoldable pub labelText : ℕ → List ℕ
-labelText a =
-    cond (ltb a 10) (digit a ∷ []) (cond (ltb a 100) (digit (a / 10) ∷ digit (a % 10) ∷ [])
-    (digit (a / 100) ∷ digit (a / 10 % 10) ∷ digit (a % 10) ∷ []))
+-- a label in decimal without leading zeros
+abbrev pub labelText : ℕ → List ℕ
+labelText a = decimal a
 
 -- an opening bracket, a label, then for each child a space and a tree, then a closing bracket
 abbrev mutual
@@ -49,7 +43,7 @@ head toAsk = openBracket ∷ 97 ∷ 115 ∷ 107 ∷ space ∷ []
 abbrev pub commandText : Command → Tree → List ℕ
 commandText c t = head c ++ (treeText t ++ (closeBracket ∷ []))
 
--- every label of a tree is 0 to 255
+-- no label of a tree is above the largest, which is 255
 abbrev mutual
   pub Labelled : Tree → Type 0
   Labelled (node a f) = (a ≤ maxLabel) × AllLabelled f
@@ -58,12 +52,20 @@ abbrev mutual
   AllLabelled nil = Unit {0}
   AllLabelled (cons t f) = Labelled t × AllLabelled f
 
--- a line is the text of a command and a tree, of any size, with labels 0 to 255
+-- a line is the text of a command and a tree, of any size, with labels up to the largest
 pub record WellFormed (s : List ℕ) : Type 0 where
   pub command : Command
   pub tree : Tree
   pub labels : Labelled tree
   pub text : s ≡ commandText command tree
+
+-- a line is the text of the command c and a tree, of any size, with labels up to the largest; l is the tree's
+-- listing
+pub record CommandLine (s : List ℕ) (c : Command) (l : List ℕ) : Type 0 where
+  pub tree : Tree
+  pub labels : Labelled tree
+  pub text : s ≡ commandText c tree
+  pub bytes : l ≡ listing tree
 
 -- s is the beginning of a well-formed line
 pub record Begins (s : List ℕ) : Type 0 where

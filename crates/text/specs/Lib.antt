@@ -1,5 +1,6 @@
 pub mod Grammar
 pub mod Reader
 pub mod Outcome
-pub mod Answers
 pub mod Columns
+pub mod Contracts
+pub mod Samples

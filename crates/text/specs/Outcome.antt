@@ -1,4 +1,4 @@
--- What a caller of `read_line` gets: the answer, and the table of bytes that it lent.
+-- What a caller of `read_line` gets: the value returned, and the table of bytes that it lent.
 use mathlib.Core.List.{List, _++_}
 use Prim.Native.Nat.{_-_, ℕ}
 use lib.ListN.{length, replicate}
@@ -8,14 +8,14 @@ use Rattle.text.specs.Reader.{Line, form, formed, long}
 use Rattle.text.specs.declared.Parsed.{Parsed}
 use Rattle.text.specs.declared.Parsed.the-variants.{Add, Ask, Drop, Form, Long}
 
--- a table of zeros, and one that holds a listing and zeros behind it
+-- a table of zeros, and one that holds a listing and zeros after it
 unfoldable pub noListing : List ℕ
 noListing = replicate listingBytes 0
 
 unfoldable pub padded : List ℕ → List ℕ
 padded l = l ++ replicate (listingBytes - length l) 0
 
--- the answer for a line, and what the lent table holds after it: zeros where there is no listing
+-- the value returned for a line, and what the lent table then holds: zeros if there is no listing
 abbrev pub parsedAs : Command → ℕ → Parsed
 parsedAs toAdd n = Add n
 parsedAs toDrop n = Drop n

@@ -5,7 +5,8 @@ use Prim.Native.Nat.{_*_, _+_, _-_, max, suc, ℕ}
 use lib.Dec.{eqb, leb, ltb}
 use lib.ListN.{length}
 use Rattle.format.specs.Format.{maxLabel, maxLine}
-use Rattle.text.specs.Grammar.{Command, closeBracket, digit, head, openBracket, space, toAdd, toAsk, toDrop}
+use Rattle.lists.specs.Decimal.{digit}
+use Rattle.text.specs.Grammar.{Command, closeBracket, head, openBracket, space, toAdd, toAsk, toDrop}
 use Rattle.trees.specs.Listing.{listing}
 use Rattle.trees.specs.Tree.{Forest, Tree, _⧺_, cons, nil, node}
 
@@ -18,15 +19,15 @@ pub record Open : Type 0 where
 pub data Place : Type 0 where
   -- before these bytes and then the first digit of a label
   expecting : List ℕ → List Open → Place
-  -- behind a digit of a label, with the number so far
+  -- after a digit of a label, with the number so far
   naming : ℕ → List Open → Place
-  -- behind a child of a node, with the node's label and its children so far
+  -- after a child of a node, with the node's label and its children so far
   among : ℕ → Forest → List Open → Place
-  -- behind the whole tree
+  -- after the whole tree
   treeRead : Tree → Place
-  -- behind the bracket that closes the line
+  -- after the bracket that closes the line
   lineRead : Tree → Place
-  -- behind the first byte that is not allowed, with its column
+  -- after the first byte that is not allowed, with its column
   stuck : ℕ → Place
 
 abbrev pub isDigit : ℕ → Bool
@@ -36,19 +37,19 @@ isDigit b = leb (digit 0) b && leb b (digit 9)
 abbrev pub extended : ℕ → ℕ → ℕ
 extended a b = 10 * a + (b - digit 0)
 
--- a label may go on with this digit: no leading zero, and no label above 255
+-- a label may go on with this digit: no leading zero, and no label above the largest
 abbrev pub extends : ℕ → ℕ → Bool
 extends a b = isDigit b && (ltb 0 a && leb (extended a b) maxLabel)
 
--- behind a tree
-abbrev pub behind : Tree → List Open → Place
-behind t [] = treeRead t
-behind t (o ∷ os) = among (o .label) (o .children ⧺ cons t nil) os
+-- after a tree
+abbrev pub afterTree : Tree → List Open → Place
+afterTree t [] = treeRead t
+afterTree t (o ∷ os) = among (o .label) (o .children ⧺ cons t nil) os
 
--- behind a label or a child: the node's closing bracket, or a space and a child
+-- after a label or a child: the node's closing bracket, or a space and a child
 unfoldable pub onward : ℕ → ℕ → Forest → List Open → ℕ → Place
 onward n a f os b =
-    cond (eqb b closeBracket) (behind (node a f) os)
+    cond (eqb b closeBracket) (afterTree (node a f) os)
     (cond (eqb b space) (expecting (openBracket ∷ []) (record { label = a; children = f } ∷ os)) (stuck n))
 
 -- from a place past the byte b in column n
@@ -71,7 +72,7 @@ pub data Reading : Type 0 where
   whole : Tree → Reading
   bad : ℕ → Reading
 
--- what is read where the line ends in column n
+-- what is read if the line ends in column n
 unfoldable pub ending : ℕ → Place → Reading
 ending n (expecting w os) = bad n
 ending n (naming a os) = bad n

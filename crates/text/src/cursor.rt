@@ -1,13 +1,22 @@
 // A text cursor: a place in a line, from 0, and the column of the byte there, from 1. The work is in a function by
 // value; one thin step takes the cursor by `&mut`.
 ghost use mathlib.Core.Path.{_≡_};
-ghost use Prim.Native.Nat.{_≤_, suc};
-ghost use Rattle.format.specs.Format.{maxLine};
-ghost use Rattle.text.specs.Columns.{advanced};
+ghost use Prim.Native.Nat.{max};
+ghost use Rattle.text.specs.Columns.{advanced, lineStart};
 
 pub struct Cursor {
     pub place: usize,
     pub column: usize,
+}
+
+// The cursor at the start of a line.
+pub fn start() -> Cursor
+    ensures { λ r. ⌜ r ≡ lineStart ⌝ }
+{
+    Cursor {
+        place: 0,
+        column: 1,
+    }
 }
 
 // The cursor n bytes further on.
@@ -28,8 +37,8 @@ fn step(c: &mut Cursor, n: usize)
     *c = next;
 }
 
-// The step for callers that hold the cursor by value: its contract says nothing of a reference.
-fn stepped(c: Cursor, n: usize) -> Cursor
+// The step for the readers, which hold the cursor by value: its contract says nothing of a reference.
+pub fn stepped(c: Cursor, n: usize) -> Cursor
     ensures { λ r. ⌜ r ≡ advanced c n ⌝ }
 {
     let mut d = c;
@@ -37,15 +46,12 @@ fn stepped(c: Cursor, n: usize) -> Cursor
     d
 }
 
-// The column of the byte at a place in a line.
-pub fn column_at(place: usize) -> usize
-    requires { ⌜ place ≤ maxLine ⌝ }
-    ensures { λ r. ⌜ r ≡ suc place ⌝ }
+// Of two cursors the one in the larger column.
+pub fn further(c: Cursor, d: Cursor) -> Cursor
+    ensures { λ r. ⌜ r .column ≡ max (c .column) (d .column) ⌝ }
 {
-    let start = Cursor {
-        place: 0,
-        column: 1,
-    };
-    let end = stepped(start, place);
-    end.column
+    if c.column < d.column {
+        return d;
+    }
+    c
 }

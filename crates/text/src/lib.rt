@@ -1,19 +1,26 @@
-// Lines of the bench program: a line of text to a command and the listing of its tree.
+// Lines of the bench program: a line of text to a command and the listing of its tree. The readers hold a text cursor
+// and step it over every byte that they accept; the column of a malformed line is what the cursor then says.
 ghost use mathlib.Core.Path.{_≡_};
-ghost use Prim.Native.Nat.{_≤_, max, suc};
+ghost use Prim.Native.Nat.{_-_, _≤_};
 ghost use lib.ListN.{length, set};
-ghost use Rattle.format.specs.Format.{listingBytes, maxLine};
-ghost use Rattle.text.specs.Answers.{ChildrenRead, FormRead, LabelRead, LineEnd, ListingRoom, TreeRead, agreed};
-ghost use Rattle.text.specs.Answers.{shortestHead};
+ghost use Rattle.format.specs.Format.{listingBytes, maxLabel, maxLine};
+ghost use Rattle.lists.specs.Decimal.{digit};
+ghost use Rattle.text.specs.Contracts.{ChildrenRead, FormRead, LabelRead, LineEnd, ReaderAt, TreeRead, agreed};
+ghost use Rattle.text.specs.Contracts.{shortestHead};
+ghost use Rattle.text.specs.Columns.{OnLine};
 ghost use Rattle.text.specs.Outcome.{noListing, listed, parsed};
 ghost use Rattle.text.specs.Reader.{extends, isDigit, readLine};
-use cursor::column_at;
+use cursor::Cursor;
+use cursor::further;
+use cursor::start;
+use cursor::stepped;
+use format::LABEL_BYTES;
 use format::LISTING_BYTES;
+use format::MAX_LABEL;
 use format::MAX_LINE;
 use format::NODE_BYTES;
-use format::wide;
 
-mod cursor; // cursor.rt: from the place of a byte to its column
+mod cursor; // cursor.rt: a place in a line and its column
 
 const OPEN: u8 = 40;
 
@@ -36,20 +43,21 @@ pub enum Parsed {
 
 // A label and its number of digits.
 enum Label {
-    Number { value: u8, len: usize },
+    Number { value: u16, len: usize },
     Nothing,
 }
 
-// Trees in a row: how many, their bytes in the text and in their listings; or the first byte that is not allowed.
+// Trees in a row: how many, the cursor after them and the byte after their listings; or the cursor at the first byte
+// that is not allowed.
 enum TreesRead {
-    Trees(u8, usize, usize),
-    Bad(usize),
+    Trees(u8, Cursor, usize),
+    Bad(Cursor),
 }
 
-// One form of a line: the bytes of its tree's listing, or the first byte that is not allowed.
+// One form of a line: the bytes of its tree's listing, or the cursor at the first byte that is not allowed.
 enum FormParsed {
     Whole { len: usize },
-    Broken { at: usize },
+    Broken { at: Cursor },
 }
 
 fn is_digit(b: u8) -> bool
@@ -61,8 +69,16 @@ fn is_digit(b: u8) -> bool
     b <= NINE
 }
 
+// The number that a digit stands for.
+fn digit_value(b: u8) -> u16
+    requires { ⌜ digit 0 ≤ b ⌝ }
+    ensures { λ r. ⌜ r ≡ b - digit 0 ⌝ }
+{
+    (b - ZERO) as u16
+}
+
 // Whether a label may go on with this byte.
-fn extends(value: u8, b: u8) -> bool
+fn extends(value: u16, b: u8) -> bool
     ensures { λ r. ⌜ r ≡ extends value b ⌝ }
 {
     if !is_digit(b) {
@@ -71,7 +87,7 @@ fn extends(value: u8, b: u8) -> bool
     if value == 0 {
         return false;
     }
-    10 * wide(value) + wide(b - ZERO) <= 255
+    10 * (value as usize) + digit_value(b) as usize <= MAX_LABEL
 }
 
 // Reads the longest label that s starts with.
@@ -84,19 +100,19 @@ fn read_label(s: &[u8]) -> Label
     if !is_digit(s[0]) {
         return Label::Nothing;
     }
-    let mut value = s[0] - ZERO;
+    let mut value = digit_value(s[0]);
     let mut i = 1;
     while i < s.len() {
         if !extends(value, s[i]) {
             return Label::Number { value, len: i };
         }
-        value = 10 * value + (s[i] - ZERO);
+        value = 10 * value + digit_value(s[i]);
         i += 1;
     }
     Label::Number { value, len: i }
 }
 
-// Stores a byte, where there is room for it.
+// Stores a byte, if there is room for it.
 fn put(listing: &mut [u8; LISTING_BYTES], i: usize, value: u8)
     requires { ⌜ length (now listing) ≡ listingBytes ⌝ }
     ensures { λ _. ⌜ now (listing .exit) ≡ set (now (listing .entry)) i value ⌝ }
@@ -106,58 +122,64 @@ fn put(listing: &mut [u8; LISTING_BYTES], i: usize, value: u8)
     }
 }
 
-// Reads the tree that s starts with, and writes its listing from byte `at` on.
-fn tree(s: &[u8], listing: &mut [u8; LISTING_BYTES], at: usize) -> TreesRead
-    requires { ⌜ ListingRoom (now s) (now listing) at ⌝ }
-    ensures { λ r. ⌜ TreeRead (now (s .entry)) (now (listing .entry)) at (now (listing .exit)) r ⌝ }
+// Stores the label of a node whose listing starts at byte `at`.
+fn put_label(listing: &mut [u8; LISTING_BYTES], at: usize, value: u16)
+    requires { ⌜ length (now listing) ≡ listingBytes ⌝ }
+    requires { ⌜ value ≤ maxLabel ⌝ }
+    ensures { λ _. ⌜ now (listing .exit) ≡ set (now (listing .entry)) at value ⌝ }
 {
-    if s.len() < 1 {
-        return TreesRead::Bad(0);
+    put(listing, at, value as u8);
+}
+
+// Reads the tree at the cursor, and writes its listing from byte `at` on.
+fn tree(line: &[u8], c: Cursor, listing: &mut [u8; LISTING_BYTES], at: usize) -> TreesRead
+    requires { ⌜ ReaderAt (now line) c (now listing) at ⌝ }
+    ensures { λ r. ⌜ TreeRead (now (line .entry)) c (now (listing .entry)) at (now (listing .exit)) r ⌝ }
+{
+    let open = c.place;
+    if open >= line.len() {
+        return TreesRead::Bad(c);
     }
-    if s[0] != OPEN {
-        return TreesRead::Bad(0);
+    if line[open] != OPEN {
+        return TreesRead::Bad(c);
     }
-    let Label::Number { value, len } = read_label(&s[1..]) else {
-        return TreesRead::Bad(1);
+    let name = stepped(c, 1);
+    let from = name.place;
+    let Label::Number { value, len } = read_label(&line[from..]) else {
+        return TreesRead::Bad(name);
     };
-    put(listing, at, value);
-    let start = 1 + len;
-    match children(&s[start..], listing, at + NODE_BYTES) {
-        TreesRead::Trees(count, more, used) => {
-            put(listing, at + 1, count);
-            TreesRead::Trees(1, start + more, NODE_BYTES + used)
+    put_label(listing, at, value);
+    let inside = stepped(name, len);
+    match children(line, inside, listing, at + NODE_BYTES) {
+        TreesRead::Trees(count, end, filled) => {
+            put(listing, at + LABEL_BYTES, count);
+            TreesRead::Trees(1, end, filled)
         }
-        TreesRead::Bad(place) => TreesRead::Bad(start + place),
+        TreesRead::Bad(end) => TreesRead::Bad(end),
     }
 }
 
-// Reads children, each after a space, and the closing bracket behind them; writes their listings from byte `at` on.
-fn children(s: &[u8], listing: &mut [u8; LISTING_BYTES], at: usize) -> TreesRead
-    requires { ⌜ ListingRoom (now s) (now listing) at ⌝ }
-    ensures { λ r. ⌜ ChildrenRead (now (s .entry)) (now (listing .entry)) at (now (listing .exit)) r ⌝ }
+// Reads children, each after a space, and the closing bracket after them; writes their listings from byte `at` on.
+fn children(line: &[u8], c: Cursor, listing: &mut [u8; LISTING_BYTES], at: usize) -> TreesRead
+    requires { ⌜ ReaderAt (now line) c (now listing) at ⌝ }
+    ensures { λ r. ⌜ ChildrenRead (now (line .entry)) c (now (listing .entry)) at (now (listing .exit)) r ⌝ }
 {
-    if s.len() < 1 {
-        return TreesRead::Bad(0);
+    let place = c.place;
+    if place >= line.len() {
+        return TreesRead::Bad(c);
     }
-    if s[0] == CLOSE {
-        return TreesRead::Trees(0, 1, 0);
+    if line[place] == CLOSE {
+        return TreesRead::Trees(0, stepped(c, 1), at);
     }
-    if s[0] != SPACE {
-        return TreesRead::Bad(0);
+    if line[place] != SPACE {
+        return TreesRead::Bad(c);
     }
-    match tree(&s[1..], listing, at) {
-        TreesRead::Trees(_, len, used) => {
-            let next = 1 + len;
-            match children(&s[next..], listing, at + used) {
-                TreesRead::Trees(count, more, rest) => TreesRead::Trees(
-                    count + 1,
-                    next + more,
-                    used + rest,
-                ),
-                TreesRead::Bad(place) => TreesRead::Bad(next + place),
-            }
-        }
-        TreesRead::Bad(place) => TreesRead::Bad(1 + place),
+    match tree(line, stepped(c, 1), listing, at) {
+        TreesRead::Trees(_, next, free) => match children(line, next, listing, free) {
+            TreesRead::Trees(count, end, filled) => TreesRead::Trees(count + 1, end, filled),
+            TreesRead::Bad(end) => TreesRead::Bad(end),
+        },
+        TreesRead::Bad(end) => TreesRead::Bad(end),
     }
 }
 
@@ -189,19 +211,21 @@ fn clear(listing: &mut [u8; LISTING_BYTES])
     }
 }
 
-// Whether a line whose tree ends before byte `end` ends as it must: with a closing bracket.
-fn close_line(line: &[u8], end: usize, len: usize) -> FormParsed
-    requires { ⌜ end ≤ length (now line) ⌝ }
-    ensures { λ r. ⌜ LineEnd (now (line .entry)) end len r ⌝ }
+// Whether a line ends as it must at the cursor after its tree: with a closing bracket.
+fn close_line(line: &[u8], c: Cursor, len: usize) -> FormParsed
+    requires { ⌜ OnLine (now line) c ⌝ }
+    ensures { λ r. ⌜ LineEnd (now (line .entry)) c len r ⌝ }
 {
-    if end >= line.len() {
-        return FormParsed::Broken { at: end };
+    let place = c.place;
+    if place >= line.len() {
+        return FormParsed::Broken { at: c };
     }
-    if line[end] != CLOSE {
-        return FormParsed::Broken { at: end };
+    if line[place] != CLOSE {
+        return FormParsed::Broken { at: c };
     }
-    if end + 1 < line.len() {
-        return FormParsed::Broken { at: end + 1 };
+    let end = stepped(c, 1);
+    if end.place < line.len() {
+        return FormParsed::Broken { at: end };
     }
     FormParsed::Whole { len }
 }
@@ -213,27 +237,20 @@ fn read_form(line: &[u8], head: &[u8], listing: &mut [u8; LISTING_BYTES]) -> For
     requires { ⌜ length (now listing) ≡ listingBytes ⌝ }
     ensures { λ r. ⌜ FormRead (now (head .entry)) (now (line .entry)) (now (listing .exit)) r ⌝ }
 {
-    let start = agreeing(line, head);
-    if start < head.len() {
-        return FormParsed::Broken { at: start };
+    let len = agreeing(line, head);
+    if len < head.len() {
+        return FormParsed::Broken {
+            at: stepped(start(), len),
+        };
     }
     clear(listing);
-    match tree(&line[start..], listing, 0) {
-        TreesRead::Trees(_, len, used) => close_line(line, start + len, used),
-        TreesRead::Bad(place) => FormParsed::Broken { at: start + place },
+    match tree(line, stepped(start(), len), listing, 0) {
+        TreesRead::Trees(_, end, len) => close_line(line, end, len),
+        TreesRead::Bad(end) => FormParsed::Broken { at: end },
     }
 }
 
-fn larger(x: usize, y: usize) -> usize
-    ensures { λ r. ⌜ r ≡ max x y ⌝ }
-{
-    if x < y {
-        return y;
-    }
-    x
-}
-
-// Reads a line. The listing of its tree goes to `listing`, with zeros behind it; all zeros where there is none.
+// Reads a line. The listing of its tree goes to `listing`, with zeros after it; all zeros if there is none.
 pub fn read_line(line: &[u8], listing: &mut [u8; LISTING_BYTES]) -> Parsed
     requires { ⌜ length (now listing) ≡ listingBytes ⌝ }
     ensures answer { λ r. ⌜ r ≡ parsed (readLine (now (line .entry))) ⌝ }
@@ -256,7 +273,6 @@ pub fn read_line(line: &[u8], listing: &mut [u8; LISTING_BYTES]) -> Parsed
         FormParsed::Broken { at } => at,
     };
     clear(listing);
-    Parsed::Form {
-        column: column_at(larger(add, larger(drop, ask))),
-    }
+    let end = further(add, further(drop, ask));
+    Parsed::Form { column: end.column }
 }

@@ -1,3 +1,4 @@
+-- `change::minimize` meets its contract: the marks are those of the definition, so what is written is the minimal automaton.
 use Rattle.automata.specs.Minimal.{minimal}
 use Rattle.fields.specs.View.{viewed}
 use Rattle.change.specs.Changing.{MadeFits}

@@ -1,3 +1,4 @@
+-- `change::work` meets its contract: the product in the scratch with the classes of its pairs is the changed automaton.
 use Rattle.minimize.specs.declared.write.Made.the-variants.{Table, TooBig}
 use native.Mathlib.Omega.{arith}
 use Rattle.products.proofs.Joining.{lists-nodes}

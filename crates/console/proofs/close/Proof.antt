@@ -10,17 +10,17 @@ end-input-requires c κs = search needs
 finish-requires : tie.Need-finish-requires
 finish-requires c κs = search needs
 
-sub-append : tie.Need-sub-append
-sub-append c = search needs
+sub-put-word : tie.Need-sub-put-word
+sub-put-word c = search needs
 
-part-append-start : tie.Need-part-append-start
-part-append-start c = search needs
+part-put-word-start : tie.Need-part-put-word-start
+part-put-word-start c = search needs
 
-part-append-end : tie.Need-part-append-end
-part-append-end c = search needs
+part-put-word-end : tie.Need-part-put-word-end
+part-put-word-end c = search needs
 
-append-requires : tie.Need-append-requires
-append-requires c κs = search needs
+put-word-requires : tie.Need-put-word-requires
+put-word-requires c κs = search needs
 
 same-length : tie.Need-same-length
 same-length c = search needs
@@ -34,7 +34,7 @@ returns c =
     let after-end-input = after-finish .before .before .before .before .before .before .before in
     let start = after-end-input .before .before .before .before .before .before .before in
     close-moved (start .args .p) (after-end-input .end-input .result) _ _ _ _ _ _ _ _ _ (start .pre .1)
-    (after-end-input .end-input .ensures) (after-finish .finish .ensures) (c .append .ensures)
+    (after-end-input .end-input .ensures) (after-finish .finish .ensures) (c .put-word .ensures)
 
 pub close-spec : {M : Type 1} → statement M
 close-spec =
@@ -42,10 +42,10 @@ close-spec =
     (tie.spec
     end-input-requires
     finish-requires
-    sub-append
-    part-append-start
-    part-append-end
-    append-requires
+    sub-put-word
+    part-put-word-start
+    part-put-word-end
+    put-word-requires
     same-length
     same-length-2
     returns)

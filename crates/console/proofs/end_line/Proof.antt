@@ -19,17 +19,17 @@ part-serve-end c = search needs
 serve-requires : tie.Need-serve-requires
 serve-requires c κs = search needs
 
-sub-append : tie.Need-sub-append
-sub-append c = search needs
+sub-put-word : tie.Need-sub-put-word
+sub-put-word c = search needs
 
-part-append-start : tie.Need-part-append-start
-part-append-start c = search needs
+part-put-word-start : tie.Need-part-put-word-start
+part-put-word-start c = search needs
 
-part-append-end : tie.Need-part-append-end
-part-append-end c = search needs
+part-put-word-end : tie.Need-part-put-word-end
+part-put-word-end c = search needs
 
-append-requires : tie.Need-append-requires
-append-requires c κs = search needs
+put-word-requires : tie.Need-put-word-requires
+put-word-requires c κs = search needs
 
 same-length : tie.Need-same-length
 same-length c = search needs
@@ -41,7 +41,7 @@ returns : tie.Need-returns
 returns c =
     let after-serve = c .before .before .before .before .before .before .before .before in
     let start = after-serve .before .before .before .before .before .before .before .before .before in
-    line-moved (start .args .p) _ _ _ _ _ _ _ _ _ _ (start .pre .0) (after-serve .serve .ensures) (c .append
+    line-moved (start .args .p) _ _ _ _ _ _ _ _ _ _ (start .pre .0) (after-serve .serve .ensures) (c .put-word
     .ensures)
 
 pub end-line-spec : {M : Type 1} → statement M
@@ -53,10 +53,10 @@ end-line-spec =
     part-serve-start
     part-serve-end
     serve-requires
-    sub-append
-    part-append-start
-    part-append-end
-    append-requires
+    sub-put-word
+    part-put-word-start
+    part-put-word-end
+    put-word-requires
     same-length
     same-length-2
     returns)

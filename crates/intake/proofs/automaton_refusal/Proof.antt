@@ -1,3 +1,4 @@
+-- `intake::automaton_refusal` meets its contract: each return is the first condition broken, or none is.
 use mathlib.Core.List.{[]}
 use Rattle.fields.specs.View.{viewed}
 use Rattle.listing.proofs.Checks.{kept}

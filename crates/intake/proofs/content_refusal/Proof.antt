@@ -1,3 +1,4 @@
+-- `intake::content_refusal` meets its contract: 7 and 8 first, then those of the automaton.
 use mathlib.Core.Path.{_∙_, ap, ap₂, subst, sym}
 use Rattle.fields.proofs.Transitions.{part-body}
 use Rattle.listing.proofs.Checks.{kept}

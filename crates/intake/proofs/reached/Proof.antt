@@ -1,3 +1,4 @@
+-- `intake::reached` meets its contract: states numbered by the rule are accessible.
 use borrow.Author.Needs.{needs}
 use mathlib.Core.Path.{_∙_, sym}
 use Rattle.intake.proofs.Checks.{numbered-reached}

@@ -1,3 +1,4 @@
+-- `intake::refusal` meets its contract: the length first, then the contents.
 use Rattle.intake.proofs.Checks.{refused-5, right-length}
 use borrow.Author.Needs.{needs}
 use Rattle.intake.proofs.refusal.Statement.{statement}

@@ -7,7 +7,7 @@ use lib.ListN.{length}
 use borrow.Author.Needs.{needs}
 use borrow.Fn.Kinds.{In}
 use borrow.Fn.PlainCycle.{Measures, and, falls, is}
-use Rattle.report.proofs.Decimal.{decimal-digit, decimal-more, decimal-more-length}
+use Rattle.lists.proofs.Decimal.{decimal-digit, decimal-more, decimal-more-length}
 use Rattle.report.proofs.Puts.{put-then}
 use Rattle.report.proofs.digit.Reads as digit-reads
 use Rattle.report.proofs.put_byte.Reads as put-byte-reads

@@ -22,8 +22,8 @@ shared-slice-read-out c = search needs
 add-out : tie.Need-add-out Inv-loop μ-loop
 add-out c = search needs
 
-element-write-out : tie.Need-element-write-out Inv-loop μ-loop
-element-write-out c = search needs
+slice-write-out : tie.Need-slice-write-out Inv-loop μ-loop
+slice-write-out c = search needs
 
 add-i : tie.Need-add-i Inv-loop μ-loop
 add-i c = search needs
@@ -38,6 +38,9 @@ loop-again c =
 add-result : tie.Need-add-result Inv-loop μ-loop
 add-result c = search needs
 
+same-length : tie.Need-same-length Inv-loop μ-loop
+same-length c = c .before .loop .inv .put .size
+
 returns : tie.Need-returns Inv-loop μ-loop
 returns c = word-end (c .before .loop .inv) (omega arith)
 
@@ -50,9 +53,10 @@ put-word-spec =
     loop-holds
     shared-slice-read-out
     add-out
-    element-write-out
+    slice-write-out
     add-i
     loop-less
     loop-again
     add-result
+    same-length
     returns)

@@ -1,3 +1,4 @@
+-- `scalebench::add` meets its contract: it is the change that inserts.
 use Rattle.calls.specs.Calls.{addResult}
 use borrow.Author.Needs.{needs}
 use Rattle.scalebench.proofs.add.Statement.{statement}

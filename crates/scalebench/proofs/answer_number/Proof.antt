@@ -1,3 +1,4 @@
+-- `scalebench::answer_number` meets its contract: the number of each case.
 use mathlib.Core.Path.{_∙_, ap, sym}
 use Rattle.calls.specs.Answers.{answerNumber}
 use borrow.Author.Needs.{needs}

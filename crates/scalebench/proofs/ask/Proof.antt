@@ -1,3 +1,4 @@
+-- `scalebench::ask` meets its contract: refused, or whether the automaton accepts the tree.
 use mathlib.Core.Path.{_∙_, sym}
 use Rattle.scalebench.proofs.Reading.{ask-answered, ask-passed, ask-refused, passed-table}
 use borrow.Author.Needs.{needs}

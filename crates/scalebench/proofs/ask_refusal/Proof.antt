@@ -1,3 +1,4 @@
+-- `scalebench::ask_refusal` meets its contract: the listing decides before the table.
 use Rattle.scalebench.proofs.Reading.{listing-refused, listing-passed}
 use borrow.Author.Needs.{needs}
 use Rattle.scalebench.proofs.ask_refusal.Statement.{statement}

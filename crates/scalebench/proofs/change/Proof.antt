@@ -1,3 +1,4 @@
+-- `scalebench::change` meets its contract: refused before anything is written, or the change with 16 and 17 left.
 use mathlib.Core.Path.{_∙_}
 use Rattle.change.specs.Changing.{changeOf}
 use Rattle.trees.specs.Listing.{readTree}

@@ -1,3 +1,4 @@
+-- `scalebench::change_refusal` meets its contract: 1 to 15 in their order.
 use mathlib.Core.Path.{_∙_, sym}
 use Rattle.change.specs.Changing.{changeOf}
 use Rattle.trees.specs.Listing.{readTree}

@@ -1,3 +1,4 @@
+-- `scalebench::presence_refusal` meets its contract: in each of the four cases.
 use Rattle.scalebench.proofs.Changing.{absence-15, absence-added, presence-14, presence-removed}
 use Rattle.scalebench.proofs.presence_refusal.Statement.{statement}
 use Rattle.scalebench.proofs.presence_refusal.Tie as tie

@@ -1,3 +1,4 @@
+-- `scalebench::remove` meets its contract: it is the change that deletes.
 use Rattle.calls.specs.Calls.{removeResult}
 use borrow.Author.Needs.{needs}
 use Rattle.scalebench.proofs.remove.Statement.{statement}

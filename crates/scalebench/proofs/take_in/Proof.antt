@@ -1,3 +1,4 @@
+-- `scalebench::take_in` meets its contract: refused, or the numbers in the head of the table.
 use native.Mathlib.Omega.{arith}
 use mathlib.Core.Path.{_∙_, sym}
 use Rattle.scalebench.proofs.Reading.{passed-table, take-answered, take-refused}

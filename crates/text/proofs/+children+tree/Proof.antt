@@ -1,390 +1,254 @@
--- The reader of a tree and the reader of children answer with the tree that they read, or with the first byte that is
--- not allowed. What falls is the number of bytes left.
+-- `text::tree` and `text::children` meet their contracts: each returns what it read, with the cursor after it, or the
+-- cursor at the first byte that is not allowed. What falls is the number of bytes left in the line.
 use borrow.Author.Needs.{needs}
-use borrow.Fn.Kinds.{In}
+use borrow.Fn.Kinds.{In, Out}
 use borrow.Fn.PlainCycle.{Measures, and, falls, is}
-use Prim.Native.Nat.{_<_, ℕ}
-use native.Mathlib.Omega.{arith}
+use Prim.Native.Nat.{_-_, _<_, ℕ}
 use lib.ListN.{length}
-use Rattle.text.proofs.ReaderCalls.{children-broken, children-broken-fits, children-broken-later}
-use Rattle.text.proofs.ReaderCalls.{children-count-fits, children-end, children-len-fits}
-use Rattle.text.proofs.ReaderCalls.{children-none, children-other, children-used-fits, children-whole}
-use Rattle.text.proofs.ReaderCalls.{first-falls, first-fits, first-inside, first-room, first-used-fits}
-use Rattle.text.proofs.ReaderCalls.{label-falls, label-fits, label-inside, label-room, later-inside, tree-broken}
-use Rattle.text.proofs.ReaderCalls.{tree-broken-fits, tree-len-fits, tree-nameless, tree-none, tree-other}
-use Rattle.text.proofs.ReaderCalls.{tree-size-kept, tree-used-fits, tree-whole}
+use Rattle.text.proofs.ChildrenReader.{child-ready, children-broken, children-broken-later, children-count-fits}
+use Rattle.text.proofs.ChildrenReader.{children-end, children-none, children-other, children-whole, later-ready}
+use Rattle.text.proofs.TreeReader.{children-ready, label-small, name-inside, tree-broken, tree-nameless}
+use Rattle.text.proofs.TreeReader.{tree-none, tree-other, tree-size-kept, tree-whole}
 use Rattle.text.proofs.children.Reads as children
 use Rattle.text.proofs.children.Kinds as children-kinds
 use Rattle.text.proofs.+children+tree.Lts-children as children-lts
 use Rattle.text.proofs.tree.Reads as tree
 use Rattle.text.proofs.tree.Kinds as tree-kinds
 use Rattle.text.proofs.+children+tree.Lts-tree as tree-lts
+use Rattle.text.proofs.cursor.stepped.Reads as stepped-reads
 use Rattle.text.proofs.put.Reads as put-reads
+use Rattle.text.proofs.put_label.Reads as put-label-reads
 use Rattle.text.proofs.read_label.Reads as read-label-reads
 use Rattle.text.proofs.+children+tree.{statement}
 use Rattle.text.proofs.+children+tree.Tie.{close}
 
 abbrev μ-children : Measures 2 children-kinds.ps ℕ
-μ-children κs a = length (a .0 .now)
+μ-children κs a = length (a .0 .now) - a .1 .0 .place
 
 abbrev μ-tree : Measures 2 tree-kinds.ps ℕ
-μ-tree κs a = length (a .0 .now)
+μ-tree κs a = length (a .0 .now) - a .1 .0 .place
 
-abbrev children-at : ℕ → In 2 children-kinds.ps
-children-at t = and 2 children-kinds.ps (is 2 children-kinds.ps μ-children t) children.Pre
+-- with t bytes left
+module _ (t : ℕ) where
+  abbrev children-at : In 2 children-kinds.ps
+  children-at = and 2 children-kinds.ps (is 2 children-kinds.ps μ-children t) children.Pre
 
-abbrev children-below : ℕ → In 2 children-kinds.ps
-children-below t =
-    and 2 children-kinds.ps (falls 2 children-kinds.ps _<_ μ-children t) children.Pre
+  abbrev children-below : In 2 children-kinds.ps
+  children-below = and 2 children-kinds.ps (falls 2 children-kinds.ps _<_ μ-children t) children.Pre
 
-abbrev tree-at : ℕ → In 2 tree-kinds.ps
-tree-at t = and 2 tree-kinds.ps (is 2 tree-kinds.ps μ-tree t) tree.Pre
+  abbrev tree-at : In 2 tree-kinds.ps
+  tree-at = and 2 tree-kinds.ps (is 2 tree-kinds.ps μ-tree t) tree.Pre
 
-abbrev tree-below : ℕ → In 2 tree-kinds.ps
-tree-below t = and 2 tree-kinds.ps (falls 2 tree-kinds.ps _<_ μ-tree t) tree.Pre
+  abbrev tree-below : In 2 tree-kinds.ps
+  tree-below = and 2 tree-kinds.ps (falls 2 tree-kinds.ps _<_ μ-tree t) tree.Pre
 
-abbrev children-calls : ℕ → children-lts.Claims
-children-calls t = (tree-below t, tree.Post, children-below t, children.Post)
+  abbrev children-calls : children-lts.Claims
+  children-calls = (
+    stepped-reads.Asked,
+    stepped-reads.Learnt,
+    tree-below,
+    tree.Post,
+    children-below,
+    children.Post,
+  )
 
-abbrev tree-calls : ℕ → tree-lts.Claims
-tree-calls t = (
-  read-label-reads.Asked,
-  read-label-reads.Learnt,
-  put-reads.Asked,
-  put-reads.Learnt,
-  children-below t,
-  children.Post,
-)
+  -- what the proof needs at a place of `children`
+  abbrev InChildren : (children-lts.Claims → In 2 children-kinds.ps → Out 2 children-kinds.ps children-kinds.r →
+      Type 0) → Type 0
+  InChildren need = need children-calls children-at children.Post
 
-children-returns : (t : ℕ) → children-lts.Need-returns (children-calls t) (children-at t) children.Post
-children-returns t c = search children-none
+  abbrev tree-calls : tree-lts.Claims
+  tree-calls = (
+    stepped-reads.Asked,
+    stepped-reads.Learnt,
+    read-label-reads.Asked,
+    read-label-reads.Learnt,
+    put-label-reads.Asked,
+    put-label-reads.Learnt,
+    children-below,
+    children.Post,
+    put-reads.Asked,
+    put-reads.Learnt,
+  )
 
-children-shared-slice-read-if2 : (t : ℕ) → children-lts.Need-shared-slice-read-if2 (children-calls t)
-    (children-at t) children.Post
-children-shared-slice-read-if2 t c = search needs
+  -- and of `tree`
+  abbrev InTree : (tree-lts.Claims → In 2 tree-kinds.ps → Out 2 tree-kinds.ps tree-kinds.r → Type 0) → Type 0
+  InTree need = need tree-calls tree-at tree.Post
 
-children-returns-2 : (t : ℕ) → children-lts.Need-returns-2 (children-calls t) (children-at t) children.Post
-children-returns-2 t c = search children-end
+  children-returns : InChildren children-lts.Need-returns
+  children-returns c = search children-none
 
-children-shared-slice-read-if3 : (t : ℕ) → children-lts.Need-shared-slice-read-if3 (children-calls t)
-    (children-at t) children.Post
-children-shared-slice-read-if3 t c = search needs
+  children-shared-slice-read-if2 : InChildren children-lts.Need-shared-slice-read-if2
+  children-shared-slice-read-if2 c = search needs
 
-children-returns-3 : (t : ℕ) → children-lts.Need-returns-3 (children-calls t) (children-at t) children.Post
-children-returns-3 t c = search children-other
+  children-stepped-requires : InChildren children-lts.Need-stepped-requires
+  children-stepped-requires c κs = search needs
 
-children-sub-tree : (t : ℕ) → children-lts.Need-sub-tree (children-calls t) (children-at t) children.Post
-children-sub-tree t c = search needs
+  children-returns-2 : InChildren children-lts.Need-returns-2
+  children-returns-2 c = search children-end
 
-children-part-tree-start : (t : ℕ) → children-lts.Need-part-tree-start (children-calls t)
-    (children-at t) children.Post
-children-part-tree-start t c = search needs
+  children-shared-slice-read-if3 : InChildren children-lts.Need-shared-slice-read-if3
+  children-shared-slice-read-if3 c = search needs
 
-children-part-tree-end : (t : ℕ) → children-lts.Need-part-tree-end (children-calls t) (children-at t) children.Post
-children-part-tree-end t c = search needs
+  children-returns-3 : InChildren children-lts.Need-returns-3
+  children-returns-3 c = search children-other
 
-children-tree-requires : (t : ℕ) → children-lts.Need-tree-requires (children-calls t) (children-at t) children.Post
-children-tree-requires t c κs = search needs
+  children-stepped-requires-2 : InChildren children-lts.Need-stepped-requires-2
+  children-stepped-requires-2 c κs = search needs
 
-children-enum-known-len : (t : ℕ) → children-lts.Need-enum-known-len (children-calls t) (children-at t) children.Post
-children-enum-known-len t c = search needs
+  children-tree-requires : InChildren children-lts.Need-tree-requires
+  children-tree-requires c κs =
+      let after-stepped2 = c .before in
+      let after-if3 = after-stepped2 .before in
+      let after-if1 = after-if3 .before .before .before .before in
+      let start = after-if1 .before .before in
+      child-ready _ _ _ _ (start .pre .1) (after-if1 .if1 .left) _ (after-stepped2 .stepped2 .ensures) (after-if3
+      .if3 .left) t (start .pre .0)
 
-children-add-next : (t : ℕ) → children-lts.Need-add-next (children-calls t) (children-at t) children.Post
-children-add-next t c = search first-fits
+  children-enum-known-next : InChildren children-lts.Need-enum-known-next
+  children-enum-known-next c = search needs
 
-children-sub-children : (t : ℕ) → children-lts.Need-sub-children (children-calls t) (children-at t) children.Post
-children-sub-children t c =
-    let after-len = c .before in
-    let after-tree = after-len .before .before in
-    let after-if3 = after-tree .before .before .before in
-    let after-if1 = after-if3 .before .before .before .before in
-    let start = after-if1 .before .before in
-    let s = start .args .s .now in
-    let h = after-if1 .if1 .left in
-    let e = after-if3 .if3 .left in
-    let x = after-tree .tree .ensures in
-    let z = after-len .len .given .1 in
-    first-inside s _ _ _ _ h e x _ _ _ z
+  children-children-requires : InChildren children-lts.Need-children-requires
+  children-children-requires c κs =
+      let after-next = c .before .before in
+      let after-tree = after-next .before .before in
+      let after-stepped2 = after-tree .before .before in
+      let after-if3 = after-stepped2 .before in
+      let after-if1 = after-if3 .before .before .before .before in
+      let start = after-if1 .before .before in
+      later-ready _ _ _ _ (start .pre .1) (after-if1 .if1 .left) _ (after-stepped2 .stepped2 .ensures) (after-if3
+      .if3 .left) _ _ (after-tree .tree .ensures) _ _ _ (after-next .next .given .1) t (start .pre .0)
 
-children-part-children-start : (t : ℕ) → children-lts.Need-part-children-start (children-calls t)
-    (children-at t) children.Post
-children-part-children-start t c =
-    let after-len = c .before in
-    let after-tree = after-len .before .before in
-    let after-if3 = after-tree .before .before .before in
-    let after-if1 = after-if3 .before .before .before .before in
-    let start = after-if1 .before .before in
-    let s = start .args .s .now in
-    let h = after-if1 .if1 .left in
-    let e = after-if3 .if3 .left in
-    let x = after-tree .tree .ensures in
-    let z = after-len .len .given .1 in
-    first-inside s _ _ _ _ h e x _ _ _ z
+  children-enum-known-count : InChildren children-lts.Need-enum-known-count
+  children-enum-known-count c = search needs
 
-children-part-children-end : (t : ℕ) → children-lts.Need-part-children-end (children-calls t)
-    (children-at t) children.Post
-children-part-children-end t c = search needs
+  children-add-t26 : InChildren children-lts.Need-add-t26
+  children-add-t26 c = search children-count-fits
 
-children-add-children : (t : ℕ) → children-lts.Need-add-children (children-calls t) (children-at t) children.Post
-children-add-children t c =
-    let after-len = c .before .before .before in
-    let after-tree = after-len .before .before in
-    let after-if3 = after-tree .before .before .before in
-    let after-if1 = after-if3 .before .before .before .before in
-    let start = after-if1 .before .before in
-    let s = start .args .s .now in
-    let h = after-if1 .if1 .left in
-    let e = after-if3 .if3 .left in
-    let x = after-tree .tree .ensures in
-    let z = after-len .len .given .1 in
-    first-used-fits s _ _ _ _ h e x _ _ _ z (start .pre .1)
+  children-enum-known-end : InChildren children-lts.Need-enum-known-end
+  children-enum-known-end c = search needs
 
-children-children-requires : (t : ℕ) → children-lts.Need-children-requires (children-calls t)
-    (children-at t) children.Post
-children-children-requires t c κs =
-    let after-len = c .before .before .before in
-    let after-tree = after-len .before .before in
-    let after-if3 = after-tree .before .before .before in
-    let after-if1 = after-if3 .before .before .before .before in
-    let start = after-if1 .before .before in
-    let s = start .args .s .now in
-    let h = after-if1 .if1 .left in
-    let e = after-if3 .if3 .left in
-    let x = after-tree .tree .ensures in
-    let z = after-len .len .given .1 in
-    (first-falls s _ _ _ _ h e x _ _ _ z t (start .pre .0), first-room s _ _ _ _ h e x _ _ _ z (start .pre .1))
+  children-enum-known-end-2 : InChildren children-lts.Need-enum-known-end-2
+  children-enum-known-end-2 c = search needs
 
-children-enum-known-count : (t : ℕ) → children-lts.Need-enum-known-count (children-calls t)
-    (children-at t) children.Post
-children-enum-known-count t c = search needs
+  children-returns-4 : InChildren children-lts.Need-returns-4
+  children-returns-4 c = search children-whole
 
-children-add-t31 : (t : ℕ) → children-lts.Need-add-t31 (children-calls t) (children-at t) children.Post
-children-add-t31 t c = search children-count-fits
+  children-returns-5 : InChildren children-lts.Need-returns-5
+  children-returns-5 c = search children-broken-later
 
-children-add-t32 : (t : ℕ) → children-lts.Need-add-t32 (children-calls t) (children-at t) children.Post
-children-add-t32 t c = search children-len-fits
+  children-returns-6 : InChildren children-lts.Need-returns-6
+  children-returns-6 c = search children-broken
 
-children-add-t33 : (t : ℕ) → children-lts.Need-add-t33 (children-calls t) (children-at t) children.Post
-children-add-t33 t c = search children-used-fits
+  tree-returns : InTree tree-lts.Need-returns
+  tree-returns c = search tree-none
 
-children-enum-known-place : (t : ℕ) → children-lts.Need-enum-known-place (children-calls t)
-    (children-at t) children.Post
-children-enum-known-place t c = search needs
+  tree-shared-slice-read-if2 : InTree tree-lts.Need-shared-slice-read-if2
+  tree-shared-slice-read-if2 c = search needs
 
-children-add-t34 : (t : ℕ) → children-lts.Need-add-t34 (children-calls t) (children-at t) children.Post
-children-add-t34 t c =
-    let after-place = c .before in
-    let after-children = after-place .before .before in
-    let after-len = after-children .before .before .before .before in
-    let after-tree = after-len .before .before in
-    let after-if3 = after-tree .before .before .before in
-    let after-if1 = after-if3 .before .before .before .before in
-    let start = after-if1 .before .before in
-    let s = start .args .s .now in
-    let h = after-if1 .if1 .left in
-    let e = after-if3 .if3 .left in
-    let x = after-tree .tree .ensures in
-    let y = after-children .children .ensures in
-    let inside = later-inside s _ _ _ _ h e x _ _ _ (after-len .len .given .1) _ _ y _ (after-place .place .given .1) in
-    omega (arith, inside, start .pre .1)
+  tree-returns-2 : InTree tree-lts.Need-returns-2
+  tree-returns-2 c = search tree-other
 
-children-enum-known-place-2 : (t : ℕ) → children-lts.Need-enum-known-place-2 (children-calls t)
-    (children-at t) children.Post
-children-enum-known-place-2 t c = search needs
+  tree-stepped-requires : InTree tree-lts.Need-stepped-requires
+  tree-stepped-requires c κs = search needs
 
-children-add-t35 : (t : ℕ) → children-lts.Need-add-t35 (children-calls t) (children-at t) children.Post
-children-add-t35 t c = search children-broken-fits
+  tree-sub-read-label : InTree tree-lts.Need-sub-read-label
+  tree-sub-read-label c = search name-inside
 
-children-returns-4 : (t : ℕ) → children-lts.Need-returns-4 (children-calls t) (children-at t) children.Post
-children-returns-4 t c = search children-whole
+  tree-part-read-label-start : InTree tree-lts.Need-part-read-label-start
+  tree-part-read-label-start c = search name-inside
 
-children-returns-5 : (t : ℕ) → children-lts.Need-returns-5 (children-calls t) (children-at t) children.Post
-children-returns-5 t c = search children-broken-later
+  tree-part-read-label-end : InTree tree-lts.Need-part-read-label-end
+  tree-part-read-label-end c = search needs
 
-children-returns-6 : (t : ℕ) → children-lts.Need-returns-6 (children-calls t) (children-at t) children.Post
-children-returns-6 t c = search children-broken
+  tree-read-label-requires : InTree tree-lts.Need-read-label-requires
+  tree-read-label-requires c κs = search needs
 
-tree-returns : (t : ℕ) → tree-lts.Need-returns (tree-calls t) (tree-at t) tree.Post
-tree-returns t c = search tree-none
+  tree-enum-known-value : InTree tree-lts.Need-enum-known-value
+  tree-enum-known-value c = search needs
 
-tree-shared-slice-read-if2 : (t : ℕ) → tree-lts.Need-shared-slice-read-if2 (tree-calls t) (tree-at t) tree.Post
-tree-shared-slice-read-if2 t c = search needs
+  tree-enum-told : InTree tree-lts.Need-enum-told
+  tree-enum-told c = search needs
 
-tree-returns-2 : (t : ℕ) → tree-lts.Need-returns-2 (tree-calls t) (tree-at t) tree.Post
-tree-returns-2 t c = search tree-other
+  tree-returns-3 : InTree tree-lts.Need-returns-3
+  tree-returns-3 c = search tree-nameless
 
-tree-sub-read-label : (t : ℕ) → tree-lts.Need-sub-read-label (tree-calls t) (tree-at t) tree.Post
-tree-sub-read-label t c = search needs
+  tree-put-label-requires : InTree tree-lts.Need-put-label-requires
+  tree-put-label-requires c κs = search label-small
 
-tree-part-read-label-start : (t : ℕ) → tree-lts.Need-part-read-label-start (tree-calls t) (tree-at t) tree.Post
-tree-part-read-label-start t c = search needs
+  tree-stepped-requires-2 : InTree tree-lts.Need-stepped-requires-2
+  tree-stepped-requires-2 c κs = search needs
 
-tree-part-read-label-end : (t : ℕ) → tree-lts.Need-part-read-label-end (tree-calls t) (tree-at t) tree.Post
-tree-part-read-label-end t c = search needs
+  tree-add-children : InTree tree-lts.Need-add-children
+  tree-add-children c = search needs
 
-tree-read-label-requires : (t : ℕ) → tree-lts.Need-read-label-requires (tree-calls t) (tree-at t) tree.Post
-tree-read-label-requires t c κs = search needs
+  tree-children-requires : InTree tree-lts.Need-children-requires
+  tree-children-requires c κs =
+      let after-stepped2 = c .before in
+      let after-put-label = after-stepped2 .before in
+      let after-value = after-put-label .before .before .before in
+      let after-read-label = after-value .before .before in
+      let after-stepped = after-read-label .before .before in
+      let after-if2 = after-stepped .before in
+      let after-if1 = after-if2 .before .before in
+      let start = after-if1 .before .before in
+      children-ready _ _ _ _ (start .pre .1) (after-if1 .if1 .left) (after-if2 .if2 .left) _ (after-stepped
+      .stepped .ensures) _ (after-read-label .read-label .ensures) _ _ (after-value .value .given .1) _
+      (after-stepped2 .stepped2 .ensures) _ (after-put-label .put-label .ensures) t (start .pre .0)
 
-tree-enum-known-value : (t : ℕ) → tree-lts.Need-enum-known-value (tree-calls t) (tree-at t) tree.Post
-tree-enum-known-value t c = search needs
+  tree-enum-known-count : InTree tree-lts.Need-enum-known-count
+  tree-enum-known-count c = search needs
 
-tree-enum-told : (t : ℕ) → tree-lts.Need-enum-told (tree-calls t) (tree-at t) tree.Post
-tree-enum-told t c = search needs
+  tree-add-put : InTree tree-lts.Need-add-put
+  tree-add-put c = search needs
 
-tree-returns-3 : (t : ℕ) → tree-lts.Need-returns-3 (tree-calls t) (tree-at t) tree.Post
-tree-returns-3 t c = search tree-nameless
+  tree-put-requires : InTree tree-lts.Need-put-requires
+  tree-put-requires c κs =
+      let after-count = c .before .before in
+      let after-children = after-count .before .before in
+      let after-put-label = after-children .before .before .before in
+      let middle = after-put-label .before .before .before .before in
+      let start = middle .before .before .before .before .before .before .before .before in
+      tree-size-kept _ _ _ _ (start .pre .1) _ _ (after-put-label .put-label .ensures) _ _ _ _ (after-children
+      .children .ensures) _ _ _ (after-count .count .given .1)
 
-tree-put-requires : (t : ℕ) → tree-lts.Need-put-requires (tree-calls t) (tree-at t) tree.Post
-tree-put-requires t c κs = search needs
+  tree-enum-known-end : InTree tree-lts.Need-enum-known-end
+  tree-enum-known-end c = search needs
 
-tree-add-start : (t : ℕ) → tree-lts.Need-add-start (tree-calls t) (tree-at t) tree.Post
-tree-add-start t c = search label-fits
+  tree-returns-4 : InTree tree-lts.Need-returns-4
+  tree-returns-4 c = search tree-whole
 
-tree-sub-children : (t : ℕ) → tree-lts.Need-sub-children (tree-calls t) (tree-at t) tree.Post
-tree-sub-children t c =
-    let after-value = c .before .before .before in
-    let after-read-label = after-value .before .before in
-    let after-if2 = after-read-label .before .before in
-    let after-if1 = after-if2 .before .before in
-    let start = after-if1 .before .before in
-    let s = start .args .s .now in
-    let l = start .args .listing .now in
-    let at = start .args .at in
-    let h = after-if1 .if1 .left in
-    let o = after-if2 .if2 .left in
-    let x = after-read-label .read-label .ensures in
-    let z = after-value .value .given .1 in
-    label-inside s l at _ h o x _ _ z
-
-tree-part-children-start : (t : ℕ) → tree-lts.Need-part-children-start (tree-calls t) (tree-at t) tree.Post
-tree-part-children-start t c =
-    let after-value = c .before .before .before in
-    let after-read-label = after-value .before .before in
-    let after-if2 = after-read-label .before .before in
-    let after-if1 = after-if2 .before .before in
-    let start = after-if1 .before .before in
-    let s = start .args .s .now in
-    let l = start .args .listing .now in
-    let at = start .args .at in
-    let h = after-if1 .if1 .left in
-    let o = after-if2 .if2 .left in
-    let x = after-read-label .read-label .ensures in
-    let z = after-value .value .given .1 in
-    label-inside s l at _ h o x _ _ z
-
-tree-part-children-end : (t : ℕ) → tree-lts.Need-part-children-end (tree-calls t) (tree-at t) tree.Post
-tree-part-children-end t c = search needs
-
-tree-add-children : (t : ℕ) → tree-lts.Need-add-children (tree-calls t) (tree-at t) tree.Post
-tree-add-children t c = search needs
-
-tree-children-requires : (t : ℕ) → tree-lts.Need-children-requires (tree-calls t) (tree-at t) tree.Post
-tree-children-requires t c κs =
-    let after-put = c .before .before in
-    let after-value = after-put .before .before .before in
-    let after-read-label = after-value .before .before in
-    let after-if2 = after-read-label .before .before in
-    let after-if1 = after-if2 .before .before in
-    let start = after-if1 .before .before in
-    let s = start .args .s .now in
-    let l = start .args .listing .now in
-    let at = start .args .at in
-    let h = after-if1 .if1 .left in
-    let o = after-if2 .if2 .left in
-    let x = after-read-label .read-label .ensures in
-    let z = after-value .value .given .1 in
-    let w = after-put .put .ensures in
-    (label-falls s l at _ h o x _ _ z t (start .pre .0), label-room s l at _ h o x _ _ z _ w (start .pre .1))
-
-tree-enum-known-count : (t : ℕ) → tree-lts.Need-enum-known-count (tree-calls t) (tree-at t) tree.Post
-tree-enum-known-count t c = search needs
-
-tree-add-put : (t : ℕ) → tree-lts.Need-add-put (tree-calls t) (tree-at t) tree.Post
-tree-add-put t c = search needs
-
-tree-put-requires-2 : (t : ℕ) → tree-lts.Need-put-requires-2 (tree-calls t) (tree-at t) tree.Post
-tree-put-requires-2 t c κs =
-    let after-count = c .before .before in
-    let after-children = after-count .before .before in
-    let after-put = after-children .before .before .before in
-    let after-value = after-put .before .before .before in
-    let after-read-label = after-value .before .before in
-    let after-if2 = after-read-label .before .before in
-    let after-if1 = after-if2 .before .before in
-    let start = after-if1 .before .before in
-    let s = start .args .s .now in
-    let l = start .args .listing .now in
-    let at = start .args .at in
-    let h = after-if1 .if1 .left in
-    let o = after-if2 .if2 .left in
-    let x = after-read-label .read-label .ensures in
-    let z = after-value .value .given .1 in
-    let w = after-put .put .ensures in
-    let y = after-children .children .ensures in
-    tree-size-kept s l at _ h o x _ _ z _ w _ _ y _ _ _ (after-count .count .given .1) (start .pre .1)
-
-tree-add-t30 : (t : ℕ) → tree-lts.Need-add-t30 (tree-calls t) (tree-at t) tree.Post
-tree-add-t30 t c = search tree-len-fits
-
-tree-add-t31 : (t : ℕ) → tree-lts.Need-add-t31 (tree-calls t) (tree-at t) tree.Post
-tree-add-t31 t c = search tree-used-fits
-
-tree-enum-known-place : (t : ℕ) → tree-lts.Need-enum-known-place (tree-calls t) (tree-at t) tree.Post
-tree-enum-known-place t c = search needs
-
-tree-add-t32 : (t : ℕ) → tree-lts.Need-add-t32 (tree-calls t) (tree-at t) tree.Post
-tree-add-t32 t c = search tree-broken-fits
-
-tree-returns-4 : (t : ℕ) → tree-lts.Need-returns-4 (tree-calls t) (tree-at t) tree.Post
-tree-returns-4 t c = search tree-whole
-
-tree-returns-5 : (t : ℕ) → tree-lts.Need-returns-5 (tree-calls t) (tree-at t) tree.Post
-tree-returns-5 t c = search tree-broken
+  tree-returns-5 : InTree tree-lts.Need-returns-5
+  tree-returns-5 c = search tree-broken
 
 pub +children+tree-spec : {M : Type 1} → statement M
-+children+tree-spec = close μ-children μ-tree (λ t. children-lts.spec (children-calls t)
-    (children-at t)
-    children.Post
++children+tree-spec =
+    close μ-children μ-tree
+    (λ t.
+    children-lts.spec (children-calls t) (children-at t) children.Post
     (children-returns t)
     (children-shared-slice-read-if2 t)
+    (children-stepped-requires t)
     (children-returns-2 t)
     (children-shared-slice-read-if3 t)
     (children-returns-3 t)
-    (children-sub-tree t)
-    (children-part-tree-start t)
-    (children-part-tree-end t)
+    (children-stepped-requires-2 t)
     (children-tree-requires t)
-    (children-enum-known-len t)
-    (children-add-next t)
-    (children-sub-children t)
-    (children-part-children-start t)
-    (children-part-children-end t)
-    (children-add-children t)
+    (children-enum-known-next t)
     (children-children-requires t)
     (children-enum-known-count t)
-    (children-add-t31 t)
-    (children-add-t32 t)
-    (children-add-t33 t)
-    (children-enum-known-place t)
-    (children-add-t34 t)
-    (children-enum-known-place-2 t)
-    (children-add-t35 t)
+    (children-add-t26 t)
+    (children-enum-known-end t)
+    (children-enum-known-end-2 t)
     (children-returns-4 t)
     (children-returns-5 t)
     (children-returns-6 t))
-    λ t. tree-lts.spec (
-      read-label-reads.Asked,
-      read-label-reads.Learnt,
-      put-reads.Asked,
-      put-reads.Learnt,
-      children-below t,
-      children.Post,
-    )
-    (tree-at t)
-    tree.Post
+    (λ t.
+    tree-lts.spec (tree-calls t) (tree-at t) tree.Post
     (tree-returns t)
     (tree-shared-slice-read-if2 t)
     (tree-returns-2 t)
+    (tree-stepped-requires t)
     (tree-sub-read-label t)
     (tree-part-read-label-start t)
     (tree-part-read-label-end t)
@@ -392,19 +256,13 @@ pub +children+tree-spec : {M : Type 1} → statement M
     (tree-enum-known-value t)
     (tree-enum-told t)
     (tree-returns-3 t)
-    (tree-put-requires t)
-    (tree-add-start t)
-    (tree-sub-children t)
-    (tree-part-children-start t)
-    (tree-part-children-end t)
+    (tree-put-label-requires t)
+    (tree-stepped-requires-2 t)
     (tree-add-children t)
     (tree-children-requires t)
     (tree-enum-known-count t)
     (tree-add-put t)
-    (tree-put-requires-2 t)
-    (tree-add-t30 t)
-    (tree-add-t31 t)
-    (tree-enum-known-place t)
-    (tree-add-t32 t)
+    (tree-put-requires t)
+    (tree-enum-known-end t)
     (tree-returns-4 t)
-    (tree-returns-5 t)
+    (tree-returns-5 t))

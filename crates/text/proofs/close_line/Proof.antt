@@ -1,6 +1,6 @@
 -- `text::close_line` meets its contract: a closing bracket and then the end.
+use Rattle.text.proofs.FormReader.{line-closed, line-cut, line-more, line-unclosed}
 use borrow.Author.Needs.{needs}
-use Rattle.text.proofs.Heads.{line-closed, line-cut, line-more, line-unclosed}
 use Rattle.text.proofs.close_line.Statement.{statement}
 use Rattle.text.proofs.close_line.Tie as tie
 
@@ -13,11 +13,8 @@ shared-slice-read-if2 c = search needs
 returns-2 : tie.Need-returns-2
 returns-2 c = search line-unclosed
 
-add-if3 : tie.Need-add-if3
-add-if3 c = search needs
-
-add-t9 : tie.Need-add-t9
-add-t9 c = search needs
+stepped-requires : tie.Need-stepped-requires
+stepped-requires c κs = search needs
 
 returns-3 : tie.Need-returns-3
 returns-3 c = search line-more
@@ -27,4 +24,5 @@ returns-4 c = search line-closed
 
 pub close-line-spec : {M : Type 1} → statement M
 close-line-spec =
-    tie.close (tie.spec returns shared-slice-read-if2 returns-2 add-if3 add-t9 returns-3 returns-4)
+    tie.close
+    (tie.spec returns shared-slice-read-if2 returns-2 stepped-requires returns-3 returns-4)

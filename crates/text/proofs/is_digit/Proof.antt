@@ -1,6 +1,6 @@
--- `text::is_digit` meets its contract.
+-- `text::is_digit` meets its contract: its two comparisons are the test.
 use borrow.Author.Tests.{le-leb, lt-leb}
-use Rattle.text.specs.Grammar.{digit}
+use Rattle.lists.specs.Decimal.{digit}
 use Rattle.text.proofs.is_digit.Statement.{statement}
 use Rattle.text.proofs.is_digit.Tie as tie
 

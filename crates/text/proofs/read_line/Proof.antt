@@ -1,11 +1,10 @@
--- `text::read_line` meets its contract: the forms are tried one after the other, and the furthest place counts.
+-- `text::read_line` meets its contract: the forms are tried one after the other, and the furthest cursor counts.
 use mathlib.Core.Path.{_∙_, ap}
-use Prim.Native.Nat.{max, suc}
+use Prim.Native.Nat.{max}
 use native.Mathlib.Omega.{arith}
-use borrow.Author.Needs.{needs}
 use Rattle.text.specs.Grammar.{toAdd, toAsk, toDrop}
-use Rattle.text.proofs.Lines.{broken-form, broken-size, broken-within, parsed-broken, parsed-long}
-use Rattle.text.proofs.Lines.{parsed-whole}
+use Rattle.text.proofs.Lines.{broken-form, broken-size, parsed-broken, parsed-long, parsed-whole}
+use borrow.Author.Needs.{needs}
 use Rattle.text.proofs.read_line.Statement.{statement}
 use Rattle.text.proofs.read_line.Tie as tie
 
@@ -13,11 +12,7 @@ clear-requires : tie.Need-clear-requires
 clear-requires c κs = search needs
 
 returns : tie.Need-returns
-returns c =
-    let after-if1 = c .before .before in
-    let start = after-if1 .before .before in
-    let s = start .args .line .now in
-    parsed-long s _ (after-if1 .if1 .taken) (c .clear .ensures)
+returns c = parsed-long _ _ (omega arith) (c .clear .ensures)
 
 slice-aggregate-read-form : tie.Need-slice-aggregate-read-form
 slice-aggregate-read-form c = search needs
@@ -33,9 +28,8 @@ returns-2 c =
     let after-len = c .before in
     let after-read-form = after-len .before .before in
     let after-if1 = after-read-form .before .before .before in
-    let start = after-if1 .before .before in
-    let s = start .args .line .now in
-    parsed-whole toAdd s _ _ (after-read-form .read-form .ensures) (after-if1 .if1 .left) _ (after-len .len .given .1)
+    parsed-whole toAdd _ _ _ (after-read-form .read-form .ensures) (after-if1 .if1 .left) _ (after-len .len .given
+    .1)
 
 enum-known-at : tie.Need-enum-known-at
 enum-known-at c = search needs
@@ -48,15 +42,8 @@ read-form-requires-2 c κs =
     let after-at = c .before .before .before in
     let after-read-form = after-at .before .before in
     let after-if1 = after-read-form .before .before .before in
-    let start = after-if1 .before .before in
-    let s = start .args .line .now in (
-      after-if1 .if1 .left,
-      (
-        omega arith,
-        broken-size toAdd s _ _ (after-read-form .read-form .ensures) _
-            (after-at .at .given .1),
-      ),
-    )
+    let size = broken-size toAdd _ _ _ (after-read-form .read-form .ensures) _ (after-at .at .given .1) in
+    (after-if1 .if1 .left, (omega arith, size))
 
 enum-known-len-2 : tie.Need-enum-known-len-2
 enum-known-len-2 c = search needs
@@ -66,10 +53,8 @@ returns-3 c =
     let after-len2 = c .before in
     let after-read-form2 = after-len2 .before .before in
     let after-if1 = after-read-form2 .before .before .before .before .before .before .before .before .before in
-    let start = after-if1 .before .before in
-    let s = start .args .line .now in
-    parsed-whole toDrop s _ _ (after-read-form2 .read-form2 .ensures) (after-if1 .if1 .left) _
-    (after-len2 .len2 .given .1)
+    parsed-whole toDrop _ _ _ (after-read-form2 .read-form2 .ensures) (after-if1 .if1 .left) _ (after-len2 .len2
+    .given .1)
 
 enum-known-at-2 : tie.Need-enum-known-at-2
 enum-known-at-2 c = search needs
@@ -82,15 +67,8 @@ read-form-requires-3 c κs =
     let after-at2 = c .before .before .before in
     let after-read-form2 = after-at2 .before .before in
     let after-if1 = after-read-form2 .before .before .before .before .before .before .before .before .before in
-    let start = after-if1 .before .before in
-    let s = start .args .line .now in (
-      after-if1 .if1 .left,
-      (
-        omega arith,
-        broken-size toDrop s _ _ (after-read-form2 .read-form2 .ensures) _
-            (after-at2 .at2 .given .1),
-      ),
-    )
+    let size = broken-size toDrop _ _ _ (after-read-form2 .read-form2 .ensures) _ (after-at2 .at2 .given .1) in
+    (after-if1 .if1 .left, (omega arith, size))
 
 enum-known-len-3 : tie.Need-enum-known-len-3
 enum-known-len-3 c = search needs
@@ -99,13 +77,10 @@ returns-4 : tie.Need-returns-4
 returns-4 c =
     let after-len3 = c .before in
     let after-read-form3 = after-len3 .before .before in
-    let after-if1 =
-    after-read-form3 .before .before .before .before .before .before .before .before .before .before .before
-    .before .before .before .before in
-    let start = after-if1 .before .before in
-    let s = start .args .line .now in
-    parsed-whole toAsk s _ _ (after-read-form3 .read-form3 .ensures) (after-if1 .if1 .left) _
-    (after-len3 .len3 .given .1)
+    let middle = after-read-form3 .before .before .before .before .before .before in
+    let after-if1 = middle .before .before .before .before .before .before .before .before .before in
+    parsed-whole toAsk _ _ _ (after-read-form3 .read-form3 .ensures) (after-if1 .if1 .left) _ (after-len3 .len3
+    .given .1)
 
 enum-known-at-3 : tie.Need-enum-known-at-3
 enum-known-at-3 c = search needs
@@ -114,55 +89,32 @@ clear-requires-2 : tie.Need-clear-requires-2
 clear-requires-2 c κs =
     let after-at3 = c .before .before in
     let after-read-form3 = after-at3 .before .before in
-    let start =
-    after-read-form3 .before .before .before .before .before .before .before .before .before .before .before
-    .before .before .before .before .before .before in
-    let s = start .args .line .now in
-    broken-size toAsk s _ _ (after-read-form3 .read-form3 .ensures) _ (after-at3 .at3 .given .1)
+    broken-size toAsk _ _ _ (after-read-form3 .read-form3 .ensures) _ (after-at3 .at3 .given .1)
 
-larger-requires : tie.Need-larger-requires
-larger-requires c κs = search needs
+further-requires : tie.Need-further-requires
+further-requires c κs = search needs
 
-larger-requires-2 : tie.Need-larger-requires-2
-larger-requires-2 c κs = search needs
-
-column-at-requires : tie.Need-column-at-requires
-column-at-requires c κs =
-    let after-larger = c .before in
-    let after-at3 = after-larger .before .before .before .before in
-    let after-read-form3 = after-at3 .before .before in
-    let after-at2 = after-read-form3 .before .before .before .before in
-    let after-read-form2 = after-at2 .before .before in
-    let after-at = after-read-form2 .before .before .before .before in
-    let after-read-form = after-at .before .before in
-    let after-if1 = after-read-form .before .before .before in
-    let start = after-if1 .before .before in
-    let s = start .args .line .now in
-    let i = broken-within toAdd s _ _ (after-read-form .read-form .ensures) _ (after-at .at .given .1) in
-    let j = broken-within toDrop s _ _ (after-read-form2 .read-form2 .ensures) _ (after-at2 .at2 .given .1) in
-    let k = broken-within toAsk s _ _ (after-read-form3 .read-form3 .ensures) _ (after-at3 .at3 .given .1) in
-    omega (arith, after-larger .larger .ensures, c .larger2 .ensures, after-if1 .if1 .left)
+further-requires-2 : tie.Need-further-requires-2
+further-requires-2 c κs = search needs
 
 returns-5 : tie.Need-returns-5
 returns-5 c =
-    let after-larger2 = c .before in
-    let after-larger = after-larger2 .before in
-    let after-clear2 = after-larger .before in
+    let after-further = c .before in
+    let after-clear2 = after-further .before in
     let after-at3 = after-clear2 .before .before .before in
     let after-read-form3 = after-at3 .before .before in
     let after-at2 = after-read-form3 .before .before .before .before in
     let after-read-form2 = after-at2 .before .before in
     let after-at = after-read-form2 .before .before .before .before in
     let after-read-form = after-at .before .before in
-    let after-if1 = after-read-form .before .before .before in
-    let start = after-if1 .before .before in
-    let s = start .args .line .now in
-    let p = broken-form toAdd s _ _ (after-read-form .read-form .ensures) _ (after-at .at .given .1) in
-    let q = broken-form toDrop s _ _ (after-read-form2 .read-form2 .ensures) _ (after-at2 .at2 .given .1) in
-    let r = broken-form toAsk s _ _ (after-read-form3 .read-form3 .ensures) _ (after-at3 .at3 .given .1) in
-    let e = after-larger2 .larger2 .ensures ∙ ap (max (after-at .at .given .0 .0)) (after-larger .larger .ensures) in
-    parsed-broken s _ _ _ _ _ (after-if1 .if1 .left) p q r (c .column-at .ensures ∙
-    ap suc e) (after-clear2 .clear2 .ensures)
+    let p = broken-form toAdd _ _ _ (after-read-form .read-form .ensures) _ (after-at .at .given .1) in
+    let q =
+    broken-form toDrop _ _ _ (after-read-form2 .read-form2 .ensures) _ (after-at2 .at2 .given .1) in
+    let r =
+    broken-form toAsk _ _ _ (after-read-form3 .read-form3 .ensures) _ (after-at3 .at3 .given .1) in
+    parsed-broken _
+    _ _ _ _ _ (omega arith) p q r (c .further2 .ensures ∙ ap (max _) (after-further .further .ensures))
+    (after-clear2 .clear2 .ensures)
 
 pub read-line-spec : {M : Type 1} → statement M
 read-line-spec =
@@ -186,7 +138,6 @@ read-line-spec =
     returns-4
     enum-known-at-3
     clear-requires-2
-    larger-requires
-    larger-requires-2
-    column-at-requires
+    further-requires
+    further-requires-2
     returns-5)

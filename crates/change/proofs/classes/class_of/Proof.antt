@@ -1,3 +1,4 @@
+-- `change::classes::class_of` meets its contract: the own class is given, every other is that of the state.
 use mathlib.Core.Path.{_∙_}
 use Rattle.change.proofs.Pairs.{class-own, class-none, class-some}
 use borrow.Author.Needs.{needs}

@@ -1,3 +1,4 @@
+-- `change::classes::pair_classes` meets its contract: the first classes stand at their numbers.
 use Prim.Native.Nat.{_+_, _-_, _≤_}
 use native.Mathlib.Omega.{arith}
 use Rattle.change.specs.Classes.{pairClass}

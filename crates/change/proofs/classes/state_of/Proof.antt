@@ -1,3 +1,4 @@
+-- `change::classes::state_of` meets its contract: a state of the table, or that of a subtree.
 use native.Mathlib.Omega.{arith}
 use mathlib.Core.Path.{refl}
 use Rattle.change.proofs.Pairs.{state-low, state-high}

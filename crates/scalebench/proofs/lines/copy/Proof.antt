@@ -1,3 +1,4 @@
+-- `scalebench::lines::copy` meets its contract: the first `i` bytes are copied.
 use native.Mathlib.Omega.{arith}
 use Prim.Native.Nat.{_-_}
 use lib.ListN.{getD}

@@ -1,3 +1,4 @@
+-- `scalebench::lines::line_number` meets its contract: the number of each case.
 use native.Mathlib.Omega.{arith}
 use mathlib.Core.Path.{_∙_, ap, subst, sym}
 use Rattle.scalebench.specs.Typed.{Small, lineNumber}

@@ -1,3 +1,4 @@
+-- `scalebench::lines::no_listing` meets its contract: all bytes are 0.
 use mathlib.Core.Path.{refl}
 use Rattle.text.specs.Outcome.{noListing}
 use Rattle.scalebench.proofs.lines.no_listing.Statement.{statement}

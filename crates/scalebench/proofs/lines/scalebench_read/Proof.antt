@@ -1,3 +1,4 @@
+-- `scalebench_read` meets its contract: a buffer of another size is left untouched, else the line is read into it.
 use mathlib.Core.Path.{_∙_, ap}
 use lib.ListN.{length}
 use Rattle.scalebench.proofs.Typed.{listed-size, read-listed, read-other, read-number, read-small}

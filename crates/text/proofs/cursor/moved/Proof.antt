@@ -1,4 +1,4 @@
--- `text::cursor::moved` meets its contract.
+-- `text::cursor::moved` meets its contract: both sums wrap as the definition says.
 use borrow.Author.Needs.{needs}
 use Rattle.text.proofs.cursor.moved.Statement.{statement}
 use Rattle.text.proofs.cursor.moved.Tie as tie

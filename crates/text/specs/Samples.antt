@@ -1,0 +1,28 @@
+-- Lines and what each is read as: whole ones, and columns of malformed ones.
+use mathlib.Core.List.{List, [], _∷_}
+use mathlib.Core.Path.{_≡_}
+use Prim.Native.Nat.{ℕ}
+use Rattle.text.specs.Grammar.{toAdd, toDrop}
+use Rattle.text.specs.Reader.{Line, form, formed, readLine}
+
+-- a line and what it is read as
+abbrev pub Sample : Type 0
+Sample = List ℕ × Line
+
+-- "" | "(add" | "(ask (1)" | "(ask (1)))" | "(ask (01))" | "(ask (256))" | "(drop (0))" | "(add (1 (1) (2)))"
+unfoldable pub samples : List Sample
+samples =
+    ([], form 1) ∷ (40 ∷ 97 ∷ 100 ∷ 100 ∷ [], form 5) ∷
+    (40 ∷ 97 ∷ 115 ∷ 107 ∷ 32 ∷ 40 ∷ 49 ∷ 41 ∷ [], form 9) ∷
+    (40 ∷ 97 ∷ 115 ∷ 107 ∷ 32 ∷ 40 ∷ 49 ∷ 41 ∷ 41 ∷ 41 ∷ [], form 10) ∷
+    (40 ∷ 97 ∷ 115 ∷ 107 ∷ 32 ∷ 40 ∷ 48 ∷ 49 ∷ 41 ∷ 41 ∷ [], form 8) ∷
+    (40 ∷ 97 ∷ 115 ∷ 107 ∷ 32 ∷ 40 ∷ 50 ∷ 53 ∷ 54 ∷ 41 ∷ 41 ∷ [], form 9) ∷
+    (40 ∷ 100 ∷ 114 ∷ 111 ∷ 112 ∷ 32 ∷ 40 ∷ 48 ∷ 41 ∷ 41 ∷ [], formed toDrop (0 ∷ 0 ∷ [])) ∷ (
+      40 ∷ 97 ∷ 100 ∷ 100 ∷ 32 ∷ 40 ∷ 49 ∷ 32 ∷ 40 ∷ 49 ∷ 41 ∷ 32 ∷ 40 ∷ 50 ∷ 41 ∷ 41 ∷ 41 ∷ [],
+      formed toAdd (1 ∷ 2 ∷ 1 ∷ 0 ∷ 2 ∷ 0 ∷ []),
+    ) ∷ []
+
+-- every line of a table is read as it says
+unfoldable pub AllRead : List Sample → Type 0
+AllRead [] = Unit {0}
+AllRead (x ∷ xs) = (readLine (x .0) ≡ x .1) × AllRead xs
