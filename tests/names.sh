@@ -106,8 +106,8 @@ END {
             sub(/\.edit$/, "", part[4])
             x = part[2] "/" part[4]
             if (mentioned[x] == 1) passed++
-            else fail("docs/PROMISES.md: the edit " x " stands there " mentioned[x] + 0 " times")
+            else fail("docs/PROMISES.md: the edit " x " stands there " (mentioned[x] + 0) " times")
         }
-    print passed + 0 " passed, " failed + 0 " failed"
-    exit failed > 0 || passed == 0
+    print (passed + 0) " passed, " (failed + 0) " failed"
+    exit (failed > 0 || passed == 0)
 }' "$work/paths" "$work/names" crates.txt "$work/text"
