@@ -1,4 +1,4 @@
--- Conditions 9, 10 and 12 in 01's words, with trees and contexts, where the conditions that are checked before hold.
+-- Conditions 9, 10 and 12 in 01's words, with trees and contexts, if the conditions that are checked before hold.
 use mathlib.Core.Bool.{Bool, _||_, false, true}
 use mathlib.Core.List.{List, []}
 use mathlib.Core.Logic.{_↔_, _≢_, _⊎_, inl, inr}

@@ -1,4 +1,4 @@
--- Where transitions have legal labels and arities, so have accepted trees, and back.
+-- If transitions have legal labels and arities, so have accepted trees, and back.
 use mathlib.Core.Bool.{Bool, false, true, true≢false}
 use mathlib.Core.Logic.{_⊎_, inl, inr}
 use mathlib.Core.Path.{_∙_, _≡_, ap, refl, subst, subst₂, sym}

@@ -1,4 +1,4 @@
--- Condition 13 in one pass over the transitions (01: numbering): a transition gives its output a number where
+-- Condition 13 in one pass over the transitions (01: numbering): a transition gives its output a number if
 -- every state strictly between its greatest argument and its output has one already. It implies condition 9.
 use mathlib.Core.Bool.{Bool, _&&_, cond, false, true, true≢false}
 use mathlib.Core.List.{List, [], _++_, _∷_}
@@ -33,7 +33,7 @@ top-at (q ∷ qs) k = go (leb q k) refl (leb (top qs) k) refl (top-at qs k)
         let m = leb-false (top qs) k f in let r = lt-leb (max q (top qs)) k (omega arith) in cc
     go false e d f h = let l = leb-false q k e in let r = lt-leb (max q (top qs)) k (omega arith) in cc
 
--- a transition opens k where its greatest argument is at most k and its output above
+-- a transition opens k if its greatest argument is at most k and its output above
 pub opens-between : (k : ℕ) (τ : Transition) → top (τ .args) ≤ k → k < τ .out → opens k τ ≡ true
 opens-between k τ h l = and-both (top-at (τ .args) k ∙ le-leb (top (τ .args)) k h) (lt-ltb k (τ .out) l)
 
@@ -101,7 +101,7 @@ module _ {τs : List Transition} {seen : ℕ → Bool} (passed : Passed τs seen
         go k e true o = absurd (omega (arith, opens-low k τ o, opens-high k τ o))
         go k e false o = rw e
 
-    -- where all between are seen, the output is seen
+    -- if all between are seen, the output is seen
     pub passed-next : (seen' : ℕ → Bool) → top (τ .args) < τ .out →
         ((j : ℕ) → top (τ .args) < j → j < τ .out → seen j ≡ true) → seen' (τ .out) ≡ true →
         ((j : ℕ) → j ≢ τ .out → seen' j ≡ seen j) → Passed (τs ++ (τ ∷ [])) seen'

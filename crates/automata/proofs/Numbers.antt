@@ -72,7 +72,7 @@ number-length (x ∷ o) q = go (number-length o q) (eqb q x)
     go ih true = omega arith
     go ih false = shift-le (numberOf o q) (length o) ih
 
--- the element at place k + 1, where it does not stand earlier
+-- the element at place k + 1, if it does not stand earlier
 pub number-at : (k : ℕ) (o : List ℕ) → k < length o → elem eqb (getD o k 0) (take k o) ≡ false →
     numberOf o (getD o k 0) ≡ suc k
 number-at k [] h e = absurd (omega arith)

@@ -152,7 +152,7 @@ first-opening k (l ∷ ls) r e = go (first-opening k ls (rising-tail l ls r)) (o
         least u m (inl q) p = absurd (true≢false (sym p ∙ ap (opens k) q ∙ o))
         least u m (inr i) p = u .4 m i p
 
--- the first transition that opens, where some transition does
+-- the first transition that opens, if some transition does
 pub first-open : (k : ℕ) (ls : List Transition) → rising ls ≡ true → (x : Transition) → x ∈ ls →
     opens k x ≡ true →
     (m : Transition) × (m ∈ ls) × (opens k m ≡ true) × (firstOpen k ls ≡ m .out) ×

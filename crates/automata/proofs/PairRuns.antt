@@ -64,7 +64,7 @@ module _ (A B : Automaton) where
     EachNumber (p ∷ ps) [] = ⊥
     EachNumber (p ∷ ps) (k ∷ ks) = N p k × EachNumber ps ks
 
-    -- 0 where the pair is both none
+    -- 0 if the pair is both none
     abbrev pub NumberOrNone : ℕ → Pair → Type 0
     NumberOrNone p k = ((p ≡ 0) × (_≡_ {A = Pair} k (0, 0))) ⊎ N p k
 

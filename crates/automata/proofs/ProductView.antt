@@ -69,7 +69,7 @@ module _ (A : Automaton) (fit : Fits A) (t : Tree) (δ : ℕ → Pair) (acc : �
       only a ps ks h τ i x y =
           let (_, o, e) = W .only τ i in rw (e, x, y, each-number ps ks h .1) at (used-live (τ .out) o)
 
-  -- a tree runs to the number of its pair, or to 0 where it has none
+  -- a tree runs to the number of its pair, or to 0 if it has none
   pub view-run : (u : Tree) →
       ((run P u ≡ 0) × (_≡_ {A = Pair} (run A u, subtreeNumber (subtrees t) u) (0, 0))) ⊎
       ((acc (run P u) ≡ true) × (δ (run P u) ≡ (run A u, subtreeNumber (subtrees t) u)))

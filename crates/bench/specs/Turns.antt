@@ -30,7 +30,7 @@ pub record Takes (p : Progress) (x : Console) (s : List ℕ) (r : Progress) (l b
   pub rested : Rested p (length s) r l o
   pub equal : console r l b w o ≡ written (fed x s)
 
--- the whole part was taken; where writing failed nothing is said; a part does not end the input
+-- the whole part was taken; if writing failed nothing is said; a part does not end the input
 unfoldable pub Took : Progress → Console → List ℕ → Turn → List ℕ → List ℕ → List ℕ → List ℕ → Type 0
 Took p x s (More r) l b w o = Takes p x s r l b w o
 Took p x s (Ended r) l b w o = ⊥

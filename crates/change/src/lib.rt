@@ -38,7 +38,7 @@ fn clear(scratch: &mut [u8])
     }
 }
 
-// Writes the minimal automaton of a transitions to a table; where the table cannot hold it, leaves the table as it is.
+// Writes the minimal automaton of the transitions to a table; if the table cannot hold it, leaves the table as it is.
 fn minimize(
     transitions: &mut [u8],
     count: usize,

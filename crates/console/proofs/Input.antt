@@ -1,4 +1,4 @@
--- The lines of an input: every input is lines that end and bytes behind them, and `linesOf` gives these.
+-- The lines of an input: every input is lines that end and bytes after them, and `linesOf` gives these.
 use mathlib.Core.Bool.{Bool, cond, false, true}
 use mathlib.Core.List.{List, [], _++_, _∷_, append-assoc, append-nil}
 use mathlib.Core.Path.{_∙_, _≡_, ap, refl, sym}
@@ -48,7 +48,7 @@ lines-are (s ∷ ss) l h k =
     (from-unbroken s (newline ∷ (ended ss ++ l)) [] (h .0) ∙
     ap (λ (r : List (List ℕ)). s ∷ r) (lines-are ss l (h .1) k))
 
--- LINES: the lines that end, then the bytes behind them, if there are any
+-- LINES: the lines that end, then the bytes after them, if there are any
 pub lines-of : (input : List ℕ) (L : Lines input) →
     linesOf input ≡ L .whole ++ cond (isEmpty (L .last)) [] (L .last ∷ [])
 unfolding linesOf

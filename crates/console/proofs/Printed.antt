@@ -68,7 +68,7 @@ closed-midway (c ∷ l) n b w t =
     ap (λ (y : Console). y .text ++ closing (y .lines) (y .table)) (ended-midway (c ∷ l) n b w t) ∙
     append-assoc t (r .text) (closing (suc n) (r .table))
 
--- one byte more, where what is behind it prints as it must from anywhere
+-- one byte more, if what is after it prints as it must from anywhere
 byte-midway : (c : ℕ) (s line : List ℕ) (n : ℕ) (b w t : List ℕ) →
     ((l : List ℕ) (m : ℕ) (b' w' t' : List ℕ) →
     closed (fed (midway l m b' w' t') s) ≡ t' ++ printedFrom (linesFrom s l) m b' w') →

@@ -42,7 +42,7 @@ pub record ProgressRoom (p : Progress) (n k : ℕ) : Type 0 where
   pub lines : p .lines + n < 2 ^ 64
   pub printed : p .printed + k * lineBytes ≤ outBytes
 
--- a line became m: it holds one byte more, where it has room
+-- a line became m: it holds one byte more, if it has room
 pub record LineKept (l : List ℕ) (n b : ℕ) (m : List ℕ) (r : ℕ) : Type 0 where
   pub size : length m ≡ length l
   pub within : r ≤ heldBytes

@@ -11,7 +11,7 @@ use Rattle.console.specs.Input.{isEmpty, linesOf, newline}
 
 -- ---- line by line
 
--- what is printed for lines behind n others, on a table and a scratch: each line's text, then the last line
+-- what is printed for lines after n others, on a table and a scratch: each line's text, then the last line
 abbrev pub printedFrom : List (List ℕ) → ℕ → List ℕ → List ℕ → List ℕ
 printedFrom [] n b w = closing n b
 printedFrom (s ∷ ss) n b w =

@@ -37,7 +37,7 @@ abbrev pub ended : List (List ℕ) → List ℕ
 ended [] = []
 ended (s ∷ ss) = s ++ (newline ∷ ended ss)
 
--- an input is lines that end, and bytes behind them: a line that the end of the input ends, if there are any
+-- an input is lines that end, and bytes after them: a line that the end of the input ends, if there are any
 pub record Lines (input : List ℕ) : Type 0 where
   pub whole : List (List ℕ)
   pub last : List ℕ

@@ -30,7 +30,7 @@ lineModel (formed c s) m = respond m (callOf c s) .next
 lineModel (form n) m = m
 lineModel long m = m
 
--- what is printed for lines behind n others: last, the numbers of the automaton of the model's set
+-- what is printed for lines after n others: last, the numbers of the automaton of the model's set
 abbrev pub machineFrom : List (List ℕ) → ℕ → Model → List ℕ
 machineFrom [] n m = endText n (states (canonicalOf m)) (length (canonicalOf m .transitions))
 machineFrom (s ∷ ss) n m =

@@ -46,7 +46,7 @@ pub fn empty_scratch() -> [u8; SCRATCH_BYTES]
     [0u8; SCRATCH_BYTES]
 }
 
-// Keeps a byte of a line, where it is among those that are held; answers how many are.
+// Keeps a byte of a line, if it is among those that are held; returns how many are.
 fn keep(line: &mut [u8; HELD_BYTES], held: usize, byte: u8) -> usize
     requires { ⌜ length (now line) ≡ heldBytes ⌝ }
     requires { ⌜ held ≤ heldBytes ⌝ }
@@ -59,7 +59,7 @@ fn keep(line: &mut [u8; HELD_BYTES], held: usize, byte: u8) -> usize
     held + 1
 }
 
-// Ends a line: serves it and puts its text behind what is printed.
+// Ends a line: serves it and puts its text after what is printed.
 fn end_line(
     p: Progress,
     line: &[u8],
@@ -161,7 +161,7 @@ fn end_input(
     end_line(p, line, table, scratch, out)
 }
 
-// Ends the input, and answers how many bytes are printed then.
+// Ends the input, and returns how many bytes are printed then.
 pub fn close(
     p: Progress,
     line: &[u8],

@@ -25,7 +25,7 @@ use validity::all_accessible;
 use validity::all_coaccessible;
 use validity::numbered;
 
-// Condition 9. Where the states are numbered by the rule it holds, and no search is needed.
+// Condition 9. If the states are numbered by the rule it holds, and no search is needed.
 fn reached(transitions: &[u8], count: usize, n: usize, in_order: bool) -> bool
     requires { ⌜ HasTransitionsOver (now transitions) count n ⌝ }
     requires { ⌜ n ≤ 255 ⌝ }

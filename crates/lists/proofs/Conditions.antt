@@ -1,4 +1,4 @@
--- No condition is broken exactly when all hold; of two lists, the first decides where it is broken.
+-- No condition is broken exactly when all hold; of two lists, the first decides unless all of it holds.
 use mathlib.Core.Bool.{Bool, cond, false, true}
 use mathlib.Core.List.{List, [], _++_, _∷_}
 use mathlib.Core.Logic.{_≢_}
@@ -37,7 +37,7 @@ pub hold-first : (cs ds : List Condition) → AllHold cs → firstBroken (cs ++ 
 hold-first [] ds h = refl
 hold-first (c ∷ cs) ds h = rw (h .0) (hold-first cs ds (h .1))
 
--- a list and what follows it: the first decides where it is broken
+-- a list and what follows it: the first decides unless all of it holds
 pub firstBroken-append : (cs ds : List Condition) → FromOne cs →
     firstBroken (cs ++ ds) ≡ cond (eqb (firstBroken cs) 0) (firstBroken ds) (firstBroken cs)
 firstBroken-append [] ds n = refl

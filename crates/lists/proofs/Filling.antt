@@ -7,7 +7,7 @@ use lib.ListN.{getD, length, length-set, set}
 use lib.Seq.{getD-set-other, getD-set-same}
 use borrow.Author.Count.{below-more}
 
--- where the entries from a to k - 1 read as f says, those to k do once the next one is written
+-- if the entries from a to k - 1 read as f says, those to k do once the next one is written
 pub set-next-from : {B : Type 0} (read f : ℕ → B) (a : ℕ) (r : List ℕ) (k v : ℕ) → k < length r → read v ≡ f k →
     ((j : ℕ) → a ≤ j → j < k → read (getD r j 0) ≡ f j) → (j : ℕ) → a ≤ j → j < k + 1 →
     read (getD (set r k v) j 0) ≡ f j

@@ -156,7 +156,7 @@ module _ {A B : Type 0} where
   map-in f (x ∷ xs) y (inl e) = (x, inl refl, e)
   map-in f (x ∷ xs) y (inr m) = let r = map-in f xs y m in (r .0, inr (r .1), r .2)
 
-  -- lists with the same values are the same, where elements with the same value are
+  -- lists with the same values are the same, if elements with the same value are
   pub map-inj : (f : A → B) (xs ys : List A) → ((x y : A) → x ∈ xs → y ∈ ys → f x ≡ f y → x ≡ y) →
       map f xs ≡ map f ys → xs ≡ ys
   map-inj f [] [] h e = refl

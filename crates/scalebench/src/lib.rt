@@ -96,7 +96,7 @@ pub fn take_in(table: &[u8]) -> Answer
     }
 }
 
-// Refusal 14 where an added tree is there already, 15 where a removed one is not, or 0.
+// Refusal 14 if an added tree is there already, 15 if a removed one is not, or 0.
 fn presence_refusal(inserting: bool, present: bool) -> u8
     ensures { λ r. ⌜ ((t : Tree) → r ≡ presenceRefusal (changeOf inserting t) present) ⌝ }
 {

@@ -15,7 +15,7 @@ use Rattle.table.specs.Layout.{argOf, arityOf, blank, body, bodyByte, by
 use Rattle.table.specs.Layout.{stateCount, transitionByte, transitionCount}
 use Rattle.lists.proofs.Intervals.{getD-tabulated, length-tabulated}
 
--- what holds of each branch of a choice, where it is taken, holds of the choice
+-- what holds of each branch of a choice, if it is taken, holds of the choice
 pub cond-all : {X : Type 0} (P : X → Type 0) (t : Bool) {x y : X} → (t ≡ true → P x) → (t ≡ false → P y) →
     P (cond t x y)
 cond-all P true f g = f refl

@@ -34,7 +34,7 @@ module _ (s : List ℕ) (n : ℕ) where
   transitionsIn-in τ m =
       let (i, h, l, e) = tabulated-in (nthTransition s) 0 n τ m in (i, omega arith, e)
 
-  -- a list of transitions is those in s where it has as many and each is in its place
+  -- a list of transitions is those in s if it has as many and each is in its place
   pub transitionsIn-is : (τs : List Transition) (d : Transition) → length τs ≡ n →
       ((i : ℕ) → i < n → nthTransition s i ≡ getD τs i d) → transitionsIn s n ≡ τs
   transitionsIn-is τs d e h =

@@ -1,4 +1,4 @@
--- INTAKE: a table passes 5 and 7 to 13 exactly where it is the table of a canonical automaton of a bounded set,
+-- INTAKE: a table passes 5 and 7 to 13 exactly if it is the table of a canonical automaton of a bounded set,
 -- within the limits.
 use mathlib.Core.Bool.{Bool, false, true}
 use mathlib.Core.List.{List, _∷_}

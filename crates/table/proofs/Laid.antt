@@ -20,7 +20,7 @@ use Rattle.lists.proofs.Intervals.{at-every, every-at}
 use Rattle.lists.proofs.Tests.{and-both, and-left, and-right}
 use Rattle.table.proofs.Bytes.{cond-is}
 
--- the fields of the transition that starts at a byte, where there are n states
+-- the fields of the transition that starts at a byte, if there are n states
 pub record LaidTransition (s : List ℕ) (n at : ℕ) : Type 0 where
   pub label : 1 ≤ labelOf s at
   pub arity : arityOf s at ≤ maxArity

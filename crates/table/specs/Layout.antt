@@ -98,7 +98,7 @@ classFits b q = cond (leb q (stateCount b)) (leb (getD b q 0) 1) (eqb (getD b q 
 abbrev pub argFits : List ℕ → ℕ → ℕ → ℕ → Bool
 argFits s n at k = cond (ltb k (arityOf s at)) (inRange n (argOf s at k)) (eqb (argOf s at k) 0)
 
--- the fields of the transition that starts at a byte, where there are n states
+-- the fields of the transition that starts at a byte, if there are n states
 unfoldable pub transitionFits : List ℕ → ℕ → ℕ → Bool
 transitionFits s n at =
     leb 1 (labelOf s at) && leb (arityOf s at) maxArity && every (argFits s n at) (upFrom 0 maxArity) &&

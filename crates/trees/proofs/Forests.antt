@@ -1,4 +1,4 @@
--- The first trees of a forest and those behind them: their number, their listings, and forests put together.
+-- The first trees of a forest and those after them: their number, their listings, and forests put together.
 use mathlib.Core.List.{_++_, append-assoc}
 use mathlib.Core.Path.{_∙_, _≡_, ap, refl, sym}
 use Prim.Native.Nat.{_-_, _≤_, suc, zero, ℕ}

@@ -1,4 +1,4 @@
--- `console::close` meets its contract: the last line stands behind what was printed.
+-- `console::close` meets its contract: the last line stands after what was printed.
 use Rattle.console.proofs.Moves.{close-moved}
 use borrow.Author.Needs.{needs}
 use Rattle.console.proofs.close.Statement.{statement}

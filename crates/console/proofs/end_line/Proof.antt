@@ -1,4 +1,4 @@
--- `console::end_line` meets its contract: the line is served, and its text stands behind what was printed.
+-- `console::end_line` meets its contract: the line is served, and its text stands after what was printed.
 use Rattle.console.proofs.Moves.{line-moved}
 use borrow.Author.Needs.{needs}
 use Rattle.console.proofs.end_line.Statement.{statement}
