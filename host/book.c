@@ -1,103 +1,42 @@
-/* See book.h. The folder stays open, so that all names mean the same folder throughout. */
-#define _XOPEN_SOURCE 700
+/*
+ * See book.h. The lock is on the book's own file. A save puts another file in its place, which is locked before it
+ * gets there. Whoever gets the lock of a file looks whether the book's name still stands for that file, and if not
+ * tries again. So there is no lock file that could be deleted, planted or left. A file in the book's place is never
+ * written again, so that a reader needs no lock.
+ */
+#define _GNU_SOURCE
 
 #include "book.h"
 
+#include "message.h"
+#include "save.h"
+
 #include <errno.h>
 #include <fcntl.h>
-#include <stdio.h>
-#include <stdlib.h>
+#include <signal.h>
 #include <string.h>
-#include <sys/stat.h>
+#include <sys/file.h>
+#include <time.h>
 #include <unistd.h>
 
-static void complain(const char *what, const char *name)
+static int same_time(const struct timespec *one, const struct timespec *other)
 {
-    fprintf(stderr, "scalebench: %s %s: %s\n", what, name, strerror(errno));
+    return one->tv_sec == other->tv_sec && one->tv_nsec == other->tv_nsec;
 }
 
-/* A new string of both. */
-static char *joined(const char *first, const char *second)
+/* Whether two looks are at one file with the same bytes. Times reveal a program that wrote into the file itself. */
+static int unchanged(const struct stat *one, const struct stat *other)
 {
-    size_t length = strlen(first) + strlen(second) + 1;
-    char *both = malloc(length);
-    if (!both) {
-        complain("no memory for", first);
-        exit(STATUS_FAILED);
-    }
-    snprintf(both, length, "%s%s", first, second);
-    return both;
+    return one->st_dev == other->st_dev && one->st_ino == other->st_ino && one->st_size == other->st_size &&
+           same_time(&one->st_mtim, &other->st_mtim) && same_time(&one->st_ctim, &other->st_ctim);
 }
 
-/* The path of the file itself: a link is followed, since a save would replace the link and not what it leads to. */
-static char *real_path(const char *path, int how)
-{
-    struct stat status;
-    char *real = realpath(path, NULL);
-    if (real && stat(real, &status) == 0 && !S_ISREG(status.st_mode)) {
-        fprintf(stderr, "scalebench: %s is not a file\n", path);
-        free(real);
-        return NULL;
-    }
-    size_t length = strlen(path);
-    int named = length > 0 && path[length - 1] != '/';
-    if (!real && errno == ENOENT && how & BOOK_NEW && named && lstat(path, &status) < 0)
-        return joined(path, "");
-    if (!real)
-        complain("cannot open", path);
-    return real;
-}
-
-/* Opens the folder of the path, and sets the names within it. */
-static int open_folder(struct book *book, const char *path, int how)
-{
-    char *whole = real_path(path, how);
-    if (!whole)
-        return 0;
-    char *slash = strrchr(whole, '/');
-    book->name = joined(slash ? slash + 1 : whole, "");
-    book->beside = joined(book->name, ".new");
-    if (slash)
-        slash[slash == whole] = 0;
-    book->folder = open(slash ? whole : ".", O_RDONLY | O_DIRECTORY | O_CLOEXEC);
-    if (book->folder < 0)
-        complain("cannot open the folder of", path);
-    free(whole);
-    return book->folder >= 0;
-}
-
-/*
- * The lock is on a file of its own, because a save puts another file in the book's place. It ends with the process,
- * however that ends; the file stays.
- */
-static enum status take_lock(struct book *book)
-{
-    struct flock whole = {.l_type = F_WRLCK, .l_whence = SEEK_SET};
-    char *name = joined(book->name, ".lock");
-    enum status status = STATUS_FINE;
-    book->lock = openat(book->folder, name, O_RDWR | O_CREAT | O_CLOEXEC | O_NOFOLLOW, 0666);
-    if (book->lock < 0) {
-        complain("cannot lock with", name);
-        status = STATUS_BOOK;
-    } else if (fcntl(book->lock, F_SETLK, &whole) < 0) {
-        if (errno == EACCES || errno == EAGAIN) {
-            fprintf(stderr, "scalebench: %s is in use by another host\n", book->name);
-            status = STATUS_BUSY;
-        } else {
-            complain("cannot lock with", name);
-            status = STATUS_BOOK;
-        }
-    }
-    free(name);
-    return status;
-}
-
-/* Reads at most `room` bytes; their number, or -1. */
+/* Reads at most `room` bytes from the start; their number, or -1. */
 static ssize_t read_all(int file, uint8_t *bytes, size_t room)
 {
     size_t length = 0;
     while (length < room) {
-        ssize_t more = read(file, bytes + length, room - length);
+        ssize_t more = pread(file, bytes + length, room - length, (off_t)length);
         if (more < 0 && errno == EINTR)
             continue;
         if (more < 0)
@@ -109,90 +48,202 @@ static ssize_t read_all(int file, uint8_t *bytes, size_t room)
     return (ssize_t)length;
 }
 
-/* Reads the file and takes it in. */
-static enum status load(struct book *book)
+/* From here on the book is this file. */
+static void hold(struct book *book, int file)
+{
+    if (book->file >= 0)
+        close(book->file);
+    book->file = file;
+}
+
+/* Makes this file the book's and reads it; `refusal` is intake's. */
+static enum status read_file(struct book *book, int file, unsigned *refusal)
 {
     uint8_t bytes[SCALEBENCH_TABLE_BYTES + 1]; /* one more, so that a longer file is noticed */
-    struct stat status;
-    int file = openat(book->folder, book->name, O_RDONLY | O_CLOEXEC);
-    ssize_t length = file < 0 || fstat(file, &status) < 0 ? -1 : read_all(file, bytes, sizeof bytes);
-    if (length < 0)
-        complain("cannot read", book->name);
-    if (file >= 0)
-        close(file);
-    if (length < 0)
-        return STATUS_BOOK;
-    unsigned refusal = scalebench_refusal(scalebench_intake(bytes, (size_t)length));
-    if (refusal) {
-        fprintf(stderr, "scalebench: %s is damaged (%u): %s\n", book->name, refusal, scalebench_reason(refusal));
+    ssize_t length = fstat(file, &book->seen) < 0 ? -1 : read_all(file, bytes, sizeof bytes);
+    hold(book, file);
+    if (length < 0) {
+        complain("cannot read", book->place.path, "%s", strerror(errno));
         return STATUS_BOOK;
     }
-    memcpy(book->table, bytes, sizeof book->table);
-    book->mode = status.st_mode & 0777;
+    *refusal = scalebench_refusal(scalebench_intake(bytes, (size_t)length));
+    if (!*refusal)
+        memcpy(book->table, bytes, sizeof book->table);
     return STATUS_FINE;
 }
 
-static int write_all(int file, const uint8_t *bytes, size_t length)
+static enum status take_in(struct book *book, int file)
 {
-    while (length > 0) {
-        ssize_t done = write(file, bytes, length);
-        if (done < 0 && errno == EINTR)
-            continue;
-        if (done < 0)
-            return 0;
-        bytes += done;
-        length -= (size_t)done;
+    unsigned refusal;
+    enum status status = read_file(book, file, &refusal);
+    if (status != STATUS_FINE || !refusal)
+        return status;
+    complain("cannot use", book->place.path, "it is damaged (%u): %s", refusal, scalebench_reason(refusal));
+    return STATUS_BOOK;
+}
+
+static enum status cannot_open(const struct book *book)
+{
+    complain("cannot open", book->place.path, "%s", strerror(errno));
+    return STATUS_BOOK;
+}
+
+/* An empty book where there is none; fine as well if another host is faster. */
+static enum status begin(struct book *book)
+{
+    mode_t mask = umask(0);
+    umask(mask);
+    int file = save_new(&book->place, 0666 & ~mask, book->table);
+    if (file >= 0) {
+        fstat(file, &book->seen);
+        hold(book, file);
+        book_release(book);
+    } else if (errno != EEXIST) {
+        complain("cannot begin", book->place.path, "%s", strerror(errno));
+        return STATUS_FAILED;
     }
-    return 1;
+    return STATUS_FINE;
 }
 
-/* The table in a file beside the book, on the disk when this returns. */
-static int write_beside(struct book *book)
+enum status book_open(struct book *book, const char *path, int how, unsigned wait)
 {
-    int file = openat(book->folder, book->beside, O_WRONLY | O_CREAT | O_TRUNC | O_CLOEXEC | O_NOFOLLOW, 0666);
-    if (file < 0)
-        return 0;
-    int fine = (!book->mode || fchmod(file, book->mode) == 0) &&
-               write_all(file, book->table, sizeof book->table) && fsync(file) == 0;
-    int error = errno;
-    if (close(file) < 0 && fine)
-        return 0;
-    errno = error;
-    return fine;
+    *book = (struct book){.file = -1, .wait = wait};
+    if (!place_find(&book->place, path, how & BOOK_NEW))
+        return STATUS_BOOK;
+    int file = place_open(&book->place, O_RDONLY);
+    if (file < 0 && errno == ENOENT && how & BOOK_NEW) {
+        enum status status = how & BOOK_TRY ? STATUS_FINE : begin(book);
+        if (status != STATUS_FINE || how & BOOK_TRY || book->file >= 0)
+            return status;
+        file = place_open(&book->place, O_RDONLY);
+    }
+    return file < 0 ? cannot_open(book) : take_in(book, file);
 }
 
-int book_save(struct book *book)
+enum status book_look(struct book *book, const char *path, unsigned *refusal)
 {
-    if (write_beside(book) && renameat(book->folder, book->beside, book->folder, book->name) == 0 &&
-        fsync(book->folder) == 0)
-        return 1;
-    complain("cannot save", book->name);
-    unlinkat(book->folder, book->beside, 0);
-    return 0;
+    *book = (struct book){.file = -1};
+    if (!place_find(&book->place, path, 0))
+        return STATUS_BOOK;
+    int file = place_open(&book->place, O_RDONLY);
+    return file < 0 ? cannot_open(book) : read_file(book, file, refusal);
 }
 
-enum status book_open(struct book *book, const char *path, int how)
+enum status book_refresh(struct book *book)
+{
+    struct stat now;
+    if (fstatat(book->place.folder, book->place.name, &now, AT_SYMLINK_NOFOLLOW) == 0 &&
+        unchanged(&now, &book->seen))
+        return STATUS_FINE;
+    int file = place_open(&book->place, O_RDONLY);
+    return file < 0 ? cannot_open(book) : take_in(book, file);
+}
+
+static double seconds(void)
+{
+    struct timespec now;
+    clock_gettime(CLOCK_MONOTONIC, &now);
+    return (double)now.tv_sec + (double)now.tv_nsec / 1e9;
+}
+
+/*
+ * The book's file, open for writing and locked, or -1 and the status. A host keeps the lock for the time of a save, so
+ * a wait looks again often.
+ */
+static int open_locked(const struct book *book, enum status *status)
+{
+    const struct timespec moment = {0, 1000000};
+    double end = seconds() + book->wait;
+    *status = STATUS_BOOK;
+    for (;;) {
+        int file = place_open(&book->place, O_RDWR);
+        if (file < 0) {
+            complain("cannot change", book->place.path, "%s", strerror(errno));
+            return -1;
+        }
+        int locked = flock(file, LOCK_EX | LOCK_NB) == 0, error = errno;
+        if (locked && place_holds(&book->place, file))
+            return file;
+        close(file);
+        if (!locked && error != EWOULDBLOCK && error != EINTR) {
+            complain("cannot lock", book->place.path, "%s", strerror(error));
+            return -1;
+        }
+        if (!locked && seconds() >= end) {
+            complain("cannot change", book->place.path, "another program has it");
+            *status = STATUS_BUSY;
+            return -1;
+        }
+        if (!locked)
+            nanosleep(&moment, NULL);
+    }
+}
+
+/* Whether the locked file may be replaced. Root may write any file, but one that nobody may write is meant to stay. */
+static int changeable(struct book *book, int file)
 {
     struct stat status;
-    *book = (struct book){.folder = -1, .lock = -1};
-    if (!open_folder(book, path, how))
+    const char *reason = NULL;
+    if (!book->locked_before)
+        remove_strays(book->place.folder, file);
+    book->locked_before = 1;
+    if (fstat(file, &status) < 0)
+        reason = strerror(errno);
+    else if ((status.st_mode & 0222) == 0)
+        reason = "nobody may write it";
+    else if (status.st_nlink > 1)
+        reason = "it has a second name (hard link), which would keep the old book";
+    if (reason)
+        complain("cannot change", book->place.path, "%s", reason);
+    return !reason;
+}
+
+enum status book_lock(struct book *book)
+{
+    const struct timespec moment = {0, 100000};
+    struct stat now;
+    enum status status;
+    /* A host that makes one change after another leaves the book alone for a moment, so that others get their turn. */
+    if (book->locked_before)
+        nanosleep(&moment, NULL);
+    int file = open_locked(book, &status);
+    if (file < 0)
+        return status;
+    if (!changeable(book, file)) {
+        close(file);
         return STATUS_BOOK;
-    if (!(how & BOOK_ONLY_READ)) {
-        enum status locked = take_lock(book);
-        if (locked != STATUS_FINE)
-            return locked;
     }
-    if (!(how & BOOK_NEW) || fstatat(book->folder, book->name, &status, 0) == 0 || errno != ENOENT)
-        return load(book);
-    return how & BOOK_ONLY_READ || book_save(book) ? STATUS_FINE : STATUS_FAILED;
+    if (fstat(file, &now) < 0 || !unchanged(&now, &book->seen))
+        return take_in(book, file);
+    hold(book, file);
+    return STATUS_FINE;
+}
+
+void book_release(struct book *book)
+{
+    flock(book->file, LOCK_UN);
+}
+
+enum status book_save(struct book *book)
+{
+    sigset_t all, before;
+    sigfillset(&all);
+    sigprocmask(SIG_BLOCK, &all, &before); /* an interrupt ends the host between two saves and leaves no draft */
+    int file = save_over(&book->place, book->file, book->table), error = errno;
+    sigprocmask(SIG_SETMASK, &before, NULL);
+    if (file < 0) {
+        complain("cannot save", book->place.path, "%s",
+                 error == ESTALE ? "another program has put another file in its place" : strerror(error));
+        return STATUS_FAILED;
+    }
+    fstat(file, &book->seen);
+    hold(book, file);
+    return STATUS_FINE;
 }
 
 void book_close(struct book *book)
 {
-    if (book->lock >= 0)
-        close(book->lock);
-    if (book->folder >= 0)
-        close(book->folder);
-    free(book->name);
-    free(book->beside);
+    if (book->file >= 0)
+        close(book->file);
+    place_leave(&book->place);
 }

@@ -1,31 +1,40 @@
-/* A table kept in a file: taken in whole, saved whole, used by one host at a time. */
+/* A table kept in a file: taken in whole, saved whole, changed by one host at a time, read by any number. */
 #ifndef BOOK_H
 #define BOOK_H
 
+#include "place.h"
 #include "scalebench.h"
 #include "status.h"
 
-#include <sys/types.h>
+#include <sys/stat.h>
 
 struct book {
     uint8_t table[SCALEBENCH_TABLE_BYTES];
-    char *name;   /* within the folder */
-    char *beside; /* where a save writes before it takes the book's place */
-    int folder, lock;
-    mode_t mode; /* of the file, kept by a save; 0 where there was none */
+    struct place place;
+    int file;          /* the file that the table was read from or saved to; -1 if there is none */
+    struct stat seen;  /* that file as it was then */
+    unsigned wait;     /* how many seconds to wait for another host */
+    int locked_before; /* by this host */
 };
 
-/* A missing book is begun, as the empty table. The book is only read: it is neither locked nor written. */
-enum { BOOK_NEW = 1, BOOK_ONLY_READ = 2 };
+/* A missing book is begun, as the empty table. The book is only tried: it is read once and not written. */
+enum { BOOK_NEW = 1, BOOK_TRY = 2 };
 
-/* Opens the book at a path and takes it in. What goes wrong is told on standard error. */
-enum status book_open(struct book *book, const char *path, int how);
+/* Opens the book at a path and takes it in. Whatever fails here and below is reported on standard error. */
+enum status book_open(struct book *book, const char *path, int how, unsigned wait);
 
-/*
- * Puts the table into the file; 0 if that fails, which is told on standard error. Whenever the host or the machine
- * stops, the file has either all bytes of before or all of the table.
- */
-int book_save(struct book *book);
+/* Opens the book and reads it; `refusal` is intake's, 0 if the table is sound, and is not reported. */
+enum status book_look(struct book *book, const char *path, unsigned *refusal);
+
+/* Takes in the book as it is now, if another program has saved it since. */
+enum status book_refresh(struct book *book);
+
+/* Takes in the book as it is now, and keeps other hosts from changing it until it is released. */
+enum status book_lock(struct book *book);
+void book_release(struct book *book);
+
+/* Puts the table into the file of a locked book. */
+enum status book_save(struct book *book);
 
 void book_close(struct book *book);
 

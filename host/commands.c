@@ -3,93 +3,110 @@
 
 #include "commands.h"
 
+#include "message.h"
+#include "output.h"
+
 #include <errno.h>
 #include <string.h>
+#include <unistd.h>
 
-static void explain(unsigned long number, const char *reason)
+static enum status refused(const struct session *session, unsigned long number, unsigned refusal)
 {
-    fprintf(stderr, "scalebench: line %lu: %s\n", number, reason);
-}
-
-static enum status refused(unsigned long number, unsigned refusal)
-{
-    printf("%lu refused %u\n", number, refusal);
-    explain(number, scalebench_reason(refusal));
+    output(session->quiet, "%lu refused %u\n", number, refusal);
+    explain("%s", scalebench_reason(refusal));
     return STATUS_REFUSED;
 }
 
-static enum status ask(struct book *book, unsigned long number, const uint8_t *tree, size_t length)
+static enum status ask(const struct session *session, unsigned long number, const uint8_t *tree, size_t length)
 {
+    struct book *book = session->book;
+    enum status status = session->dry_run || session->batch ? STATUS_FINE : book_refresh(book);
+    if (status != STATUS_FINE)
+        return status;
     uint64_t answer = scalebench_ask(tree, length, book->table, sizeof book->table);
     if (scalebench_refusal(answer))
-        return refused(number, scalebench_refusal(answer));
-    printf("%lu %s\n", number, scalebench_approved(answer) ? "approved" : "not");
-    return STATUS_FINE;
+        return refused(session, number, scalebench_refusal(answer));
+    int approved = scalebench_approved(answer);
+    output(session->quiet, "%lu %s\n", number, approved ? "approved" : "not");
+    return approved ? STATUS_FINE : STATUS_NOT;
 }
 
-static enum status change(struct book *book, unsigned long number, unsigned kind, const uint8_t *tree, size_t length,
-                          int dry_run)
+/* The change in memory alone. */
+static uint64_t apply(struct book *book, unsigned kind, const uint8_t *tree, size_t length)
 {
     static uint8_t scratch[SCALEBENCH_SCRATCH_BYTES];
-    uint64_t answer =
-        kind == SCALEBENCH_ADD
-            ? scalebench_add(tree, length, book->table, sizeof book->table, scratch, sizeof scratch)
-            : scalebench_remove(tree, length, book->table, sizeof book->table, scratch, sizeof scratch);
-    if (scalebench_refusal(answer))
-        return refused(number, scalebench_refusal(answer));
-    if (!dry_run && !book_save(book))
-        return STATUS_FAILED;
-    printf("%lu done %u %u\n", number, scalebench_states(answer), scalebench_transitions(answer));
-    return STATUS_FINE;
+    return kind == SCALEBENCH_ADD
+               ? scalebench_add(tree, length, book->table, sizeof book->table, scratch, sizeof scratch)
+               : scalebench_remove(tree, length, book->table, sizeof book->table, scratch, sizeof scratch);
 }
 
-static enum status carry_out(struct book *book, unsigned long number, const uint8_t *line, size_t length, int dry_run)
+/* The lock is held for one change, so that two people may have one book open. */
+static enum status change(const struct session *session, unsigned long number, unsigned kind, const uint8_t *tree,
+                          size_t length)
+{
+    struct book *book = session->book;
+    int alone = !session->dry_run && !session->batch;
+    enum status status = alone ? book_lock(book) : STATUS_FINE;
+    if (status != STATUS_FINE)
+        return status;
+    uint64_t answer = apply(book, kind, tree, length);
+    unsigned refusal = scalebench_refusal(answer);
+    if (alone && !refusal)
+        status = book_save(book);
+    if (alone)
+        book_release(book);
+    if (refusal)
+        return refused(session, number, refusal);
+    if (status == STATUS_FINE)
+        output(session->quiet || session->batch, "%lu done %u %u\n", number, scalebench_states(answer),
+               scalebench_transitions(answer));
+    return status;
+}
+
+static enum status carry_out(const struct session *session, unsigned long number, const uint8_t *line, size_t length)
 {
     uint8_t tree[SCALEBENCH_READ_BYTES];
     uint64_t read = scalebench_read(line, length, tree, sizeof tree);
+    message_line(number);
     switch (scalebench_kind(read)) {
     case SCALEBENCH_ADD:
     case SCALEBENCH_DROP:
-        return change(book, number, scalebench_kind(read), tree, scalebench_length(read), dry_run);
+        return change(session, number, scalebench_kind(read), tree, scalebench_length(read));
     case SCALEBENCH_ASK:
-        return ask(book, number, tree, scalebench_length(read));
+        return ask(session, number, tree, scalebench_length(read));
     case SCALEBENCH_FORM:
-        printf("%lu form %u\n", number, scalebench_column(read));
-        explain(number, "not (add TREE), (drop TREE) or (ask TREE) from this column on");
+        output(session->quiet, "%lu form %u\n", number, scalebench_column(read));
+        explain("not (add TREE), (drop TREE) or (ask TREE) from column %u on", scalebench_column(read));
         return STATUS_REFUSED;
     default:
-        printf("%lu long\n", number);
-        explain(number, "above 512 bytes");
+        output(session->quiet, "%lu long\n", number);
+        explain("above %d bytes", SCALEBENCH_LINE_BYTES);
         return STATUS_REFUSED;
     }
 }
 
-/* Whether all that was printed is written. */
-static int written(void)
+static int stops(enum status status)
 {
-    if (fflush(stdout) == 0)
-        return 1;
-    fprintf(stderr, "scalebench: cannot write the output: %s\n", strerror(errno));
-    return 0;
+    return status == STATUS_BOOK || status == STATUS_BUSY || status == STATUS_FAILED;
 }
 
 /* The end line, and the status in which nothing that went wrong is forgotten. */
-static enum status finish(struct book *book, unsigned long lines, enum status worst)
+static enum status finish(const struct session *session, unsigned long lines, enum status worst)
 {
-    uint64_t answer = scalebench_intake(book->table, sizeof book->table);
-    printf("end %lu %u %u\n", lines, scalebench_states(answer), scalebench_transitions(answer));
+    uint64_t answer = scalebench_intake(session->book->table, sizeof session->book->table);
+    output(session->quiet, "end %lu %u %u\n", lines, scalebench_states(answer), scalebench_transitions(answer));
     return written() ? worst : STATUS_FAILED;
 }
 
-enum status carry_out_line(struct book *book, const char *line, int dry_run)
+enum status carry_out_line(const struct session *session, const char *line)
 {
-    enum status status = carry_out(book, 1, (const uint8_t *)line, strlen(line), dry_run);
-    return status == STATUS_FAILED ? status : finish(book, 1, status);
+    enum status status = carry_out(session, 1, (const uint8_t *)line, strlen(line));
+    return stops(status) ? status : finish(session, 1, status);
 }
 
 /*
- * Reads a line without its end; false where none is left. Of a line that is too long only as many bytes are kept as
- * show that it is.
+ * Reads a line without its end; false if none is left. Of a line that is too long only as many bytes are kept as show
+ * that it is.
  */
 static int next_line(FILE *input, uint8_t *line, size_t *length)
 {
@@ -103,22 +120,71 @@ static int next_line(FILE *input, uint8_t *line, size_t *length)
     return 1;
 }
 
-enum status carry_out_all(struct book *book, FILE *input, int dry_run)
+/* What came of an input. */
+struct tally {
+    unsigned long lines, refused;
+    int unread; /* reading failed before its end */
+};
+
+/* Carries out every line. A status other than fine ends the host at that line. */
+static enum status each_line(const struct session *session, FILE *input, struct tally *tally)
 {
     uint8_t line[SCALEBENCH_LINE_BYTES + 1];
     size_t length;
-    unsigned long lines = 0;
-    enum status worst = STATUS_FINE;
+    int counted = session->batch && !session->quiet && isatty(STDERR_FILENO);
     while (next_line(input, line, &length)) {
-        enum status status = carry_out(book, ++lines, line, length, dry_run);
+        enum status status = carry_out(session, ++tally->lines, line, length);
+        if (stops(status))
+            return status;
         /* Whoever waits for a line's answer has it before the next line is read. */
-        if (status == STATUS_FAILED || !written())
+        if (!session->batch && !written())
             return STATUS_FAILED;
-        worst = status > worst ? status : worst;
+        tally->refused += status == STATUS_REFUSED;
+        if (counted && tally->lines % 100 == 0)
+            show_count(tally->lines);
     }
-    if (ferror(input)) {
-        fprintf(stderr, "scalebench: cannot read the input: %s\n", strerror(errno));
-        worst = STATUS_FAILED;
+    message_line(0);
+    tally->unread = ferror(input);
+    if (tally->unread)
+        explain("cannot read the input: %s", strerror(errno));
+    if (counted)
+        show_count(tally->lines);
+    end_count();
+    return STATUS_FINE;
+}
+
+static enum status worst(const struct tally *tally)
+{
+    return tally->unread ? STATUS_FAILED : tally->refused > 0 ? STATUS_REFUSED : STATUS_FINE;
+}
+
+enum status carry_out_all(const struct session *session, FILE *input)
+{
+    struct tally tally = {0};
+    enum status status = each_line(session, input, &tally);
+    return status != STATUS_FINE ? status : finish(session, tally.lines, worst(&tally));
+}
+
+enum status carry_out_batch(const struct session *session, FILE *input)
+{
+    static uint8_t before[SCALEBENCH_TABLE_BYTES];
+    struct book *book = session->book;
+    struct tally tally = {0};
+    enum status status = session->dry_run ? STATUS_FINE : book_lock(book);
+    if (status != STATUS_FINE)
+        return status;
+    memcpy(before, book->table, sizeof before);
+    status = each_line(session, input, &tally);
+    if (status == STATUS_FINE && !written())
+        status = STATUS_FAILED;
+    if (status != STATUS_FINE)
+        return status;
+    if (worst(&tally) != STATUS_FINE) {
+        explain("nothing is saved: %lu of %lu lines refused", tally.refused, tally.lines);
+        memcpy(book->table, before, sizeof before);
+    } else if (!session->dry_run && memcmp(before, book->table, sizeof before) != 0) {
+        message_line(tally.lines);
+        status = book_save(book);
     }
-    return finish(book, lines, worst);
+    return status != STATUS_FINE ? status : finish(session, tally.lines, worst(&tally));
 }

@@ -6,11 +6,19 @@
 
 #include <stdio.h>
 
+struct session {
+    struct book *book;
+    int dry_run; /* changes stay in memory */
+    int batch;   /* changes stay in memory until all are saved at once */
+    int quiet;   /* nothing is printed on standard output */
+};
+
 /*
- * Carries out one line, or every line of an input, and prints what came of each, then the end line. Reasons go to
- * standard error. Each change is in the file before its line is printed, unless the book is only tried.
+ * Carries out one line, every line of an input, or every line of an input as one change, and prints what came of each,
+ * then the end line. Reasons go to standard error. What is printed as done is in the file, except in a dry run.
  */
-enum status carry_out_line(struct book *book, const char *line, int dry_run);
-enum status carry_out_all(struct book *book, FILE *input, int dry_run);
+enum status carry_out_line(const struct session *session, const char *line);
+enum status carry_out_all(const struct session *session, FILE *input);
+enum status carry_out_batch(const struct session *session, FILE *input);
 
 #endif

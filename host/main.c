@@ -1,85 +1,64 @@
-/* The command line of the host. */
-#include "commands.h"
+/* The host: a book, and commands carried out on it. */
+#define _GNU_SOURCE
 
+#include "commands.h"
+#include "message.h"
+#include "options.h"
+#include "output.h"
+#include "upkeep.h"
+
+#include <errno.h>
+#include <fcntl.h>
+#include <locale.h>
+#include <signal.h>
 #include <string.h>
 
-static const char help[] =
-    "usage: scalebench [--new] [--dry-run] BOOK [COMMAND]\n"
-    "\n"
-    "Keeps approved assemblies in the file BOOK. COMMAND, or each line of standard input, is one of\n"
-    "    (add TREE)   (drop TREE)   (ask TREE)\n"
-    "where TREE is a label from 1 to 255 with its child trees behind it in brackets, as in (1 (1) (2)).\n"
-    "Prints for each line its number and one of\n"
-    "    done STATES TRANSITIONS   approved   not   refused NUMBER   form COLUMN   long\n"
-    "and at the end: end LINES STATES TRANSITIONS. Reasons in words go to standard error. Each change is in the\n"
-    "file before its line is printed; whenever the host is stopped, BOOK has all of a change or nothing of it.\n"
-    "\n"
-    "  --new      begin an empty BOOK if there is none\n"
-    "  --dry-run  carry out the commands without saving; BOOK is not locked\n"
-    "  --help     print this\n"
-    "  --         no options follow\n"
-    "\n"
-    "Beside BOOK stand BOOK.lock, so that two hosts never have one book, and BOOK.new while it is saved.\n"
-    "\n"
-    "exit status\n"
-    "  0  every line was carried out or answered\n"
-    "  1  some line was refused, malformed or too long; the others were carried out\n"
-    "  2  the command line is wrong\n"
-    "  3  BOOK is missing, cannot be read, or is damaged\n"
-    "  4  another host has BOOK\n"
-    "  5  BOOK could not be saved, or input or output failed; lines printed before that are saved\n";
-
-struct options {
-    const char *book, *command;
-    int how, help;
-};
-
-/* Whether the arguments are right; what is wrong is told on standard error. */
-static int read_options(int count, char **arguments, struct options *options)
+/*
+ * A closed descriptor 0, 1 or 2 would be the next file that is opened, and answers would go into it. What stands there
+ * instead can be neither read nor written, so that its use fails as that of a closed one does.
+ */
+static int fill_descriptors(void)
 {
-    int ended = 0;
-    for (int i = 1; i < count; i++) {
-        const char *argument = arguments[i];
-        if (ended || strncmp(argument, "-", 1) != 0) {
-            const char **place = options->book ? &options->command : &options->book;
-            if (*place) {
-                fprintf(stderr, "scalebench: too many arguments: %s\n", argument);
-                return 0;
-            }
-            *place = argument;
-        } else if (strcmp(argument, "--") == 0) {
-            ended = 1;
-        } else if (strcmp(argument, "--new") == 0) {
-            options->how |= BOOK_NEW;
-        } else if (strcmp(argument, "--dry-run") == 0) {
-            options->how |= BOOK_ONLY_READ;
-        } else if (strcmp(argument, "--help") == 0) {
-            options->help = 1;
-        } else {
-            fprintf(stderr, "scalebench: unknown option: %s\n", argument);
+    for (int descriptor = 0; descriptor <= 2; descriptor++)
+        if (fcntl(descriptor, F_GETFD) < 0 && open("/", O_PATH) != descriptor)
             return 0;
-        }
-    }
-    if (!options->book && !options->help)
-        fprintf(stderr, "scalebench: no book named\n");
-    return options->book || options->help;
+    return 1;
+}
+
+static enum status carry_out_options(struct book *book, const struct options *options)
+{
+    const struct session session = {book, options->dry_run, options->batch, options->quiet};
+    int how = (options->begin ? BOOK_NEW : 0) | (options->dry_run ? BOOK_TRY : 0);
+    enum status status = book_open(book, options->book, how, options->wait);
+    if (status != STATUS_FINE)
+        return status;
+    if (options->command)
+        return carry_out_line(&session, options->command);
+    return options->batch ? carry_out_batch(&session, stdin) : carry_out_all(&session, stdin);
 }
 
 int main(int count, char **arguments)
 {
-    struct options options = {0};
-    static struct book book;
+    struct options options;
+    static struct book book = {.file = -1, .place = {.folder = -1}};
+    enum status status = STATUS_FINE;
+    if (!fill_descriptors())
+        return STATUS_FAILED;
+    setlocale(LC_CTYPE, ""); /* which characters of a name can be printed */
+    signal(SIGXFSZ, SIG_IGN); /* a limit on the size of files is an error of the save and does not end the host */
     if (!read_options(count, arguments, &options)) {
-        fprintf(stderr, "scalebench --help tells more\n");
+        explain("--help shows how to use it");
         return STATUS_USAGE;
     }
-    if (options.help)
-        return fputs(help, stdout) < 0 || fflush(stdout) != 0 ? STATUS_FAILED : STATUS_FINE;
-    int dry_run = options.how & BOOK_ONLY_READ;
-    enum status status = book_open(&book, options.book, options.how);
-    if (status == STATUS_FINE)
-        status = options.command ? carry_out_line(&book, options.command, dry_run)
-                                 : carry_out_all(&book, stdin, dry_run);
+    if (options.help || options.version) {
+        output(0, "%s", options.help ? help : "scalebench " SCALEBENCH_VERSION "\n");
+        status = written() ? STATUS_FINE : STATUS_FAILED;
+    } else if (options.check)
+        status = check_book(&book, options.book, options.quiet);
+    else if (options.backup)
+        status = back_up(&book, options.book, options.backup);
+    else
+        status = carry_out_options(&book, &options);
     book_close(&book);
     return (int)status;
 }

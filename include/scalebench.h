@@ -6,14 +6,15 @@
  * set is all zeros. The same set always has the same table, byte for byte.
  *
  * Every call may be handed any bytes of any length: it checks all that it is given and answers with the first
- * condition that is broken. A pointer may be NULL where its length is 0.
+ * condition that is broken. A pointer may be NULL if its length is 0.
  *
  * Aliasing. What a call writes (table and scratch of add and remove, the listing of read) shares no byte with anything
  * else that the call gets, and nobody else writes to what a call is given while it runs. Two things that a call only
  * reads may overlap.
  *
- * Threads. The library has no state of its own and takes no memory but less than 256 KiB of stack. Calls on different
- * tables may run at the same time; so may ask and intake on one table while nobody changes it.
+ * Threads. The library has no state of its own and takes no memory but stack; SCALEBENCH_CHANGE_STACK_BYTES and the
+ * like below say how much. Calls on different tables may run at the same time; so may ask and intake on one table
+ * while nobody changes it.
  *
  * A whole program. It prints "approved, 2 states, 2 transitions".
  *
@@ -44,7 +45,13 @@
 
 #ifdef __cplusplus
 extern "C" {
+#define SCALEBENCH_AS(type, number) static_cast<type>(number)
+#else
+#define SCALEBENCH_AS(type, number) ((type)(number))
 #endif
+
+/* The version of the library, of this header and of the host. */
+#define SCALEBENCH_VERSION "0.2.0"
 
 /* The lengths that a table and a scratch must have, and the greatest length of a listing for ask, add and remove. */
 #define SCALEBENCH_TABLE_BYTES 11467
@@ -54,6 +61,14 @@ extern "C" {
 /* The length that the listing lent to read must have, and the greatest length of a line. */
 #define SCALEBENCH_READ_BYTES 252
 #define SCALEBENCH_LINE_BYTES 512
+
+/*
+ * The stack that a call takes at most: add and remove; ask and intake; read. Measured on x86-64 (160, 79 and 41 KiB)
+ * and rounded up by about a fifth. tests/stack.c makes the calls on stacks of these sizes.
+ */
+#define SCALEBENCH_CHANGE_STACK_BYTES 196608
+#define SCALEBENCH_ASK_STACK_BYTES 98304
+#define SCALEBENCH_READ_STACK_BYTES 49152
 
 /* Whether the tree is approved. Refuses by 1 to 5 and 7 to 13. Writes nothing. */
 uint64_t scalebench_ask(const uint8_t *tree, size_t tree_len, const uint8_t *table, size_t table_len);
@@ -78,10 +93,10 @@ uint64_t scalebench_remove(const uint8_t *tree, size_t tree_len, uint8_t *table,
                            size_t scratch_len);
 
 /*
- * Reads one line of text, without its end: (add TREE), (drop TREE) or (ask TREE), where TREE is a label in decimal with
- * its child trees behind it in brackets, as in (1 (1) (2)). The kind of the answer is one of those below. The listing
- * of the line's tree goes to the start of `listing`, with zeros behind it; all zeros where the line has no listing. It
- * may break the conditions of the calls (label 0, nine children, more than 48 nodes), which then refuse it.
+ * Reads one line of text, without its end: (add TREE), (drop TREE) or (ask TREE). TREE is a label in decimal with its
+ * child trees after it, in brackets, as in (1 (1) (2)). The kind of the answer is one of those below. The listing of
+ * the line's tree goes to the start of `listing`, with zeros after it; all zeros if the line has no listing. It may
+ * break the conditions of the calls (label 0, nine children, more than 48 nodes), which then refuse it.
  */
 uint64_t scalebench_read(const uint8_t *line, size_t line_len, uint8_t *listing, size_t listing_len);
 
@@ -98,19 +113,19 @@ enum {
  * The number that a call returns is refusal + 256 * kind + 65536 * first + 4294967296 * second. A refused call returns
  * the number of the refusal and nothing else; 0 is no refusal.
  */
-static inline unsigned scalebench_refusal(uint64_t answer) { return (unsigned)(answer & 255); }
-static inline unsigned scalebench_kind(uint64_t answer) { return (unsigned)(answer >> 8 & 255); }
+static inline unsigned scalebench_refusal(uint64_t answer) { return SCALEBENCH_AS(unsigned, answer & 255); }
+static inline unsigned scalebench_kind(uint64_t answer) { return SCALEBENCH_AS(unsigned, answer >> 8 & 255); }
 
 /* Of ask: whether the tree is approved. */
 static inline int scalebench_approved(uint64_t answer) { return scalebench_kind(answer) == 1; }
 
 /* Of intake, add and remove, not refused: the numbers of states and of transitions that the table has now. */
-static inline unsigned scalebench_states(uint64_t answer) { return (unsigned)(answer >> 16 & 65535); }
-static inline unsigned scalebench_transitions(uint64_t answer) { return (unsigned)(answer >> 32); }
+static inline unsigned scalebench_states(uint64_t answer) { return SCALEBENCH_AS(unsigned, answer >> 16 & 65535); }
+static inline unsigned scalebench_transitions(uint64_t answer) { return SCALEBENCH_AS(unsigned, answer >> 32); }
 
 /* Of read: the length of the listing; the column, from 1, of the first byte that no well-formed line has there. */
-static inline size_t scalebench_length(uint64_t answer) { return (size_t)(answer >> 16 & 65535); }
-static inline unsigned scalebench_column(uint64_t answer) { return (unsigned)(answer >> 16 & 65535); }
+static inline size_t scalebench_length(uint64_t answer) { return SCALEBENCH_AS(unsigned, answer >> 16 & 65535); }
+static inline unsigned scalebench_column(uint64_t answer) { return SCALEBENCH_AS(unsigned, answer >> 16 & 65535); }
 
 /*
  * A refusal in words. Each condition is checked over its whole input before the next, so that the number returned is
@@ -141,6 +156,7 @@ static inline const char *scalebench_reason(unsigned refusal)
     return refusal < sizeof reasons / sizeof reasons[0] ? reasons[refusal] : "no such refusal";
 }
 
+#undef SCALEBENCH_AS
 #ifdef __cplusplus
 }
 #endif

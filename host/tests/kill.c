@@ -1,153 +1,216 @@
 /*
- * kill HOST BOOK: 200 changes on an empty book by a host that is killed again and again at random moments. After each
- * kill the book is, byte for byte, the table after the changes that the host told as done, or after one more. The exit
- * status is 0 where that held of at least 20 kills.
+ * kill HOST KILLS: two hosts change one book at the same time and are killed at random moments, again and again. When
+ * both are dead the book is, byte for byte, the table after the changes that each reported as done, or after one more
+ * of each; a draft left beside it cannot be read by others unless it is whole, and the next hosts remove it.
  */
 #define _XOPEN_SOURCE 700
 
 #include "scalebench.h"
 
+#include <dirent.h>
+#include <fcntl.h>
 #include <signal.h>
 #include <stdio.h>
 #include <stdlib.h>
 #include <string.h>
+#include <sys/stat.h>
 #include <sys/wait.h>
 #include <time.h>
 #include <unistd.h>
 
-enum { CHANGES = 200, TABLE = SCALEBENCH_TABLE_BYTES };
+enum { HOSTS = 2, CYCLE = 100, LINES = 1000, TABLE = SCALEBENCH_TABLE_BYTES };
 
-static uint8_t tables[CHANGES + 1][TABLE];
+struct host {
+    pid_t process;
+    FILE *answers;
+    unsigned done; /* changes that the book has */
+    unsigned told; /* changes reported as done since */
+};
 
-/* Change k: mostly new trees, and every fifth the one before taken out again. */
-static void tree_of(unsigned k, unsigned *label, unsigned *child)
+static struct host hosts[HOSTS];
+static uint8_t expected[TABLE]; /* the book with the changes of `done` */
+static unsigned passed, failed;
+
+static void check(int fine, const char *what)
 {
-    unsigned n = k % 5 == 4 ? k - 1 : k;
-    *label = 1 + n % 20;
-    *child = 1 + n / 20;
+    passed += fine != 0;
+    failed += fine == 0;
+    if (!fine)
+        printf("after %u and %u changes: %s\n", hosts[0].done + hosts[0].told, hosts[1].done + hosts[1].told, what);
 }
 
-static void work_out_tables(void)
+static void stop(const char *what)
+{
+    perror(what);
+    exit(1);
+}
+
+/* Change k of a host: fifty trees that no other host has are put in, then taken out, and so on. */
+static int drops(unsigned k) { return k % CYCLE >= CYCLE / 2; }
+static unsigned child(unsigned k) { return 1 + k % (CYCLE / 2); }
+static unsigned label(unsigned host) { return 200 + host; }
+
+static void apply(uint8_t *table, unsigned host, unsigned k)
 {
     static uint8_t scratch[SCALEBENCH_SCRATCH_BYTES];
-    for (unsigned k = 0; k < CHANGES; k++) {
-        unsigned label, child;
-        tree_of(k, &label, &child);
-        const uint8_t tree[] = {(uint8_t)label, 1, (uint8_t)child, 0};
-        memcpy(tables[k + 1], tables[k], TABLE);
-        uint64_t answer = (k % 5 == 4 ? scalebench_remove : scalebench_add)(tree, sizeof tree, tables[k + 1], TABLE,
-                                                                          scratch, sizeof scratch);
-        if (scalebench_refusal(answer)) {
-            printf("change %u is refused: %s\n", k, scalebench_reason(scalebench_refusal(answer)));
-            exit(1);
-        }
-    }
+    const uint8_t tree[] = {(uint8_t)label(host), 1, (uint8_t)child(k), 0};
+    uint64_t answer = (drops(k) ? scalebench_remove : scalebench_add)(tree, sizeof tree, table, TABLE, scratch,
+                                                                      sizeof scratch);
+    if (scalebench_refusal(answer))
+        stop(scalebench_reason(scalebench_refusal(answer)));
 }
 
-/* The changes from k on, as lines; all of them fit into a pipe. */
-static void write_changes(int pipe, unsigned k)
+/* The next changes as lines, all of which fit into a pipe. */
+static void write_changes(int pipe, unsigned host, unsigned k)
 {
     FILE *lines = fdopen(pipe, "w");
-    for (; lines && k < CHANGES; k++) {
-        unsigned label, child;
-        tree_of(k, &label, &child);
-        fprintf(lines, "(%s (%u (%u)))\n", k % 5 == 4 ? "drop" : "add", label, child);
-    }
-    if (!lines || fclose(lines) != 0) {
-        perror("changes");
-        exit(1);
-    }
+    for (unsigned end = k + LINES; lines && k < end; k++)
+        fprintf(lines, "(%s (%u (%u)))\n", drops(k) ? "drop" : "add", label(host), child(k));
+    if (!lines || fclose(lines) != 0)
+        stop("changes");
 }
 
-static pid_t start(const char *host, const char *book, int *input, int *output)
+static void start(const char *program, unsigned number)
 {
     int to[2], from[2];
-    if (pipe(to) != 0 || pipe(from) != 0) {
-        perror("pipe");
-        exit(1);
-    }
-    pid_t child = fork();
-    if (child == 0) {
+    if (pipe(to) != 0 || pipe(from) != 0)
+        stop("pipe");
+    pid_t process = fork();
+    if (process == 0) {
         dup2(to[0], 0);
         dup2(from[1], 1);
         close(to[0]), close(to[1]), close(from[0]), close(from[1]);
-        execl(host, host, book, (char *)NULL);
+        execl(program, program, "--wait", "60", "book", (char *)NULL);
         _exit(127);
     }
     close(to[0]);
     close(from[1]);
-    *input = to[1];
-    *output = from[0];
-    return child;
+    fcntl(from[0], F_SETFD, FD_CLOEXEC);
+    hosts[number].process = process;
+    hosts[number].answers = fdopen(from[0], "r");
+    write_changes(to[1], number, hosts[number].done);
 }
 
-/* Waits until the host told so many changes as done, and a moment longer; kills it. How many it told. */
-static unsigned kill_after(pid_t child, int output, unsigned wanted, int *killed)
+static int next_answer(struct host *host)
 {
-    FILE *answers = fdopen(output, "r");
     char line[64];
-    unsigned told = 0;
-    struct timespec moment = {0, rand() % 2000000};
-    while (told < wanted && fgets(line, sizeof line, answers))
-        told += strstr(line, " done ") != NULL;
-    nanosleep(&moment, NULL);
-    kill(child, SIGKILL);
-    while (fgets(line, sizeof line, answers))
-        told += strstr(line, " done ") != NULL && strchr(line, '\n');
-    fclose(answers);
-    int status;
-    waitpid(child, &status, 0);
-    *killed = WIFSIGNALED(status) && WTERMSIG(status) == SIGKILL;
-    return told;
+    if (!fgets(line, sizeof line, host->answers))
+        return 0;
+    host->told += strstr(line, " done ") && strchr(line, '\n');
+    return 1;
 }
 
-/* The number of changes that the book has, or -1 where it is no table of the series. */
-static int changes_in(const char *book, unsigned from, unsigned to)
+/* Kills a host a moment after it has reported so many changes. */
+static void kill_after(struct host *host, unsigned wanted)
 {
-    static uint8_t bytes[TABLE + 1];
-    FILE *file = fopen(book, "rb");
-    size_t length = file ? fread(bytes, 1, sizeof bytes, file) : 0;
+    const struct timespec moment = {0, rand() % 1000000};
+    int status;
+    while (host->told < wanted && next_answer(host))
+        ;
+    nanosleep(&moment, NULL);
+    kill(host->process, SIGKILL);
+    while (next_answer(host))
+        ;
+    fclose(host->answers);
+    waitpid(host->process, &status, 0);
+    check(WIFSIGNALED(status) && WTERMSIG(status) == SIGKILL, "a host ended by itself");
+}
+
+static size_t read_file(const char *name, uint8_t *bytes, size_t room)
+{
+    FILE *file = fopen(name, "rb");
+    size_t length = file ? fread(bytes, 1, room, file) : 0;
     if (file)
         fclose(file);
-    if (scalebench_refusal(scalebench_intake(bytes, length)))
-        return -1;
-    for (unsigned k = from; k <= to && k <= CHANGES; k++)
-        if (memcmp(bytes, tables[k], TABLE) == 0)
-            return (int)k;
-    return -1;
+    return length;
 }
 
-/* Whether the kill left a file that was being written beside the book; it is in nobody's way. */
-static unsigned half_saved(const char *book)
+/* Whether the book has the changes reported, and those of `more`, a bit for each host. */
+static int book_has(const uint8_t *book, unsigned more)
 {
-    char beside[4096];
-    snprintf(beside, sizeof beside, "%s.new", book);
-    return access(beside, F_OK) == 0;
+    uint8_t table[TABLE];
+    memcpy(table, expected, TABLE);
+    for (unsigned h = 0; h < HOSTS; h++)
+        if (more >> h & 1)
+            apply(table, h, hosts[h].done);
+    return memcmp(book, table, TABLE) == 0;
+}
+
+/* Looks at the book that both hosts have left. How many changes it has that were not reported. */
+static unsigned look(void)
+{
+    uint8_t book[TABLE + 1];
+    struct stat status;
+    size_t length = read_file("book", book, sizeof book);
+    unsigned more = 0;
+    for (unsigned h = 0; h < HOSTS; h++)
+        for (; hosts[h].told > 0; hosts[h].told--)
+            apply(expected, h, hosts[h].done++);
+    while (length == TABLE && more < 1 << HOSTS && !book_has(book, more))
+        more++;
+    check(length == TABLE && more < 1 << HOSTS, "the book has not the changes reported as done");
+    check(stat("book", &status) == 0 && (status.st_mode & 0777) == 0640, "the book has another mode");
+    for (unsigned h = 0; h < HOSTS && more < 1 << HOSTS; h++)
+        if (more >> h & 1)
+            apply(expected, h, hosts[h].done++);
+    return more % 2 + more / 2;
+}
+
+/* How many files stand beside the book. */
+static unsigned drafts(void)
+{
+    uint8_t bytes[TABLE + 1];
+    struct stat status;
+    struct dirent *entry;
+    unsigned count = 0;
+    DIR *entries = opendir(".");
+    while (entries && (entry = readdir(entries))) {
+        if (strcmp(entry->d_name, "book") == 0 || strcmp(entry->d_name, ".") == 0 || strcmp(entry->d_name, "..") == 0)
+            continue;
+        count++;
+        int found = stat(entry->d_name, &status) == 0;
+        int whole = !scalebench_refusal(scalebench_intake(bytes, read_file(entry->d_name, bytes, sizeof bytes)));
+        check(found && ((status.st_mode & 0777) == 0600 || whole), "others may read a draft that is not whole");
+    }
+    if (entries)
+        closedir(entries);
+    return count;
+}
+
+/* A host that is not killed, with one command. */
+static int one_command(const char *program, const char *option, const char *command)
+{
+    int status;
+    pid_t process = fork();
+    if (process == 0) {
+        execl(program, program, "--quiet", option, "book", command, (char *)NULL);
+        _exit(127);
+    }
+    return waitpid(process, &status, 0) == process && WIFEXITED(status) && WEXITSTATUS(status) == 0;
 }
 
 int main(int count, char **arguments)
 {
-    unsigned done = 0, kills = 0, ahead = 0, within = 0;
-    int failed = 0;
-    if (count != 3)
+    char folder[] = "/tmp/scalebench-kill-XXXXXX";
+    unsigned within = 0, ahead = 0, kills = count == 3 ? (unsigned)atoi(arguments[2]) : 0;
+    const char *program = arguments[1];
+    if (kills == 0 || !mkdtemp(folder) || chdir(folder) != 0)
         return 2;
-    work_out_tables();
-    while (done < CHANGES && !failed) {
-        int input, output, killed;
-        pid_t child = start(arguments[1], arguments[2], &input, &output);
-        write_changes(input, done);
-        unsigned told = kill_after(child, output, (unsigned)rand() % 4, &killed);
-        int now = changes_in(arguments[2], done + told, done + told + 1);
-        if (now < 0) {
-            printf("after %u changes told: no table of the series\n", done + told);
-            failed = 1;
-        } else {
-            ahead += (unsigned)now > done + told;
-            done = (unsigned)now;
-        }
-        within += half_saved(arguments[2]);
-        kills += (unsigned)killed;
+    alarm(600); /* a host that hangs */
+    check(one_command(program, "--new", "(ask (1))") == 0 && chmod("book", 0640) == 0, "no book");
+    for (unsigned killed = 0; killed < kills && failed == 0; killed += HOSTS) {
+        for (unsigned h = 0; h < HOSTS; h++)
+            start(program, h);
+        unsigned first = (unsigned)rand() % HOSTS;
+        kill_after(&hosts[first], (unsigned)rand() % 5);
+        kill_after(&hosts[1 - first], (unsigned)rand() % 5);
+        ahead += look();
+        unsigned left = drafts();
+        check(left <= HOSTS, "drafts are not removed");
+        within += left;
     }
-    printf("%u kills, %u within a save, %u between a save and its line\n", kills, within, ahead);
-    return failed || kills < CHANGES / 10;
+    check(one_command(program, "--", "(add (1))") && drafts() == 0, "a later host trips over what is left");
+    printf("%u kills: %u within a save, %u between a save and its report\n", kills, within, ahead);
+    printf("%u passed, %u failed\n", passed, failed);
+    return failed > 0 || unlink("book") != 0 || chdir("/") != 0 || rmdir(folder) != 0;
 }

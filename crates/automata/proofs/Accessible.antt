@@ -8,7 +8,7 @@ use native.Mathlib.Omega.{arith}
 use lib.Dec.{eqb, leb}
 use borrow.Author.Tests.{eqb-false, eqb-true, leb-true}
 use Rattle.automata.specs.Accessible.{accessible, accessibleRule}
-use Rattle.automata.specs.Automaton.{Automaton, Transition, run, runs, states, step}
+use Rattle.automata.specs.Automaton.{Automaton, Fits, Transition, run, runs, states, step}
 use Rattle.automata.specs.Order.{rising}
 use Rattle.lists.specs.Positions.{upFrom}
 use Rattle.lists.specs.Tests.{_∈_, any, every}
@@ -56,7 +56,7 @@ module _ (A : Automaton) (rises : rising (A .transitions) ≡ true) where
       closure-all eqb eqb-true eqb-same (accessibleRule A) (upFrom 1 (states A)) HasTree made q e .1
 
 -- the other way: whatever a tree runs to is marked
-module _ (A : Automaton) (fit : every (λ τ. leb (τ .out) (states A)) (A .transitions) ≡ true) where
+module _ (A : Automaton) (fit : Fits A) where
   accessible-step : (a : ℕ) (qs : List ℕ) → (any (eqb 0) qs ≡ false → every (accessible A) qs ≡ true) →
       (step A a qs ≡ 0) ⊎ (accessible A (step A a qs) ≡ true)
   accessible-step a qs h = go (step-view A a qs) (eqb 0 (step A a qs)) refl

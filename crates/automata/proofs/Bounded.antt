@@ -1,92 +1,49 @@
--- BOUNDED: a canonical automaton is acyclic exactly where its set is bounded.
-use mathlib.Core.Bool.{Bool, _&&_, false, not, true, true≢false}
+-- BOUNDED: a canonical automaton is acyclic exactly when its set is bounded.
+use mathlib.Core.Bool.{Bool, false, true, true≢false}
 use mathlib.Core.List.{List, [], _++_, _∷_}
-use mathlib.Core.Logic.{_⊎_, inl, inr}
+use mathlib.Core.Logic.{_↔_, _⊎_, inl, inr}
 use mathlib.Core.Path.{_∙_, _≡_, ap, refl, subst, sym}
 use Prim.Native.Nat.{_<_, _≤_, max, suc, zero, ℕ}
 use native.Mathlib.Omega.{arith}
-use lib.Dec.{eqb, leb}
+use lib.Dec.{eqb}
 use lib.ListN.{length, length-append}
-use borrow.Author.Tests.{eqb-false, eqb-true, leb-true, not-true}
-use Rattle.automata.specs.Acyclic.{Bounded, acyclic, feeds, leads, leadsRule}
-use Rattle.automata.specs.Automaton.{Automaton, Transition, accepting, accepts, run, runs, states, step}
+use borrow.Author.Tests.{eqb-false}
+use Rattle.automata.specs.Acyclic.{Bounded, Feeds, Leads, acyclic, leads, more, once}
+use Rattle.automata.specs.Automaton.{Automaton, IsState, Transition, accepting, accepts, run, runs, states}
+use Rattle.automata.specs.Automaton.{step}
 use Rattle.automata.specs.Canonical.{Canonical, Occurs, Subtree, eachTree}
 use Rattle.automata.specs.ContextRun.{runContext, stepFrame}
-use Rattle.automata.specs.Valid.{inRange, statesInRange}
-use Rattle.lists.specs.Closure.{closure, elem}
-use Rattle.lists.specs.Positions.{Pair, eqPair, grid, upFrom}
-use Rattle.lists.specs.Tests.{_∈_, any, every, filter, sameList}
+use Rattle.automata.specs.Valid.{statesInRange}
+use Rattle.lists.specs.Positions.{upFrom}
+use Rattle.lists.specs.Tests.{_∈_, any, filter, sameList}
 use Rattle.trees.specs.Context.{Context, Frame, plug}
 use Rattle.trees.specs.Tree.{Forest, Tree, _⧺_, cons, depth, depths, nil, node}
+use Rattle.automata.proofs.CanonicalChange.{canonical-ranged}
 use Rattle.automata.proofs.CanonicalRun.{canonical-accepts, run-group}
+use Rattle.automata.proofs.Leads.{acyclic-iff, leads-iff, leads-range}
 use Rattle.automata.proofs.Steps.{Taken, run-fill, run-plug, runContext-append, step-view}
-use Rattle.lists.proofs.Closure.{closed, closure-all, elem-in, in-elem}
-use Rattle.lists.proofs.Positions.{eqPair-same, eqPair-true, in-grid, in-upFrom, upFrom-in, upFrom-length}
-use Rattle.lists.proofs.Tests.{and-both, and-left, and-right, any-in, eqb-same, every-in, filter-in, filter-length}
-use Rattle.lists.proofs.Tests.{filter-weaker, in-any, in-every, in-filter, or-cases, or-left, or-none-left}
-use Rattle.lists.proofs.Tests.{or-none-right, or-right}
+use Rattle.automata.proofs.Valid.{in-states, ranged-transition}
+use Rattle.lists.proofs.Positions.{upFrom-length}
+use Rattle.lists.proofs.Tests.{filter-in, filter-length}
+use Rattle.lists.proofs.Tests.{filter-weaker, in-filter, or-none-left}
+use Rattle.lists.proofs.Tests.{or-none-right}
 use Rattle.trees.proofs.Trees.{depth-plug}
 
 module _ (A : Automaton) (ok : statesInRange A ≡ true) where
-  in-arg : (l : Transition) → l ∈ A .transitions → (p : ℕ) → p ∈ l .args → p ∈ upFrom 1 (states A)
-  in-arg l i p j =
-      let h = every-in (inRange (states A)) (l .args)
-      (and-left (every (inRange (states A)) (l .args)) (inRange (states A) (l .out))
-      (every-in (λ l. every (inRange (states A)) (l .args) && inRange (states A) (l .out))
-      (A .transitions) ok l i)) p j in
-      in-upFrom 1 (states A) p (leb-true 1 p (and-left (leb 1 p) (leb p (states A)) h))
-      (omega (arith, leb-true p (states A) (and-right (leb 1 p) (leb p (states A)) h)))
-
-  in-out : (l : Transition) → l ∈ A .transitions → l .out ∈ upFrom 1 (states A)
-  in-out l i =
-      let h = and-right (every (inRange (states A)) (l .args)) (inRange (states A) (l .out))
-      (every-in (λ l. every (inRange (states A)) (l .args) && inRange (states A) (l .out))
-      (A .transitions) ok l i) in
-      in-upFrom 1 (states A) (l .out)
-      (leb-true 1 (l .out) (and-left (leb 1 (l .out)) (leb (l .out) (states A)) h))
-      (omega (
-        arith,
-        leb-true (l .out) (states A)
-            (and-right (leb 1 (l .out)) (leb (l .out) (states A)) h),
-      ))
-
-  args-feed : (l : Transition) → l ∈ A .transitions → (p : ℕ) → p ∈ l .args → feeds A p (l .out) ≡ true
-  unfolding feeds
-  args-feed l i p j =
-      in-any (λ m. eqb (l .out) (m .out) && elem eqb p (m .args)) (A .transitions) l i
-      (and-both (eqb-same (l .out)) (in-elem eqb eqb-true eqb-same p (l .args) j))
-
-  leads-one : (p q : ℕ) → p ∈ upFrom 1 (states A) → q ∈ upFrom 1 (states A) → feeds A p q ≡ true →
-      leads A p q ≡ true
-  unfolding leads leadsRule
-  leads-one p q i j e =
-      closed eqPair eqPair-true eqPair-same (leadsRule A)
-      (grid (upFrom 1 (states A)) (upFrom 1 (states A))) (p, q)
-      (in-grid (upFrom 1 (states A)) (upFrom 1 (states A)) p q i j) (or-left (feeds A p q) _ e)
-
-  leads-more : (p x q : ℕ) → p ∈ upFrom 1 (states A) → x ∈ upFrom 1 (states A) → q ∈ upFrom 1 (states A) →
-      leads A p x ≡ true → feeds A x q ≡ true → leads A p q ≡ true
-  unfolding leads leadsRule
-  leads-more p x q i k j d e =
-      closed eqPair eqPair-true eqPair-same (leadsRule A)
-      (grid (upFrom 1 (states A)) (upFrom 1 (states A))) (p, q)
-      (in-grid (upFrom 1 (states A)) (upFrom 1 (states A)) p q i j)
-      (or-right (feeds A p q) _
-      (in-any (λ y. elem eqPair (p, y)
-      (closure eqPair (leadsRule A) (grid (upFrom 1 (states A)) (upFrom 1 (states A)))) && feeds A y q)
-      (upFrom 1 (states A)) x k (and-both d e)))
-
   -- the number of states that lead to q
   pub rank : ℕ → ℕ
   rank q = length (filter (λ p. leads A p q) (upFrom 1 (states A)))
 
   module _ (ac : acyclic A ≡ true) where
     pub rank-less : (l : Transition) → l ∈ A .transitions → (p : ℕ) → p ∈ l .args → rank p < rank (l .out)
-    unfolding rank acyclic
+    unfolding rank
     rank-less l i p j =
         go (filter-weaker (λ x. leads A x p) (λ x. leads A x (l .out)) (upFrom 1 (states A))
-        (λ x n e. leads-more x p (l .out) n (in-arg l i p j) (in-out l i) e (args-feed l i p j)))
+        (λ x n e. leads-iff A ok x (l .out) .1 (more (leads-iff A ok x p .0 e) feeds)))
       where
+        feeds : Feeds A p (l .out)
+        feeds = (l, i, j, refl)
+
         go : (filter (λ x. leads A x p) (upFrom 1 (states A)) ≡ filter (λ x. leads A x (l .out))
             (upFrom 1 (states A))) ⊎
             (length (filter (λ x. leads A x p) (upFrom 1 (states A))) < length
@@ -95,14 +52,11 @@ module _ (A : Automaton) (ok : statesInRange A ≡ true) where
             (filter (λ x. leads A x (l .out)) (upFrom 1 (states A)))
         go (inr h) = h
         go (inl e) =
-            let there = in-filter (λ x. leads A x (l .out)) (upFrom 1 (states A)) p (in-arg l i p j)
-            (leads-one p (l .out) (in-arg l i p j) (in-out l i) (args-feed l i p j)) in
+            let there = in-filter (λ x. leads A x (l .out)) (upFrom 1 (states A)) p
+            (in-states A p (ranged-transition A ok l i .args p j)) (leads-iff A ok p (l .out) .1 (once feeds)) in
             let back = filter-in (λ x. leads A x p) (upFrom 1 (states A)) p
             (subst (λ (xs : List ℕ). p ∈ xs) (sym e) there) in
-            absurd (true≢false
-            (sym (back .1)
-            ∙ not-true (leads A p p)
-            (every-in (λ q. not (leads A q q)) (upFrom 1 (states A)) ac p (in-arg l i p j))))
+            absurd (acyclic-iff A ok .0 ac p (leads-iff A ok p p .0 (back .1)))
 
     mutual
       depth-rank : (t : Tree) → (run A t ≡ 0) ⊎ (depth t ≤ suc (rank (run A t)))
@@ -170,67 +124,40 @@ split-each g (cons u f) p (inr i) = let (b, t, c, d, e) = split-each g f p i in
     (cons u b, t, c, ap (cons u) d, e)
 
 module _ (S : Tree → Bool) (A : Automaton) (X : Canonical S A) where
-  abbrev Loop : Pair → Type 0
-  Loop k = (d : Context) × (1 ≤ length d) × (runContext A d (k .0) ≡ k .1)
+  -- a context of one frame or more that takes p to q
+  abbrev Way : ℕ → ℕ → Type 0
+  Way p q = (d : Context) × (1 ≤ length d) × (runContext A d p ≡ q)
 
-  feeds-frame : (p q : ℕ) → feeds A p q ≡ true → (f : Frame) × (stepFrame A f p ≡ q)
-  unfolding feeds
-  feeds-frame p q e = go (any-in (λ l. eqb q (l .out) && elem eqb p (l .args)) (A .transitions) e)
+  feeds-frame : {p q : ℕ} → Feeds A p q → (f : Frame) × (stepFrame A f p ≡ q)
+  feeds-frame {p} {q} (l, i, j, o) = from (X .only l i)
     where
-      go : (l : Transition) × (l ∈ A .transitions) × ((eqb q (l .out) && elem eqb p (l .args)) ≡ true) →
-          (f : Frame) × (stepFrame A f p ≡ q)
-      go (l, i, h) =
-          from (X .only l i) (eqb-true q (l .out) (and-left (eqb q (l .out)) (elem eqb p (l .args)) h))
-          (elem-in eqb eqb-true eqb-same p (l .args) (and-right (eqb q (l .out)) (elem eqb p (l .args)) h))
+      from : Occurs S (X .group) l → (f : Frame) × (stepFrame A f p ≡ q)
+      from (a, f, r, u) = cut (split-each (X .group) f p (subst (λ (m : Transition). p ∈ m .args) u j))
         where
-          from : Occurs S (X .group) l → q ≡ l .out → p ∈ l .args → (f : Frame) × (stepFrame A f p ≡ q)
-          from (a, f, r, u) o j =
-              cut (split-each (X .group) f p (subst (λ (m : Transition). p ∈ m .args) u j))
-            where
-              cut : (b : Forest) × (t : Tree) × (c : Forest) × (f ≡ b ⧺ cons t c) × (p ≡ X .group t) →
-                  (f : Frame) × (stepFrame A f p ≡ q)
-              cut (b, t, c, v, w) =
-                  let F : Frame = record { label = a; before = b; after = c } in
-                  let r′ = subst (λ (x : Forest). Subtree S (node a x)) v r in
-                  let tp : Subtree S t = (F ∷ r′ .0, r′ .1) in (
-                    F,
-                    ap (stepFrame A F) (w ∙ sym (run-group S A X t tp)) ∙ sym (run-fill A F t)
-                        ∙ run-group S A X (node a (b ⧺ cons t c)) r′
-                        ∙ ap (λ (x : Forest). X .group (node a x)) (sym v)
-                        ∙ sym (ap (λ (m : Transition). m .out) u) ∙ sym o,
-                  )
-
-  leads-loop : (k : Pair) →
-      elem eqPair k
-      (closure eqPair (leadsRule A) (grid (upFrom 1 (states A)) (upFrom 1 (states A)))) ≡ true → Loop k
-  unfolding leadsRule
-  leads-loop =
-      closure-all eqPair eqPair-true eqPair-same (leadsRule A)
-      (grid (upFrom 1 (states A)) (upFrom 1 (states A))) Loop made
-    where
-      made : (m : Pair → Bool) → ((j : Pair) → m j ≡ true → Loop j) → (k : Pair) →
-          k ∈ grid (upFrom 1 (states A)) (upFrom 1 (states A)) → leadsRule A m k ≡ true → Loop k
-      made m ih k i e =
-          go (or-cases (feeds A (k .0) (k .1))
-          (any (λ x. m (k .0, x) && feeds A x (k .1)) (upFrom 1 (states A))) e)
-        where
-          go : (feeds A (k .0) (k .1) ≡ true) ⊎
-              (any (λ x. m (k .0, x) && feeds A x (k .1)) (upFrom 1 (states A)) ≡ true) → Loop k
-          go (inl h) = let (f, r) = feeds-frame (k .0) (k .1) h in (f ∷ [], omega arith, r)
-          go (inr h) =
-              let (x, j, b) = any-in (λ x. m (k .0, x) && feeds A x (k .1)) (upFrom 1 (states A)) h in
-              let (d, n, r) = ih (k .0, x) (and-left (m (k .0, x)) (feeds A x (k .1)) b) in
-              let (f, w) = feeds-frame x (k .1) (and-right (m (k .0, x)) (feeds A x (k .1)) b) in (
-                d ++ (f ∷ []),
-                omega (arith, length-append d (f ∷ [])),
-                runContext-append A d (f ∷ [])
-                    (k .0) ∙ ap (stepFrame A f) r ∙ w,
+          cut : (b : Forest) × (t : Tree) × (c : Forest) × (f ≡ b ⧺ cons t c) × (p ≡ X .group t) →
+              (f : Frame) × (stepFrame A f p ≡ q)
+          cut (b, t, c, v, w) =
+              let F : Frame = record { label = a; before = b; after = c } in
+              let r′ = subst (λ (x : Forest). Subtree S (node a x)) v r in
+              let tp : Subtree S t = (F ∷ r′ .0, r′ .1) in (
+                F,
+                ap (stepFrame A F) (w ∙ sym (run-group S A X t tp)) ∙ sym (run-fill A F t)
+                    ∙ run-group S A X (node a (b ⧺ cons t c)) r′
+                    ∙ ap (λ (x : Forest). X .group (node a x)) (sym v)
+                    ∙ sym (ap (λ (m : Transition). m .out) u) ∙ o,
               )
 
-  no-loop : Bounded S → (q : ℕ) → q ∈ upFrom 1 (states A) → Loop (q, q) → ⊥
+  leads-way : {p q : ℕ} → Leads A p q → Way p q
+  leads-way (once h) = let (f, r) = feeds-frame h in (f ∷ [], omega arith, r)
+  leads-way {p} (more l h) =
+      let (d, n, r) = leads-way l in
+      let (f, w) = feeds-frame h in
+      let e = runContext-append A d (f ∷ []) p ∙ ap (stepFrame A f) r ∙ w in
+      (d ++ (f ∷ []), omega (arith, length-append d (f ∷ [])), e)
+
+  no-way : Bounded S → (q : ℕ) → IsState A q → Way q q → ⊥
   unfolding Bounded
-  no-loop (n, bound) q i (d, h, r) =
-      go (X .onto q (upFrom-in 1 (states A) q i .0) (omega (arith, upFrom-in 1 (states A) q i)))
+  no-way (n, bound) q (low, high) (d, h, r) = go (X .onto q low high)
     where
       go : (t : Tree) × Subtree S t × (X .group t ≡ q) → ⊥
       go (t, (c, e), g) =
@@ -252,10 +179,10 @@ module _ (S : Tree → Bool) (A : Automaton) (X : Canonical S A) where
           )
 
   pub bounded-acyclic : Bounded S → acyclic A ≡ true
-  unfolding acyclic leads
   bounded-acyclic b =
-      in-every (λ q. not (leads A q q)) (upFrom 1 (states A)) (λ q i. none q i (leads A q q) refl)
-    where
-      none : (q : ℕ) → q ∈ upFrom 1 (states A) → (t : Bool) → leads A q q ≡ t → not t ≡ true
-      none q i true e = absurd (no-loop b q i (leads-loop (q, q) e))
-      none q i false e = refl
+      let ranged = canonical-ranged S A X in
+      acyclic-iff A ranged .1 (λ q l. no-way b q (leads-range A ranged l .0) (leads-way l))
+
+-- a canonical automaton is acyclic exactly when its set is bounded
+pub bounded-iff : (A : Automaton) → Canonical (accepts A) A → (acyclic A ≡ true) ↔ Bounded (accepts A)
+bounded-iff A X = (acyclic-bounded A (canonical-ranged (accepts A) A X), bounded-acyclic (accepts A) A X)

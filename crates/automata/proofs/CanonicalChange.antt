@@ -1,12 +1,13 @@
 -- A canonical automaton is valid, and a change of its set by one tree keeps it canonical.
 use mathlib.Core.Bool.{Bool, _&&_, _||_, false, not, true, true≢false}
+use mathlib.Core.Logic.{_↔_}
 use mathlib.Core.Path.{_∙_, _≡_, ap, fun-ext, refl, subst, sym}
 use Prim.Native.Nat.{ℕ}
 use native.Mathlib.Omega.{arith}
 use lib.Dec.{eqb}
 use borrow.Author.Tests.{eq-eqb}
 use Rattle.automata.specs.Accessible.{accessible, allAccessible}
-use Rattle.automata.specs.Automaton.{Automaton, Transition, accepting, run, states}
+use Rattle.automata.specs.Automaton.{Automaton, Fits, Transition, accepting, accepts, run, states}
 use Rattle.automata.specs.Canonical.{Canonical, Equivalent, Occurs, Subtree, eachTree}
 use Rattle.automata.specs.Change.{deleteTree, insertTree}
 use Rattle.automata.specs.Coaccessible.{allCoaccessible, coaccessible}
@@ -23,9 +24,9 @@ use Rattle.automata.proofs.Change.{delete-canonical, insert-canonical}
 use Rattle.automata.proofs.Coaccessible.{useful-coaccessible}
 use Rattle.automata.proofs.Distinguishable.{separated-distinguishable}
 use Rattle.automata.proofs.Minimal.{bool-cases}
-use Rattle.automata.proofs.Steps.{Fits, run-plug}
+use Rattle.automata.proofs.Steps.{accepts-plug}
 use Rattle.automata.proofs.Unique.{children}
-use Rattle.automata.proofs.Valid.{range-in, ranged-fits}
+use Rattle.automata.proofs.Valid.{range-in, ranged-fits, valid-canonical}
 use Rattle.lists.proofs.Positions.{upFrom-in}
 use Rattle.lists.proofs.Tests.{and-both, in-every, or-left, or-right}
 use Rattle.trees.proofs.Trees.{AllTrees}
@@ -77,14 +78,14 @@ module _ (S : Tree → Bool) (A : Automaton) (X : Canonical S A) where
       go q i (t, (c, h), e) =
           let r = upFrom-in 1 (states A) q i in
           useful-coaccessible A canonical-fits c q (r .0) (omega arith)
-          (ap (accepting A) (sym (run-plug A c t ∙ ap (runContext A c) e)) ∙ canonical-accepts S A X (plug c t) ∙ h)
+          (sym (accepts-plug A c t e) ∙ canonical-accepts S A X (plug c t) ∙ h)
 
   -- states that no context separates have equivalent subtrees
   alike : (p q : ℕ) (t u : Tree) → run A t ≡ p → run A u ≡ q →
       ((c : Context) → accepting A (runContext A c p) ≡ accepting A (runContext A c q)) → Equivalent S t u
   alike p q t u e d h c =
-      sym (canonical-accepts S A X (plug c t)) ∙ ap (accepting A) (run-plug A c t ∙ ap (runContext A c) e) ∙ h c
-      ∙ ap (accepting A) (sym (run-plug A c u ∙ ap (runContext A c) d)) ∙ canonical-accepts S A X (plug c u)
+      sym (canonical-accepts S A X (plug c t)) ∙ accepts-plug A c t e ∙ h c ∙ sym (accepts-plug A c u d)
+      ∙ canonical-accepts S A X (plug c u)
 
   differ : (p q : ℕ) → p ∈ upFrom 1 (states A) → q ∈ upFrom 1 (states A) → (eqb p q || distinguishable A p q) ≡ true
   unfolding Witness
@@ -112,6 +113,10 @@ module _ (S : Tree → Bool) (A : Automaton) (X : Canonical S A) where
         (λ p i. in-every (λ q. eqb p q || distinguishable A p q) (upFrom 1 (states A)) (λ q j. differ p q i j));
     ruled = X .ruled;
   }
+
+-- conditions 7 (range), 8 to 10, 12 and 13 hold exactly of the canonical automata
+pub valid-iff : (A : Automaton) → Valid A ↔ Canonical (accepts A) A
+valid-iff A = (valid-canonical A, canonical-valid (accepts A) A)
 
 pub insert-kept : (S : Tree → Bool) (A : Automaton) → Canonical S A → (t : Tree) →
     Canonical (λ v. S v || eqTree v t) (insertTree t A)

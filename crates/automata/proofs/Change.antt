@@ -7,7 +7,7 @@ use Prim.Native.Nat.{ℕ}
 use native.Mathlib.Omega.{arith}
 use lib.Dec.{eqb}
 use borrow.Author.Tests.{eq-eqb, ne-eqb}
-use Rattle.automata.specs.Automaton.{Automaton, accepting, accepts}
+use Rattle.automata.specs.Automaton.{Automaton, Fits, accepting, accepts}
 use Rattle.automata.specs.Canonical.{Canonical}
 use Rattle.automata.specs.Change.{deleteTree, insertTree, productWith, subtreeAutomaton, subtreeNumber}
 use Rattle.automata.specs.Change.{subtrees}
@@ -18,7 +18,6 @@ use Rattle.lists.specs.Tests.{_∈_}
 use Rattle.trees.specs.Tree.{Tree, eqTree}
 use Rattle.automata.proofs.Minimal.{minimal-canonical}
 use Rattle.automata.proofs.Product.{accepts-product, product-accessible, product-fits}
-use Rattle.automata.proofs.Steps.{Fits}
 use Rattle.automata.proofs.Subtrees.{Closed, collected, run-subtree, subtree-fits}
 use Rattle.lists.proofs.Positions.{position-inj, position-pos}
 use Rattle.trees.proofs.Trees.{eqTree-same, eqTree-true}

@@ -5,15 +5,15 @@ use mathlib.Core.Logic.{_≢_, _⊎_, inl, inr}
 use mathlib.Core.Path.{_∙_, _≡_, ap, refl, sym}
 use Prim.Native.Nat.{_≤_, ℕ}
 use native.Mathlib.Omega.{arith}
-use lib.Dec.{eqb, leb}
+use lib.Dec.{eqb}
 use borrow.Author.Tests.{eqb-true}
-use Rattle.automata.specs.Automaton.{Automaton, Transition, accepting, run, runs, states}
-use Rattle.automata.specs.Coaccessible.{coaccessible, coaccessibleRule}
+use Rattle.automata.specs.Automaton.{Automaton, Fits, Transition, accepting, run, runs, states}
+use Rattle.automata.specs.Coaccessible.{Useful, coaccessible, coaccessibleRule}
 use Rattle.automata.specs.ContextRun.{runContext, stepFrame}
 use Rattle.automata.specs.Order.{rising}
 use Rattle.lists.specs.Closure.{elem}
 use Rattle.lists.specs.Positions.{upFrom}
-use Rattle.lists.specs.Tests.{_∈_, any, every}
+use Rattle.lists.specs.Tests.{_∈_, any}
 use Rattle.trees.specs.Context.{Context, Frame}
 use Rattle.trees.specs.Tree.{Tree}
 use Rattle.automata.proofs.Accessible.{forest}
@@ -26,10 +26,6 @@ use Rattle.lists.proofs.Tests.{and-both, and-left, and-right, any-in, eqb-same,
 use Rattle.lists.proofs.Tests.{in-append-right, in-split, none-zero, or-cases, or-left, or-right}
 
 module _ (A : Automaton) (rises : rising (A .transitions) ≡ true) where
-  -- some context takes the state to an accepting one
-  abbrev pub Useful : ℕ → Type 0
-  Useful q = (c : Context) × (accepting A (runContext A c q) ≡ true)
-
   -- every argument of a transition is a state that some tree runs to
   module _ (all : (τ : Transition) → τ ∈ A .transitions → (q : ℕ) → q ∈ τ .args →
       (1 ≤ q) × ((t : Tree) × (run A t ≡ q))) where
@@ -46,26 +42,26 @@ module _ (A : Automaton) (rises : rising (A .transitions) ≡ true) where
               rw (b .1, c .1, ← e, z) (lookup-transition (A .transitions) rises τ i),
             )
 
-    pub coaccessible-useful : (q : ℕ) → coaccessible A q ≡ true → Useful q
+    pub coaccessible-useful : (q : ℕ) → coaccessible A q ≡ true → Useful A q
     coaccessible-useful =
-        closure-all eqb eqb-true eqb-same (coaccessibleRule A) (upFrom 1 (states A)) Useful made
+        closure-all eqb eqb-true eqb-same (coaccessibleRule A) (upFrom 1 (states A)) (Useful A) made
       where
-        made : (m : ℕ → Bool) → ((j : ℕ) → m j ≡ true → Useful j) → (k : ℕ) → k ∈ upFrom 1 (states A) →
-            coaccessibleRule A m k ≡ true → Useful k
+        made : (m : ℕ → Bool) → ((j : ℕ) → m j ≡ true → Useful A j) → (k : ℕ) → k ∈ upFrom 1 (states A) →
+            coaccessibleRule A m k ≡ true → Useful A k
         made m ih k i e = go (or-cases (accepting A k) _ e)
           where
-            used : (τ : Transition) × (τ ∈ A .transitions) × ((m (τ .out) && elem eqb k (τ .args)) ≡ true) → Useful k
+            used : (τ : Transition) × (τ ∈ A .transitions) × ((m (τ .out) && elem eqb k (τ .args)) ≡ true) → Useful A k
             used (τ, j, h) =
                 let c = ih (τ .out) (and-left _ _ h) in
                 let f = frame τ j k (elem-in eqb eqb-true eqb-same k (τ .args) (and-right (m (τ .out)) _ h)) in
                 (f .0 ∷ c .0, rw (f .1) (c .1))
 
             go : (accepting A k ≡ true) ⊎ (any (λ τ. m (τ .out) && elem eqb k (τ .args)) (A .transitions) ≡ true) →
-                Useful k
+                Useful A k
             go (inl h) = ([], h)
             go (inr h) = used (any-in (λ τ. m (τ .out) && elem eqb k (τ .args)) (A .transitions) h)
 
-module _ (A : Automaton) (fit : every (λ τ. leb (τ .out) (states A)) (A .transitions) ≡ true) where
+module _ (A : Automaton) (fit : Fits A) where
   pub useful-coaccessible : (c : Context) (q : ℕ) → 1 ≤ q → q ≤ states A → accepting A (runContext A c q) ≡ true →
       coaccessible A q ≡ true
   useful-coaccessible [] q h l e =
@@ -79,7 +75,8 @@ module _ (A : Automaton) (fit : every (λ τ. leb (τ .out) (states A)) (A .tran
       -- what comes to 0 comes to no accepting state
       lost : stepFrame A f q ≡ 0 → ⊥
       lost z =
-          true≢false (sym e ∙ ap (λ (x : ℕ). accepting A (runContext A c x)) z ∙ ap (accepting A) (runContext-zero A c))
+          true≢false
+          (sym e ∙ ap (λ (x : ℕ). accepting A (runContext A c x)) z ∙ ap (accepting A) (runContext-zero A c))
 
       go : (stepFrame A f q ≡ 0) ⊎ Taken A (f .label) (runs A (f .before) ++ (q ∷ runs A (f .after))) →
           (1 ≤ stepFrame A f q → coaccessible A (stepFrame A f q) ≡ true) → coaccessible A q ≡ true

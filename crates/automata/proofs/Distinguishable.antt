@@ -1,4 +1,4 @@
--- Two states are distinguishable exactly when some context tells them apart.
+-- Two states are distinguishable exactly when some context separates them.
 use mathlib.Core.Bool.{Bool, Bool·beq, false, false≢true, not, true, true≢false}
 use mathlib.Core.List.{List, [], _++_, _∷_}
 use mathlib.Core.Logic.{_≢_, _⊎_, inl, inr}
@@ -7,9 +7,11 @@ use Prim.Native.Nat.{_≤_, suc, ℕ}
 use native.Mathlib.Omega.{arith}
 use lib.Dec.{leb}
 use borrow.Author.Tests.{leb-true}
-use Rattle.automata.specs.Automaton.{Automaton, Transition, accepting, run, runs, states, step}
+use Rattle.automata.specs.Accessible.{ArgsAccessible}
+use Rattle.automata.specs.Automaton.{Automaton, Fits, Transition, accepting, run, runs, states, step}
 use Rattle.automata.specs.ContextRun.{runContext, stepFrame}
-use Rattle.automata.specs.Distinguishable.{Slot, distinguishable, distinguishablePairs, distinguishableRule}
+use Rattle.automata.specs.Distinguishable.{Separated, Slot, distinguishable, distinguishablePairs}
+use Rattle.automata.specs.Distinguishable.{distinguishableRule}
 use Rattle.automata.specs.Distinguishable.{pairs, push, slots, slotsOf, stepSlot}
 use Rattle.lists.specs.Closure.{elem}
 use Rattle.lists.specs.Positions.{Pair, eqPair, upFrom}
@@ -17,7 +19,7 @@ use Rattle.lists.specs.Tests.{_∈_, any}
 use Rattle.trees.specs.Context.{Context, Frame}
 use Rattle.trees.specs.Tree.{Tree, node}
 use Rattle.automata.proofs.Accessible.{forest}
-use Rattle.automata.proofs.Steps.{ArgsAccessible, Fits, Taken, step-view}
+use Rattle.automata.proofs.Steps.{Taken, step-view}
 use Rattle.lists.proofs.Closure.{closed, closure-all}
 use Rattle.lists.proofs.Distinct.{grid-in}
 use Rattle.lists.proofs.Positions.{eqPair-same, eqPair-true, in-grid, in-upFrom, upFrom-in}
@@ -86,17 +88,14 @@ pairs-in A k i = let g = grid-in (upFrom 0 (suc (states A))) (upFrom 0 (suc (sta
 )
 
 module _ (A : Automaton) where
-  abbrev pub Separated : Pair → Type 0
-  Separated k = (c : Context) × (accepting A (runContext A c (k .0)) ≢ accepting A (runContext A c (k .1)))
-
   -- every argument of a transition has a tree
   module _ (all : ArgsAccessible A) where
-    pub distinguishable-separated : (p q : ℕ) → distinguishable A p q ≡ true → Separated (p, q)
+    pub distinguishable-separated : (p q : ℕ) → distinguishable A p q ≡ true → Separated A (p, q)
     distinguishable-separated p q e =
-        closure-all eqPair eqPair-true eqPair-same (distinguishableRule A) (pairs A) Separated made (p, q) e
+        closure-all eqPair eqPair-true eqPair-same (distinguishableRule A) (pairs A) (Separated A) made (p, q) e
       where
-        made : (m : Pair → Bool) → ((j : Pair) → m j ≡ true → Separated j) → (k : Pair) → k ∈ pairs A →
-            distinguishableRule A m k ≡ true → Separated k
+        made : (m : Pair → Bool) → ((j : Pair) → m j ≡ true → Separated A j) → (k : Pair) → k ∈ pairs A →
+            distinguishableRule A m k ≡ true → Separated A k
         made m ih k i e =
             go (or-cases (not (Bool·beq (accepting A (k .0)) (accepting A (k .1))))
             (any (λ s. m (stepSlot A s (k .0), stepSlot A s (k .1))) (slots (A .transitions))) e)
@@ -115,7 +114,7 @@ module _ (A : Automaton) where
 
             go : (not (Bool·beq (accepting A (k .0)) (accepting A (k .1))) ≡ true) ⊎
                 (any (λ s. m (stepSlot A s (k .0), stepSlot A s (k .1))) (slots (A .transitions)) ≡ true) →
-                Separated k
+                Separated A k
             go (inl h) = ([], differ (accepting A (k .0)) (accepting A (k .1)) h)
             go (inr h) =
                 let r = any-in (λ s. m (stepSlot A s (k .0), stepSlot A s (k .1))) (slots (A .transitions))

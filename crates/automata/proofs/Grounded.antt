@@ -5,13 +5,13 @@ use mathlib.Core.Path.{_∙_, _≡_, ap, refl, sym}
 use Prim.Native.Nat.{_<_, _≤_, suc, zero, ℕ}
 use native.Mathlib.Omega.{arith}
 use borrow.Author.Tests.{not-true}
-use Rattle.automata.specs.Acyclic.{acyclic, leads}
+use Rattle.automata.specs.Acyclic.{Leads, acyclic, leads, more, once}
 use Rattle.automata.specs.Automaton.{Automaton, Transition, states}
 use Rattle.automata.specs.Valid.{statesInRange}
 use Rattle.lists.specs.Positions.{upFrom}
 use Rattle.lists.specs.Tests.{_∈_, every}
 use Rattle.automata.proofs.Bounded.{rank, rank-less}
-use Rattle.automata.proofs.Leads.{Leads, leads-before, leads-iff, more, once}
+use Rattle.automata.proofs.Leads.{leads-before, leads-iff}
 use Rattle.automata.proofs.Valid.{ranged-transition}
 use Rattle.lists.proofs.Intervals.{at-every, every-at}
 use Rattle.lists.proofs.Tests.{every-in, in-every}

@@ -3,29 +3,20 @@ use mathlib.Core.Bool.{Bool, _&&_, _||_, false, not, true, true≢false}
 use mathlib.Core.List.{List}
 use mathlib.Core.Logic.{_↔_, _⊎_, inl, inr}
 use mathlib.Core.Path.{_∙_, _≡_, refl, subst, sym}
-use Prim.Native.Nat.{_≤_, ℕ}
-use native.Mathlib.Omega.{arith}
-use lib.Dec.{eqb, leb}
-use borrow.Author.Tests.{eq-eqb, eqb-true, leb-true, not-true}
-use Rattle.automata.specs.Acyclic.{acyclic, feeds, leads, leadsRule}
-use Rattle.automata.specs.Automaton.{Automaton, Transition, states}
-use Rattle.automata.specs.Valid.{inRange, statesInRange}
+use Prim.Native.Nat.{ℕ}
+use lib.Dec.{eqb}
+use borrow.Author.Tests.{eq-eqb, eqb-true, not-true}
+use Rattle.automata.specs.Acyclic.{Feeds, Leads, acyclic, feeds, leads, leadsRule, more, once}
+use Rattle.automata.specs.Automaton.{Automaton, IsState, states}
+use Rattle.automata.specs.Valid.{statesInRange}
 use Rattle.lists.specs.Closure.{elem}
 use Rattle.lists.specs.Positions.{Pair, eqPair, grid, upFrom}
 use Rattle.lists.specs.Tests.{_∈_, any, every}
+use Rattle.automata.proofs.Valid.{in-states, ranged-transition}
 use Rattle.lists.proofs.Closure.{closed, closure-all, elem-in, in-elem}
-use Rattle.lists.proofs.Positions.{eqPair-same, eqPair-true, in-grid, in-upFrom}
+use Rattle.lists.proofs.Positions.{eqPair-same, eqPair-true, in-grid}
 use Rattle.lists.proofs.Tests.{and-both, and-left, and-right, any-in, eqb-same, every-in, in-any, in-every}
 use Rattle.lists.proofs.Tests.{or-cases, or-left, or-right}
-
--- p is an argument of a transition whose output is q
-abbrev pub Feeds : Automaton → ℕ → ℕ → Type 0
-Feeds A p q = (τ : Transition) × (τ ∈ A .transitions) × (p ∈ τ .args) × (τ .out ≡ q)
-
--- one or more such steps come from p to q
-pub data Leads (A : Automaton) : ℕ → ℕ → Type 0 where
-  once : {p q : ℕ} → Feeds A p q → Leads A p q
-  more : {p x q : ℕ} → Leads A p x → Feeds A x q → Leads A p q
 
 -- one step more at the start
 pub leads-before : {A : Automaton} {p q r : ℕ} → Feeds A p q → Leads A q r → Leads A p r
@@ -51,38 +42,24 @@ feeds-iff A p q = (to, from)
         (and-both (eq-eqb q (τ .out) (sym e)) (in-elem eqb eqb-true eqb-same p (τ .args) j))
 
 module _ (A : Automaton) (ranged : statesInRange A ≡ true) where
-  -- q is one of 1 to n
-  abbrev State : ℕ → Type 0
-  State q = (1 ≤ q) × (q ≤ states A)
-
-  in-range : (q : ℕ) → inRange (states A) q ≡ true → State q
-  in-range q e = (leb-true 1 q (and-left _ _ e), leb-true q (states A) (and-right (leb 1 q) _ e))
-
-  feeds-range : {p q : ℕ} → Feeds A p q → State p × State q
+  feeds-range : {p q : ℕ} → Feeds A p q → IsState A p × IsState A q
   feeds-range {p = p} (τ, i, j, e) =
-      let h = every-in (λ τ. every (inRange (states A)) (τ .args) && inRange (states A) (τ .out)) (A .transitions)
-      ranged τ i in (
-        in-range p (every-in (inRange (states A)) (τ .args) (and-left _ _ h) p j),
-        subst State e (in-range (τ .out) (and-right (every (inRange (states A)) (τ .args)) _ h)),
-      )
+      let r = ranged-transition A ranged τ i in (r .args p j, subst (IsState A) e (r .out))
 
-  leads-range : {p q : ℕ} → Leads A p q → State p × State q
+  pub leads-range : {p q : ℕ} → Leads A p q → IsState A p × IsState A q
   leads-range (once f) = feeds-range f
   leads-range (more l f) = (leads-range l .0, feeds-range f .1)
 
   abbrev ns : List ℕ
   ns = upFrom 1 (states A)
 
-  in-states : (q : ℕ) → State q → q ∈ ns
-  in-states q h = in-upFrom 1 (states A) q (h .0) (omega arith)
-
   -- whatever the rule makes of the marks is marked
-  leads-closed : (p q : ℕ) → State p → State q →
+  leads-closed : (p q : ℕ) → IsState A p → IsState A q →
       (feeds A p q || any (λ x. leads A p x && feeds A x q) ns) ≡ true → leads A p q ≡ true
   unfolding leads leadsRule
   leads-closed p q h k e =
       closed eqPair eqPair-true eqPair-same (leadsRule A) (grid ns ns) (p, q)
-      (in-grid ns ns p q (in-states p h) (in-states q k)) e
+      (in-grid ns ns p q (in-states A p h) (in-states A q k)) e
 
   leads-marked : {p q : ℕ} → Leads A p q → leads A p q ≡ true
   leads-marked {p = p} {q = q} (once f) =
@@ -90,7 +67,7 @@ module _ (A : Automaton) (ranged : statesInRange A ≡ true) where
   leads-marked {p = p} {q = q} (more {x = x} l f) =
       leads-closed p q (leads-range l .0) (feeds-range f .1)
       (or-right (feeds A p q) _
-      (in-any (λ x. leads A p x && feeds A x q) ns x (in-states x (leads-range l .1))
+      (in-any (λ x. leads A p x && feeds A x q) ns x (in-states A x (leads-range l .1))
       (and-both (leads-marked l) (feeds-iff A x q .1 f))))
 
   marked-leads : (p q : ℕ) → leads A p q ≡ true → Leads A p q
@@ -122,7 +99,7 @@ module _ (A : Automaton) (ranged : statesInRange A ≡ true) where
           true≢false
           (sym (leads-marked l)
           ∙ not-true (leads A q q)
-          (every-in (λ q. not (leads A q q)) ns e q (in-states q (leads-range l .0))))
+          (every-in (λ q. not (leads A q q)) ns e q (in-states A q (leads-range l .0))))
 
       from : ((q : ℕ) → Leads A q q → ⊥) → every (λ q. not (leads A q q)) ns ≡ true
       from h = in-every (λ q. not (leads A q q)) ns (λ q i. go q (leads A q q) refl)

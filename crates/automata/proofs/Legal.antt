@@ -8,17 +8,14 @@ use lib.ListN.{length}
 use borrow.Author.Tests.{eqb-false}
 use Rattle.automata.specs.Automaton.{Automaton, Transition, accepting, accepts, run, runs, step}
 use Rattle.automata.specs.Canonical.{Canonical, Occurs, eachTree}
-use Rattle.lists.specs.Tests.{_∈_, any}
+use Rattle.automata.specs.Valid.{LegalTransitions}
+use Rattle.lists.specs.Tests.{any}
 use Rattle.trees.specs.Context.{plug}
 use Rattle.trees.specs.Legal.{AllLegal, Legal, LegalNode}
 use Rattle.trees.specs.Tree.{Forest, Tree, cons, count, nil, node}
 use Rattle.automata.proofs.Steps.{Taken, step-view}
 use Rattle.lists.proofs.Tests.{or-none-left, or-none-right}
 use Rattle.trees.proofs.Legal.{subtree-legal}
-
--- every transition has a legal label and a legal number of arguments
-abbrev pub LegalTransitions : Automaton → Type 0
-LegalTransitions A = (τ : Transition) → τ ∈ A .transitions → LegalNode (τ .label) (length (τ .args))
 
 runs-count : (A : Automaton) (f : Forest) → length (runs A f) ≡ count f
 runs-count A nil = refl

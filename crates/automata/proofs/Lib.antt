@@ -18,6 +18,7 @@ pub mod PairRuns
 pub mod Product
 pub mod Subtrees
 pub mod Change
+pub mod SubtreeContexts
 pub mod Valid
 pub mod CanonicalChange
 pub mod Bounded
@@ -25,9 +26,11 @@ pub mod BoundedChange
 pub mod Legal
 pub mod ProductLaws
 pub mod ProductBound
+pub mod ProductCounted
 pub mod ProductView
 pub mod ProductViewCount
 pub mod Leads
 pub mod Useless
+pub mod ConditionLaws
 pub mod NumberedPass
 pub mod Grounded

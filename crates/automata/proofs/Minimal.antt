@@ -7,7 +7,8 @@ use Prim.Native.Nat.{_≤_, suc, ℕ}
 use native.Mathlib.Omega.{arith}
 use lib.Dec.{eqb}
 use borrow.Author.Tests.{eqb-false, ne-eqb, not-true}
-use Rattle.automata.specs.Automaton.{Automaton, Transition, accepting, accepts, run, runs, states, step}
+use Rattle.automata.specs.Accessible.{ArgsAccessible}
+use Rattle.automata.specs.Automaton.{Automaton, Fits, Transition, accepting, accepts, run, runs, states, step}
 use Rattle.automata.specs.Canonical.{Canonical, Equivalent, Occurs, Subtree, eachTree, transitionOf}
 use Rattle.automata.specs.ContextRun.{runContext}
 use Rattle.automata.specs.Distinguishable.{distinguishable, distinguishablePairs}
@@ -23,7 +24,7 @@ use Rattle.automata.proofs.Accessible.{forest}
 use Rattle.automata.proofs.Distinguishable.{distinguishable-separated, run-fits, separated-distinguishable}
 use Rattle.automata.proofs.Numbering.{Exhausted, Opened-each}
 use Rattle.automata.proofs.Renumbered.{Grouping, grouping-same, ordered-canonical, renumbered-canonical}
-use Rattle.automata.proofs.Steps.{ArgsAccessible, Fits, Taken, run-plug, runContext-zero, step-view}
+use Rattle.automata.proofs.Steps.{Taken, run-plug, runContext-zero, step-view}
 use Rattle.lists.proofs.Positions.{in-upFrom, upFrom-in}
 use Rattle.lists.proofs.Tests.{filter-in, in-filter, in-map, map-in}
 
@@ -234,15 +235,7 @@ module _ (A : Automaton) (fit : Fits A)
       (grouping-same S groupOf (quotient A (distinguishablePairs A)) R there back grouped) (accepting A)
       group-accepting
 
-  pub quotient-canonical : (O : List ℕ) → Opened-each (quotient A (distinguishablePairs A)) O →
-      Exhausted (quotient A (distinguishablePairs A)) O → (L : List Transition) → rising L ≡ true →
-      ((τ : Transition) → τ ∈ L → τ ∈ map (renumber O) (quotient A (distinguishablePairs A))) →
-      ((τ : Transition) → τ ∈ map (renumber O) (quotient A (distinguishablePairs A)) → τ ∈ L) →
-      Canonical S (record { classes = map (accepting A) O; transitions = L })
-  quotient-canonical =
-      same-quotient-canonical (quotient A (distinguishablePairs A)) (λ τ i. i) (λ τ i. i)
-
-  pub minimal-canonical : Canonical S (minimal A)
+  pub minimal-canonical : Canonical (accepts A) (minimal A)
   unfolding minimal
   minimal-canonical =
       renumbered-canonical S groupOf (quotient A (distinguishablePairs A)) grouped (accepting A) group-accepting

@@ -3,15 +3,16 @@ use mathlib.Core.List.{List, [], _∷_, map}
 use mathlib.Core.Logic.{_⊎_, inl, inr}
 use mathlib.Core.Path.{_∙_, _≡_, ap, refl, subst, sym}
 use Prim.Native.Nat.{ℕ}
-use native.Mathlib.Omega.{arith}
 use lib.Dec.{eqb}
 use borrow.Author.Tests.{eq-eqb, eqb-true}
 use Rattle.automata.specs.Automaton.{Transition}
 use Rattle.automata.specs.Product.{Node, concatMap, lists, nodesOf, pairNumber}
+use Rattle.automata.specs.ProductView.{AllIn}
 use Rattle.lists.specs.Positions.{Pair, eqPair}
 use Rattle.lists.specs.Tests.{_∈_, filter}
 use Rattle.lists.proofs.Positions.{eqPair-same, eqPair-true, position-inj}
 use Rattle.lists.proofs.Tests.{append-in, filter-in, in-append-left, in-append-right, in-filter, in-map, map-in}
+use Rattle.lists.proofs.Tests.{map-inj}
 
 module _ {A B : Type 0} where
   pub concatMap-in : (f : A → List B) (xs : List A) (y : B) → y ∈ concatMap f xs →
@@ -27,11 +28,6 @@ module _ {A B : Type 0} where
   in-concatMap f (z ∷ xs) x y (inl e) j = in-append-left (f z) (concatMap f xs) y (rw e at j)
   in-concatMap f (z ∷ xs) x y (inr i) j =
       in-append-right (f z) (concatMap f xs) y (in-concatMap f xs x y i j)
-
--- every pair of the list is in R
-abbrev pub AllIn : List Pair → List Pair → Type 0
-AllIn R [] = Unit {0}
-AllIn R (k ∷ ks) = (k ∈ R) × AllIn R ks
 
 module _ (R : List Pair) (side : Pair → ℕ) where
   pub lists-in : (qs : List ℕ) (ks : List Pair) → ks ∈ lists R side qs → AllIn R ks × (map side ks ≡ qs)
@@ -88,12 +84,12 @@ module _ (R : List Pair) (side : Pair → ℕ) where
       in-concatMap (λ l. map (λ ks. (l .label, ks)) (lists R side (l .args))) ls l (l .label, ks) i
       (in-map (λ ks. (l .label, ks)) (lists R side (l .args)) ks (rw e (in-lists ks h)))
 
+pub all-member : (R ks : List Pair) → AllIn R ks → (k : Pair) → k ∈ ks → k ∈ R
+all-member R (j ∷ ks) h k (inl e) = rw e (h .0)
+all-member R (j ∷ ks) h k (inr i) = all-member R ks (h .1) k i
+
 pub pairNumbers-inj : (R : List Pair) (js ks : List Pair) → AllIn R js →
     map (pairNumber R) js ≡ map (pairNumber R) ks → js ≡ ks
-pairNumbers-inj R [] [] h e = refl
-pairNumbers-inj R [] (k ∷ ks) h e = let z : _≡_ {A = ℕ} 0 1 = cc in absurd (omega arith)
-pairNumbers-inj R (j ∷ js) [] h e = let z : _≡_ {A = ℕ} 0 1 = cc in absurd (omega arith)
-pairNumbers-inj R (j ∷ js) (k ∷ ks) h e =
-    let u : pairNumber R j ≡ pairNumber R k = cc in
-    let v : map (pairNumber R) js ≡ map (pairNumber R) ks = cc in
-    cc (position-inj eqPair eqPair-true eqPair-same R j k (h .0) u, pairNumbers-inj R js ks (h .1) v)
+pairNumbers-inj R js ks h =
+    map-inj (pairNumber R) js ks
+    (λ j k i _. position-inj eqPair eqPair-true eqPair-same R j k (all-member R js h j i))

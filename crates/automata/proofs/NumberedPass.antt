@@ -10,7 +10,7 @@ use lib.Dec.{eqb, leb}
 use borrow.Author.Tests.{eq-eqb, eqb-false, eqb-true, le-leb, leb-false, leb-true, lt-leb, lt-ltb, ltb-true}
 use Rattle.automata.specs.Accessible.{accessible, accessibleRule, allAccessible}
 use Rattle.automata.specs.Automaton.{Automaton, Transition, states}
-use Rattle.automata.specs.Numbered.{firstOpen, numbered, opens}
+use Rattle.automata.specs.Numbered.{Passed, firstOpen, numbered, opens, top}
 use Rattle.automata.specs.Valid.{statesInRange}
 use Rattle.lists.specs.Positions.{upFrom}
 use Rattle.lists.specs.Tests.{_∈_, every}
@@ -19,11 +19,6 @@ use Rattle.lists.proofs.Closure.{closed}
 use Rattle.lists.proofs.Intervals.{at-every, every-at}
 use Rattle.lists.proofs.Positions.{in-upFrom}
 use Rattle.lists.proofs.Tests.{and-both, and-left, and-right, eqb-same, every-in, in-any, in-every}
-
--- the greatest of a list of states; 0 where there is none
-abbrev pub top : List ℕ → ℕ
-top [] = 0
-top (q ∷ qs) = max q (top qs)
 
 pub top-at : (qs : List ℕ) (k : ℕ) → every (λ q. leb q k) qs ≡ leb (top qs) k
 top-at [] k = sym (le-leb 0 k (omega arith))
@@ -78,10 +73,6 @@ firstOpen-in k (τ ∷ τs) e = go (firstOpen-in k τs) (opens k τ) refl e
         (υ : Transition) × (υ ∈ (τ ∷ τs)) × (opens k υ ≡ true) × (υ .out ≡ suc k)
     go ih true o e = (τ, inl refl, o, e)
     go ih false o e = let (υ, i, p, q) = ih e in (υ, inr i, p, q)
-
--- the pass has read a list: the states that are seen are those that it numbers, each in its turn
-pub record Passed (τs : List Transition) (seen : ℕ → Bool) : Type 0 where
-  pub each : (k : ℕ) → firstOpen k τs ≡ cond (seen (suc k)) (suc k) 0
 
 module _ {τs : List Transition} {seen : ℕ → Bool} (passed : Passed τs seen) where
   pub passed-seen : (k : ℕ) → seen (suc k) ≡ true → firstOpen k τs ≡ suc k

@@ -6,28 +6,28 @@ use mathlib.Core.Path.{_∙_, _≡_, ap, refl, subst, sym}
 use Prim.Native.Nat.{_*_, _+_, _<_, _≤_, suc, zero, ℕ}
 use native.Mathlib.Omega.{arith}
 use lib.ListN.{length, length-append, length-map}
-use Rattle.automata.specs.Automaton.{Automaton, run, states}
+use Rattle.automata.specs.Automaton.{Automaton, Fits, run, states}
 use Rattle.automata.specs.Change.{addNew, collect, collects, productPairs, subtreeAutomaton, subtreeNumber}
 use Rattle.automata.specs.Change.{subtrees}
 use Rattle.automata.specs.Product.{accessiblePairs, live, livePairs, pairRule}
+use Rattle.automata.specs.ProductView.{pairsWith}
 use Rattle.format.specs.Format.{maxListing, maxStates, nodeBytes}
 use Rattle.lists.specs.Closure.{elem}
 use Rattle.lists.specs.Positions.{Pair, eqPair, grid, upFrom}
-use Rattle.lists.specs.Tests.{_∈_}
+use Rattle.lists.specs.Tests.{Distinct, _∈_}
 use Rattle.trees.specs.Listing.{listing, listings}
 use Rattle.trees.specs.Tree.{Forest, Tree, cons, eqTree, nil, node}
 use Rattle.automata.proofs.Change.{subtrees-closed}
 use Rattle.automata.proofs.Distinguishable.{run-fits}
-use Rattle.automata.proofs.ProductLaws.{pairs-exact, pairsWith}
-use Rattle.automata.proofs.Steps.{Fits}
+use Rattle.automata.proofs.ProductLaws.{pairs-exact}
 use Rattle.automata.proofs.Subtrees.{numbered-subtree}
-use Rattle.lists.proofs.Distinct.{Distinct, closure-distinct, distinct-length, filter-distinct, grid-distinct}
-use Rattle.lists.proofs.Distinct.{map-distinct, upFrom-distinct}
+use Rattle.lists.proofs.Distinct.{closure-distinct, distinct-length, filter-distinct, grid-distinct, map-distinct}
+use Rattle.lists.proofs.Distinct.{upFrom-distinct}
 use Rattle.lists.proofs.Positions.{eqPair-same, eqPair-true, in-upFrom, position-inj, position-length, upFrom-length}
 use Rattle.lists.proofs.Tests.{map-in}
 use Rattle.trees.proofs.Trees.{eqTree-same, eqTree-true}
 
-pairs-distinct : (A B : Automaton) → Distinct (accessiblePairs A B)
+pub pairs-distinct : (A B : Automaton) → Distinct (accessiblePairs A B)
 unfolding accessiblePairs livePairs
 pairs-distinct A B =
     closure-distinct eqPair eqPair-true eqPair-same (pairRule A B) (livePairs A B)

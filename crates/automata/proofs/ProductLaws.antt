@@ -6,36 +6,25 @@ use mathlib.Core.Path.{_∙_, _≡_, ap, refl, subst, sym}
 use Prim.Native.Nat.{ℕ}
 use native.Mathlib.Omega.{arith}
 use lib.ListN.{length}
-use Rattle.automata.specs.Automaton.{Automaton, Transition, run, runs, step}
+use Rattle.automata.specs.Automaton.{Automaton, Fits, Transition, run, runs, step}
 use Rattle.automata.specs.Change.{productTransitions, productWith, subtreeAutomaton, subtreeNumber, subtrees}
 use Rattle.automata.specs.Order.{key, rising}
-use Rattle.automata.specs.Product.{Node, accessiblePairs, fst, live, nodes, outPair, pairNumber, product}
+use Rattle.automata.specs.Product.{Node, fst, live, nodes, outPair, pairNumber, product}
 use Rattle.automata.specs.Product.{productTransition, productTransitionsOver, snd}
+use Rattle.automata.specs.ProductView.{AllIn, NumberedTransition, pairsWith}
 use Rattle.lists.specs.Positions.{Pair, eqPair}
-use Rattle.lists.specs.Tests.{_∈_, filter}
+use Rattle.lists.specs.Tests.{Distinct, _∈_, filter}
 use Rattle.trees.specs.Tree.{Forest, Tree, cons, nil, node}
 use Rattle.automata.proofs.Change.{subtrees-closed, subtrees-fit}
-use Rattle.automata.proofs.Nodes.{AllIn, pairNumbers-inj}
+use Rattle.automata.proofs.Nodes.{pairNumbers-inj}
 use Rattle.automata.proofs.Order.{lex-irrefl, rising-head, rising-tail}
 use Rattle.automata.proofs.Product.{accessible-pair-tree, no-none, node-all, paired, run-product}
 use Rattle.automata.proofs.Sorting.{sort-in, sort-rising}
-use Rattle.automata.proofs.Steps.{Fits, Taken, step-view}
+use Rattle.automata.proofs.Steps.{Taken, step-view}
 use Rattle.automata.proofs.Subtrees.{run-subtree}
 use Rattle.lists.proofs.Closure.{in-elem}
-use Rattle.lists.proofs.Distinct.{Distinct}
 use Rattle.lists.proofs.Positions.{eqPair-same, eqPair-true, position-pos}
 use Rattle.lists.proofs.Tests.{filter-in, map-in}
-
--- the pairs of an automaton and a tree
-abbrev pub pairsWith : Automaton → Tree → List Pair
-pairsWith A t = accessiblePairs A (subtreeAutomaton (subtrees t))
-
--- a transition whose arguments are such pairs and whose output is such a pair
-abbrev pub PairTransition : Automaton → Tree → Transition → Type 0
-PairTransition A t τ =
-    (a : ℕ) × (ks : List Pair) × AllIn (pairsWith A t) ks ×
-    (outPair A (subtreeAutomaton (subtrees t)) (a, ks) ∈ pairsWith A t) ×
-    (τ ≡ productTransition A (subtreeAutomaton (subtrees t)) (pairsWith A t) (a, ks))
 
 -- a strictly rising list has no transition twice
 pub rising-distinct : (τs : List Transition) → rising τs ≡ true → Distinct τs
@@ -125,7 +114,7 @@ module _ (A : Automaton) (fit : Fits A) (t : Tree) where
         let n = run-product A B fit (subtrees-fit t) cls u ∙ ap (pairNumber R) e in
         (cons u f, cc (ap fst e, p), cc (ap snd e, q), cc (n, r))
 
-    product-in : (τ : Transition) → τ ∈ P .transitions → PairTransition A t τ
+    product-in : (τ : Transition) → τ ∈ P .transitions → NumberedTransition A t τ
     unfolding productWith product productTransitionsOver
     product-in τ i =
         go (map-in (productTransition A B R) lives τ (sort-in (map (productTransition A B R) lives) τ i))
@@ -133,14 +122,14 @@ module _ (A : Automaton) (fit : Fits A) (t : Tree) where
         lives : List Node
         lives = filter (λ c. live (outPair A B c)) (nodes A B R)
 
-        go : (c : Node) × (c ∈ lives) × (τ ≡ productTransition A B R c) → PairTransition A t τ
+        go : (c : Node) × (c ∈ lives) × (τ ≡ productTransition A B R c) → NumberedTransition A t τ
         go (c, j, e) =
             let (n, h) = filter-in (λ c. live (outPair A B c)) (nodes A B R) c j in
             let all = node-all A B R (c .0) (c .1) n in
             let (f, p, q, r) = pair-trees (c .1) all in
             (c .0, c .1, all, tree-pair (outPair A B c) h (node (c .0) f) (node-pair (c .0) (c .1) f p q), e)
 
-    in-product : (τ : Transition) → PairTransition A t τ → τ ∈ P .transitions
+    in-product : (τ : Transition) → NumberedTransition A t τ → τ ∈ P .transitions
     unfolding productWith productTransition
     in-product τ (a, ks, all, o, e) = go (pair-trees ks all)
       where
@@ -164,5 +153,5 @@ module _ (A : Automaton) (fit : Fits A) (t : Tree) where
                 rw s i
 
     -- 01: its transitions are those whose arguments are such pairs and whose output is such a pair
-    pub product-exact : (τ : Transition) → (τ ∈ productWith cls A t .transitions) ↔ PairTransition A t τ
+    pub product-exact : (τ : Transition) → (τ ∈ productWith cls A t .transitions) ↔ NumberedTransition A t τ
     product-exact τ = (product-in τ, in-product τ)

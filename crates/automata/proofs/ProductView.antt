@@ -6,13 +6,14 @@ use mathlib.Core.Logic.{_⊎_, inl, inr}
 use mathlib.Core.Path.{_∙_, _≡_, ap, fun-ext, refl, subst, sym}
 use Prim.Native.Nat.{_≤_, ℕ}
 use lib.Dec.{eqb}
-use Rattle.automata.specs.Automaton.{Automaton, Transition, accepting, accepts, run, states}
+use Rattle.automata.specs.Accessible.{ArgsAccessible}
+use Rattle.automata.specs.Automaton.{Automaton, Fits, Transition, accepting, accepts, run, states}
 use Rattle.automata.specs.Canonical.{Canonical}
 use Rattle.automata.specs.Change.{deleteTree, insertTree, productWith, subtreeAutomaton, subtreeNumber}
 use Rattle.automata.specs.Change.{subtrees}
 use Rattle.automata.specs.Minimal.{minimal}
-use Rattle.automata.specs.Order.{rising}
 use Rattle.automata.specs.Product.{live, outPair, product}
+use Rattle.automata.specs.ProductView.{ProductView}
 use Rattle.automata.specs.Valid.{inRange, statesInRange}
 use Rattle.lists.specs.Positions.{Pair}
 use Rattle.lists.specs.Tests.{_∈_, every}
@@ -21,30 +22,11 @@ use Rattle.automata.proofs.Change.{own-not-zero, subtrees-closed, subtr
 use Rattle.automata.proofs.Minimal.{minimal-canonical}
 use Rattle.automata.proofs.PairRuns.{EachNumber, Follows, NumberOrNone, follows-run}
 use Rattle.automata.proofs.Product.{accepts-product, product-accessible, product-fits}
-use Rattle.automata.proofs.ProductLaws.{pairs-exact, pairsWith}
-use Rattle.automata.proofs.Steps.{ArgsAccessible, Fits}
+use Rattle.automata.proofs.ProductLaws.{pairs-exact}
 use Rattle.automata.proofs.Subtrees.{run-subtree}
 use Rattle.automata.proofs.Unique.{unique}
 use Rattle.automata.proofs.Valid.{range-in, ranged-fits}
 use Rattle.lists.proofs.Tests.{and-both, every-in, in-every}
-
--- a transition between numbers in use that goes to the pair of its node
-abbrev pub PairStep : Automaton → Tree → (ℕ → Pair) → (ℕ → Bool) → Transition → Type 0
-PairStep A t δ acc τ =
-    (every acc (τ .args) ≡ true) × (acc (τ .out) ≡ true) ×
-    (δ (τ .out) ≡ outPair A (subtreeAutomaton (subtrees t)) (τ .label, map δ (τ .args)))
-
-pub record ProductView (A : Automaton) (t : Tree) (δ : ℕ → Pair) (acc : ℕ → Bool) (P : Automaton) : Type 0 where
-  -- the numbers in use are states, and each pair has one of them
-  pub sound : (p : ℕ) → acc p ≡ true → (1 ≤ p) × (p ≤ states P) × (δ p ∈ pairsWith A t)
-  pub complete : (k : Pair) → k ∈ pairsWith A t → (p : ℕ) × (acc p ≡ true) × (δ p ≡ k)
-  pub injective : (p q : ℕ) → acc p ≡ true → acc q ≡ true → δ p ≡ δ q → p ≡ q
-  -- the transitions are those of the product, sorted by these numbers
-  pub rises : rising (P .transitions) ≡ true
-  pub only : (τ : Transition) → τ ∈ P .transitions → PairStep A t δ acc τ
-  pub all : (a : ℕ) (ps : List ℕ) → every acc ps ≡ true →
-      live (outPair A (subtreeAutomaton (subtrees t)) (a, map δ ps)) ≡ true →
-      (τ : Transition) × (τ ∈ P .transitions) × (τ .label ≡ a) × (τ .args ≡ ps)
 
 module _ (A : Automaton) (fit : Fits A) (t : Tree) (δ : ℕ → Pair) (acc : ℕ → Bool) (P : Automaton)
     (W : ProductView A t δ acc P) where

@@ -5,36 +5,18 @@ use mathlib.Core.Path.{_∙_, _≡_, ap, refl, subst, sym}
 use Prim.Native.Nat.{_≤_, ℕ}
 use native.Mathlib.Omega.{arith}
 use lib.ListN.{length, length-map}
-use Rattle.automata.specs.Automaton.{Automaton, Transition}
+use Rattle.automata.specs.Automaton.{Automaton, Fits, Transition}
 use Rattle.automata.specs.Change.{productTransitions, productWith, subtreeAutomaton, subtrees}
 use Rattle.automata.specs.Order.{rising}
 use Rattle.automata.specs.Product.{Node, outPair, productTransition}
+use Rattle.automata.specs.ProductView.{AllIn, NumberedTransition, PairStep, ProductView, pairsWith}
 use Rattle.lists.specs.Positions.{Pair}
-use Rattle.lists.specs.Tests.{_∈_, every}
+use Rattle.lists.specs.Tests.{Distinct, _∈_, every}
 use Rattle.trees.specs.Tree.{Tree}
-use Rattle.automata.proofs.Nodes.{AllIn}
-use Rattle.automata.proofs.ProductLaws.{PairTransition, pairs-exact, pairsWith, product-count}
-use Rattle.automata.proofs.ProductLaws.{product-distinct, product-exact, productTransition-inj}
-use Rattle.automata.proofs.ProductLaws.{rising-distinct}
-use Rattle.automata.proofs.ProductView.{PairStep, ProductView}
-use Rattle.automata.proofs.Steps.{Fits}
-use Rattle.lists.proofs.Distinct.{Distinct, distinct-length, map-distinct}
-use Rattle.lists.proofs.Tests.{and-both, and-left, and-right, in-map, map-in}
-
--- lists of numbers in use are separated by their pairs
-pairs-inj : (δ : ℕ → Pair) (acc : ℕ → Bool) →
-    ((p q : ℕ) → acc p ≡ true → acc q ≡ true → δ p ≡ δ q → p ≡ q) → (ps qs : List ℕ) → every acc ps ≡ true →
-    every acc qs ≡ true → map δ ps ≡ map δ qs → ps ≡ qs
-pairs-inj δ acc inj [] [] h k e = refl
-pairs-inj δ acc inj [] (q ∷ qs) h k e = let z : _≡_ {A = ℕ} 0 1 = cc in absurd (omega arith)
-pairs-inj δ acc inj (p ∷ ps) [] h k e = let z : _≡_ {A = ℕ} 0 1 = cc in absurd (omega arith)
-pairs-inj δ acc inj (p ∷ ps) (q ∷ qs) h k e =
-    let u : δ p ≡ δ q = cc in
-    let v : map δ ps ≡ map δ qs = cc in
-    cc (
-      inj p q (and-left _ _ h) (and-left _ _ k) u,
-      pairs-inj δ acc inj ps qs (and-right (acc p) _ h) (and-right (acc q) _ k) v,
-    )
+use Rattle.automata.proofs.ProductLaws.{pairs-exact, product-count, product-distinct, product-exact}
+use Rattle.automata.proofs.ProductLaws.{productTransition-inj, rising-distinct}
+use Rattle.lists.proofs.Distinct.{distinct-length, map-distinct}
+use Rattle.lists.proofs.Tests.{and-both, and-left, and-right, every-in, in-map, map-in, map-inj}
 
 pairs-in : (R : List Pair) (δ : ℕ → Pair) (acc : ℕ → Bool) → ((p : ℕ) → acc p ≡ true → δ p ∈ R) →
     (ps : List ℕ) → every acc ps ≡ true → AllIn R (map δ ps)
@@ -74,7 +56,9 @@ module _ (A : Automaton) (fit : Fits A) (t : Tree) (δ : ℕ → Pair) (acc : �
     original-inj σ τ (h, m, x) (k, n, y) e =
         let c = productTransition-inj A B R (σ .label, map δ (σ .args)) (τ .label, map δ (τ .args))
         (pairs-in R δ acc sound (σ .args) h) e in
-        let q = pairs-inj δ acc injective (σ .args) (τ .args) h k (ap (λ (c : Node). c .1) c) in
+        let q = map-inj δ (σ .args) (τ .args)
+        (λ x y i j. injective x y (every-in acc (σ .args) h x i) (every-in acc (τ .args) k y j))
+        (ap (λ (c : Node). c .1) c) in
         let o = injective (σ .out) (τ .out) m n (x ∙ ap (outPair A B) c ∙ sym y) in
         λ i. record { label = c i .0; args = q i; out = o i }
 
@@ -113,7 +97,7 @@ module _ (A : Automaton) (fit : Fits A) (t : Tree) (δ : ℕ → Pair) (acc : �
     unfolding original
     original-onto τ i = go (product-exact A fit t (λ k. true) τ .0 i)
       where
-        go : PairTransition A t τ → τ ∈ map original (P .transitions)
+        go : NumberedTransition A t τ → τ ∈ map original (P .transitions)
         go (a, ks, h, o, e) = numbered (pairs-numbered R δ acc (W .complete) ks h)
           where
             numbered : (ps : List ℕ) × (every acc ps ≡ true) × (map δ ps ≡ ks) → τ ∈ map original (P .transitions)

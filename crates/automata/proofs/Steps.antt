@@ -4,11 +4,11 @@ use mathlib.Core.List.{List, [], _++_, _∷_}
 use mathlib.Core.Logic.{_⊎_, inl, inr}
 use mathlib.Core.Path.{_∙_, _≡_, ap, refl, sym}
 use Prim.Native.Nat.{ℕ}
-use lib.Dec.{eqb, leb}
+use lib.Dec.{eqb}
 use borrow.Author.Tests.{eqb-true}
-use Rattle.automata.specs.Automaton.{Automaton, Transition, lookup, matches, run, runs, states, step}
+use Rattle.automata.specs.Automaton.{Automaton, Transition, accepting, accepts, lookup, matches, run, runs, step}
 use Rattle.automata.specs.ContextRun.{runContext, stepFrame}
-use Rattle.lists.specs.Tests.{_∈_, any, every}
+use Rattle.lists.specs.Tests.{_∈_, any}
 use Rattle.trees.specs.Context.{Context, Frame, fill, plug}
 use Rattle.trees.specs.Tree.{Forest, Tree, _⧺_, cons, nil}
 use Rattle.lists.proofs.Tests.{and-both, and-left, and-right, eqb-same, in-any, in-append-right, sameList-refl}
@@ -29,15 +29,6 @@ Has τs a qs q = (τ : Transition) × (τ ∈ τs) × (τ .label ≡ a) × (τ .
 -- a step is taken: no argument is 0, and a transition gives its output
 abbrev pub Taken : Automaton → ℕ → List ℕ → Type 0
 Taken A a qs = (any (eqb 0) qs ≡ false) × Has (A .transitions) a qs (step A a qs)
-
--- outputs are states
-abbrev pub Fits : Automaton → Type 0
-Fits A = every (λ τ. leb (τ .out) (states A)) (A .transitions) ≡ true
-
--- every argument of a transition is a state that some tree runs to
-abbrev pub ArgsAccessible : Automaton → Type 0
-ArgsAccessible A =
-    (τ : Transition) → τ ∈ A .transitions → (q : ℕ) → q ∈ τ .args → (t : Tree) × (run A t ≡ q)
 
 pub lookup-view : (a : ℕ) (qs : List ℕ) (ls : List Transition) →
     (lookup a qs ls ≡ 0) ⊎ (Has ls a qs (lookup a qs ls))
@@ -90,6 +81,11 @@ run-fill A f t = rw runs-append
 pub run-plug : (A : Automaton) (c : Context) (t : Tree) → run A (plug c t) ≡ runContext A c (run A t)
 run-plug A [] t = refl
 run-plug A (f ∷ c) t = rw (run-plug A c (fill f t), run-fill A f t)
+
+-- what a context makes of a tree depends on the tree's state
+pub accepts-plug : (A : Automaton) (c : Context) (t : Tree) {q : ℕ} → run A t ≡ q →
+    accepts A (plug c t) ≡ accepting A (runContext A c q)
+accepts-plug A c t e = ap (accepting A) (run-plug A c t ∙ ap (runContext A c) e)
 
 pub runContext-append : (A : Automaton) (c d : Context) (q : ℕ) →
     runContext A (c ++ d) q ≡ runContext A d (runContext A c q)

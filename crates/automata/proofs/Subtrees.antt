@@ -8,13 +8,13 @@ use native.Mathlib.Omega.{arith}
 use lib.Dec.{eqb, leb}
 use lib.ListN.{length, length-map}
 use borrow.Author.Tests.{le-leb, ne-eqb}
-use Rattle.automata.specs.Automaton.{Transition, lookup, run, runs, states, step}
+use Rattle.automata.specs.Automaton.{Fits, Transition, lookup, run, runs, states, step}
 use Rattle.automata.specs.Canonical.{eachTree, transitionOf}
 use Rattle.automata.specs.Change.{addNew, collect, collects, subtreeAutomaton, subtreeNumber, subtreeTransition}
 use Rattle.lists.specs.Closure.{elem}
 use Rattle.lists.specs.Tests.{_∈_, any}
 use Rattle.trees.specs.Tree.{Forest, Tree, cons, eqTree, nil, node}
-use Rattle.automata.proofs.Steps.{Fits, Has, lookup-in, lookup-view}
+use Rattle.automata.proofs.Steps.{Has, lookup-in, lookup-view}
 use Rattle.lists.proofs.Closure.{elem-in}
 use Rattle.lists.proofs.Positions.{position-in, position-inj, position-length, position-none, position-pos}
 use Rattle.lists.proofs.Tests.{in-every, in-map, map-in}

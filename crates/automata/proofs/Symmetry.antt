@@ -1,4 +1,4 @@
--- Telling states apart goes both ways, and 0 is not separated from itself.
+-- Distinguishing states goes both ways, and 0 is not separated from itself.
 use mathlib.Core.Bool.{Bool, Bool·beq, not, true}
 use mathlib.Core.Logic.{_⊎_, inl, inr}
 use mathlib.Core.Path.{_∙_, _≡_, ap, refl, subst, sym}
@@ -21,9 +21,10 @@ differ-sym : (a b : Bool) → not (Bool·beq a b) ≡ true → not (Bool·beq b 
 differ-sym a b e = differs b a (λ q. differ a b e (sym q))
 
 module _ (A : Automaton) where
-  -- separating apart goes both ways
+  -- distinguishing goes both ways
   pub separated-sym : (p q : ℕ) → distinguishable A p q ≡ true → distinguishable A q p ≡ true
-  separated-sym p q e = closure-all eqPair eqPair-true eqPair-same (distinguishableRule A) (pairs A) Turned made (p, q) e
+  separated-sym p q e =
+      closure-all eqPair eqPair-true eqPair-same (distinguishableRule A) (pairs A) Turned made (p, q) e
     where
       Turned : Pair → Type 0
       Turned k = distinguishable A (k .1) (k .0) ≡ true

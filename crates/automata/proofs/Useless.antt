@@ -5,7 +5,7 @@ use mathlib.Core.Logic.{_≢_}
 use mathlib.Core.Path.{_∙_, _≡_, ap, refl, sym}
 use Prim.Native.Nat.{_≤_, ℕ}
 use native.Mathlib.Omega.{arith}
-use Rattle.automata.specs.Automaton.{Automaton, Transition, accepting, run, states}
+use Rattle.automata.specs.Automaton.{Automaton, Fits, Transition, accepting, run, states}
 use Rattle.automata.specs.Coaccessible.{coaccessible}
 use Rattle.automata.specs.ContextRun.{runContext}
 use Rattle.automata.specs.Distinguishable.{distinguishable}
@@ -15,7 +15,7 @@ use Rattle.trees.specs.Context.{Context}
 use Rattle.trees.specs.Tree.{Tree}
 use Rattle.automata.proofs.Coaccessible.{coaccessible-useful, useful-coaccessible}
 use Rattle.automata.proofs.Distinguishable.{distinguishable-separated, separated-distinguishable}
-use Rattle.automata.proofs.Steps.{Fits, runContext-zero}
+use Rattle.automata.proofs.Steps.{runContext-zero}
 use Rattle.lists.proofs.Tests.{same-test}
 
 -- "no state" is not accepted in any context, so what differs from it is

@@ -1,11 +1,13 @@
 -- The states that some tree runs to (01, refusal 9).
 use mathlib.Core.Bool.{Bool, _&&_}
+use mathlib.Core.Path.{_≡_}
 use Prim.Native.Nat.{ℕ}
 use lib.Dec.{eqb}
-use Rattle.automata.specs.Automaton.{Automaton, states}
+use Rattle.automata.specs.Automaton.{Automaton, Transition, run, states}
 use Rattle.lists.specs.Closure.{closure, elem}
 use Rattle.lists.specs.Positions.{upFrom}
-use Rattle.lists.specs.Tests.{any, every}
+use Rattle.lists.specs.Tests.{_∈_, any, every}
+use Rattle.trees.specs.Tree.{Tree}
 
 -- q is the output of a transition whose arguments are all marked
 abbrev pub accessibleRule : Automaton → (ℕ → Bool) → ℕ → Bool
@@ -18,3 +20,8 @@ accessible A q = elem eqb q (closure eqb (accessibleRule A) (upFrom 1 (states A)
 -- condition 9: every state is accessible
 abbrev pub allAccessible : Automaton → Bool
 allAccessible A = every (accessible A) (upFrom 1 (states A))
+
+-- every argument of a transition is a state that some tree runs to
+abbrev pub ArgsAccessible : Automaton → Type 0
+ArgsAccessible A =
+    (τ : Transition) → τ ∈ A .transitions → (q : ℕ) → q ∈ τ .args → (t : Tree) × (run A t ≡ q)

@@ -3,10 +3,10 @@ use mathlib.Core.Bool.{Bool, _&&_, _||_, not, true}
 use mathlib.Core.Path.{_≡_}
 use Prim.Native.Nat.{_≤_, ℕ}
 use lib.Dec.{eqb}
-use Rattle.automata.specs.Automaton.{Automaton, states}
+use Rattle.automata.specs.Automaton.{Automaton, Transition, states}
 use Rattle.lists.specs.Closure.{closure, elem}
 use Rattle.lists.specs.Positions.{Pair, eqPair, grid, upFrom}
-use Rattle.lists.specs.Tests.{any, every}
+use Rattle.lists.specs.Tests.{_∈_, any, every}
 use Rattle.trees.specs.Tree.{Tree, depth}
 
 -- p is an argument of a transition whose output is q
@@ -25,6 +25,15 @@ leads A p q =
 -- condition 11: no state comes back to itself
 unfoldable pub acyclic : Automaton → Bool
 acyclic A = every (λ q. not (leads A q q)) (upFrom 1 (states A))
+
+-- in 01's words: p is an argument of a transition whose output is q
+abbrev pub Feeds : Automaton → ℕ → ℕ → Type 0
+Feeds A p q = (τ : Transition) × (τ ∈ A .transitions) × (p ∈ τ .args) × (τ .out ≡ q)
+
+-- in 01's words: going from arguments to outputs, one or more times, comes from p to q
+pub data Leads (A : Automaton) : ℕ → ℕ → Type 0 where
+  once : {p q : ℕ} → Feeds A p q → Leads A p q
+  more : {p x q : ℕ} → Leads A p x → Feeds A x q → Leads A p q
 
 -- some depth that no tree of the set exceeds: with finitely many labels, the set is finite
 unfoldable pub Bounded : (Tree → Bool) → Type 0

@@ -1,10 +1,11 @@
 -- Frontier-to-root tree automata. States are 1 to n; 0 is "no state" (the paper's absorption state).
-use mathlib.Core.Bool.{Bool, _&&_, cond, false}
+use mathlib.Core.Bool.{Bool, _&&_, cond, false, true}
 use mathlib.Core.List.{List, [], _∷_}
-use Prim.Native.Nat.{suc, zero, ℕ}
-use lib.Dec.{eqb}
+use mathlib.Core.Path.{_≡_}
+use Prim.Native.Nat.{_≤_, suc, zero, ℕ}
+use lib.Dec.{eqb, leb}
 use lib.ListN.{getD, length}
-use Rattle.lists.specs.Tests.{any, sameList}
+use Rattle.lists.specs.Tests.{any, every, sameList}
 use Rattle.trees.specs.Tree.{Forest, Tree, cons, nil, node}
 
 -- a transition (01: a line): a label over argument states gives an output state
@@ -31,7 +32,15 @@ lookup a qs (τ ∷ τs) = let r = lookup a qs τs in cond (matches a qs τ) (τ
 abbrev pub states : Automaton → ℕ
 states A = length (A .classes)
 
--- the state of a node from its label and its children's states; 0 where a child has none
+-- q is one of the states 1 to n
+abbrev pub IsState : Automaton → ℕ → Type 0
+IsState A q = (1 ≤ q) × (q ≤ states A)
+
+-- the outputs of the transitions are at most n
+abbrev pub Fits : Automaton → Type 0
+Fits A = every (λ τ. leb (τ .out) (states A)) (A .transitions) ≡ true
+
+-- the state of a node from its label and its children's states; 0 if a child has none
 abbrev pub step : Automaton → ℕ → List ℕ → ℕ
 step A a qs = cond (any (eqb 0) qs) 0 (lookup a qs (A .transitions))
 

@@ -24,7 +24,7 @@ abbrev pub eachTree : (Tree → ℕ) → Forest → List ℕ
 eachTree g nil = []
 eachTree g (cons t f) = g t ∷ eachTree g f
 
--- the transition at a node, where g numbers the subtrees
+-- the transition at a node, with the subtrees numbered by g
 abbrev pub transitionOf : (Tree → ℕ) → ℕ → Forest → Transition
 transitionOf g a f = record { label = a; args = eachTree g f; out = g (node a f) }
 
@@ -32,6 +32,7 @@ transitionOf g a f = record { label = a; args = eachTree g f; out = g (node a f)
 abbrev pub Occurs : (Tree → Bool) → (Tree → ℕ) → Transition → Type 0
 Occurs S g τ = (a : ℕ) × (f : Forest) × Subtree S (node a f) × (τ ≡ transitionOf g a f)
 
+-- the automaton of the set (01: the book of a set)
 pub record Canonical (S : Tree → Bool) (A : Automaton) : Type 0 where
   -- the state of a subtree's group
   pub group : Tree → ℕ
@@ -41,7 +42,7 @@ pub record Canonical (S : Tree → Bool) (A : Automaton) : Type 0 where
   -- the states are 1 to n, and none is unused
   pub range : (t : Tree) → Subtree S t → (1 ≤ group t) × (group t ≤ states A)
   pub onto : (q : ℕ) → 1 ≤ q → q ≤ states A → (t : Tree) × Subtree S t × (group t ≡ q)
-  -- the class of a group: 1 where its subtrees are in the set
+  -- the class of a group: 1 if its subtrees are in the set
   pub classed : (t : Tree) → Subtree S t → accepting A (group t) ≡ S t
   -- the transitions are those that occur in subtrees
   pub occurs : (a : ℕ) (f : Forest) → Subtree S (node a f) → transitionOf group a f ∈ A .transitions

@@ -12,7 +12,7 @@ use Rattle.lists.specs.Closure.{elem}
 use Rattle.lists.specs.Positions.{Pair, position}
 use Rattle.trees.specs.Tree.{Forest, Tree, cons, eqTree, nil, node}
 
--- a tree added to a list, where it is not there yet
+-- a tree added to a list, if it is not there yet
 abbrev pub addNew : Tree → List Tree → List Tree
 addNew t P = cond (elem eqTree t P) P (t ∷ P)
 
@@ -41,15 +41,16 @@ subtreeTransition P (node a f) = transitionOf (subtreeNumber P) a f
 unfoldable pub subtreeAutomaton : List Tree → Automaton
 subtreeAutomaton P = record { classes = map (λ t. true) P; transitions = map (subtreeTransition P) P }
 
--- the product with a tree (01: the pair automaton): a tree runs to its state in the one and, where it is
--- a subtree of t, its number in the other
+-- the product with a tree (01: the pair automaton): a tree runs to its state in the one and, if it is
+-- a subtree of t, to its number in the other
 unfoldable pub productWith : (Pair → Bool) → Automaton → Tree → Automaton
 productWith cls A t = product cls A (subtreeAutomaton (subtrees t))
 
--- the number of pairs, and of transitions between them (01, refusal 16)
+-- the number of pairs
 unfoldable pub productPairs : Automaton → Tree → ℕ
 productPairs A t = length (accessiblePairs A (subtreeAutomaton (subtrees t)))
 
+-- the number of transitions between pairs (01, refusal 16)
 unfoldable pub productTransitions : Automaton → Tree → ℕ
 productTransitions A t = length (productWith (λ k. true) A t .transitions)
 

@@ -1,12 +1,18 @@
 -- The pairs of states that some context separates (01, refusal 12); 0 takes part.
 use mathlib.Core.Bool.{Bool, Bool·beq, _||_, not}
 use mathlib.Core.List.{List, [], _++_, _∷_, map}
+use mathlib.Core.Logic.{_≢_}
+use mathlib.Core.Path.{_≡_}
 use Prim.Native.Nat.{suc, ℕ}
 use lib.Dec.{eqb}
-use Rattle.automata.specs.Automaton.{Automaton, Transition, accepting, states, step}
+use Rattle.automata.specs.Automaton.{Automaton, Transition, accepting, accepts, run, states}
+use Rattle.automata.specs.Automaton.{step}
+use Rattle.automata.specs.ContextRun.{runContext}
 use Rattle.lists.specs.Closure.{closure, elem}
 use Rattle.lists.specs.Positions.{Pair, eqPair, grid, upFrom}
 use Rattle.lists.specs.Tests.{any, every}
+use Rattle.trees.specs.Context.{Context, plug}
+use Rattle.trees.specs.Tree.{Tree}
 
 -- a transition's label and arguments with one argument left out
 pub record Slot : Type 0 where
@@ -46,8 +52,18 @@ pairs A = grid (upFrom 0 (suc (states A))) (upFrom 0 (suc (states A)))
 abbrev pub distinguishablePairs : Automaton → List Pair
 distinguishablePairs A = closure eqPair (distinguishableRule A) (pairs A)
 
+-- the pair is marked
 abbrev pub distinguishable : Automaton → ℕ → ℕ → Bool
 distinguishable A p q = elem eqPair (p, q) (distinguishablePairs A)
+
+-- some context accepts with the one and not with the other
+abbrev pub Separated : Automaton → Pair → Type 0
+Separated A k = (c : Context) × (accepting A (runContext A c (k .0)) ≢ accepting A (runContext A c (k .1)))
+
+-- 01: the same class and, in every context, a tree of the one and a tree of the other are both accepted or both not
+pub record Alike (A : Automaton) (p q : ℕ) : Type 0 where
+  pub class : accepting A p ≡ accepting A q
+  pub filled : (c : Context) (t u : Tree) → run A t ≡ p → run A u ≡ q → accepts A (plug c t) ≡ accepts A (plug c u)
 
 -- condition 12: no two different states are equivalent
 abbrev pub allDistinguishable : Automaton → Bool

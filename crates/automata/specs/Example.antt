@@ -6,10 +6,11 @@ use Rattle.automata.specs.Automaton.{Automaton, Transition, emptyAutomat
 use Rattle.automata.specs.Change.{insertTree}
 use Rattle.trees.specs.Tree.{Tree, cons, nil, node}
 
--- (a), and (a (b) (c))
+-- the tree (a)
 abbrev pub leaf : ℕ → Tree
 leaf a = node a nil
 
+-- the tree (a (b) (c))
 abbrev pub fork : ℕ → ℕ → ℕ → Tree
 fork a b c = node a (cons (leaf b) (cons (leaf c) nil))
 
@@ -18,9 +19,11 @@ abbrev pub inserted : List Tree → Automaton
 inserted [] = emptyAutomaton
 inserted (t ∷ ts) = insertTree t (inserted ts)
 
+-- the tree that is put in, and the four that were put in before it, the first last
 abbrev pub exampleTrees : List Tree
 exampleTrees = fork 2 1 2 ∷ fork 1 2 2 ∷ fork 1 2 1 ∷ fork 1 1 2 ∷ fork 1 1 1 ∷ []
 
+-- a transition with these fields
 abbrev pub transition : ℕ → List ℕ → ℕ → Transition
 transition a qs q = record { label = a; args = qs; out = q }
 

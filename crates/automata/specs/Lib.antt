@@ -11,5 +11,7 @@ pub mod Renumber
 pub mod Minimal
 pub mod Product
 pub mod Change
+pub mod ProductView
+pub mod TreePairs
 pub mod Valid
 pub mod Example

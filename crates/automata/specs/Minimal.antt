@@ -10,12 +10,12 @@ use Rattle.lists.specs.Closure.{elem}
 use Rattle.lists.specs.Positions.{Pair, eqPair, upFrom}
 use Rattle.lists.specs.Tests.{filter}
 
--- the first number that passes the test; 0 where none does
+-- the first number that passes the test; 0 if none does
 abbrev pub first : (ℕ → Bool) → List ℕ → ℕ
 first p [] = 0
 first p (x ∷ xs) = let r = first p xs in cond (p x) x r
 
--- the first of 0 to n that is equivalent to p, where P lists the distinguishable pairs
+-- the first of 0 to n that is equivalent to p; P lists the distinguishable pairs
 unfoldable pub representative : List Pair → ℕ → ℕ → ℕ
 representative P n p = first (λ q. not (elem eqPair (p, q) P)) (upFrom 0 (suc n))
 
@@ -31,5 +31,6 @@ merge A P τ = record {
 unfoldable pub quotient : Automaton → List Pair → List Transition
 quotient A P = filter (λ τ. not (eqb 0 (τ .out))) (map (merge A P) (A .transitions))
 
+-- the minimal automaton
 unfoldable pub minimal : Automaton → Automaton
 minimal A = renumbered (accepting A) (quotient A (distinguishablePairs A))

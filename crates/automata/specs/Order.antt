@@ -21,11 +21,12 @@ key τ = length (τ .args) ∷ τ .label ∷ τ .args
 abbrev pub precedes : Transition → Transition → Bool
 precedes σ τ = lex (key σ) (key τ)
 
--- condition 8: each comes before the next
+-- each comes before the next, the first after τ
 abbrev pub risingFrom : Transition → List Transition → Bool
 risingFrom τ [] = true
 risingFrom τ (υ ∷ υs) = precedes τ υ && risingFrom υ υs
 
+-- condition 8: each comes before the next
 abbrev pub rising : List Transition → Bool
 rising [] = true
 rising (τ ∷ τs) = risingFrom τ τs

@@ -15,10 +15,11 @@ module _ {A B : Type 0} where
   concatMap f [] = []
   concatMap f (x ∷ xs) = f x ++ concatMap f xs
 
--- the two sides of a pair
+-- the first side of a pair
 abbrev pub fst : Pair → ℕ
 fst k = k .0
 
+-- the second side of a pair
 abbrev pub snd : Pair → ℕ
 snd k = k .1
 

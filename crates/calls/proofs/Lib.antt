@@ -2,3 +2,5 @@ pub mod Samples
 pub mod Conditions
 pub mod Model
 pub mod Series
+pub mod Changes
+pub mod Answers

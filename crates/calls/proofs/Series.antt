@@ -1,52 +1,41 @@
--- SERIES (demand 3): for every list of calls, refused ones included, the answers are the model's and the
--- table is that of the model's set.
+-- SERIES (demand 3): for every list of calls, refused ones included, what the calls give back is what the model does,
+-- and the table is that of the model's set.
 use mathlib.Core.Bool.{Bool, cond, false, true}
-use mathlib.Core.List.{List, [], _++_, _∷_}
+use mathlib.Core.List.{List, [], _++_, _∷_, append-assoc}
 use mathlib.Core.Path.{_∙_, _≡_, ap, ap₂, refl, subst, sym}
-use Prim.Native.Nat.{ℕ}
+use Prim.Native.Nat.{suc, zero, ℕ}
 use lib.Dec.{eqb, leb}
-use lib.ListN.{length}
+use lib.ListN.{length, replicate}
 use borrow.Author.Tests.{eqb-true, leb-true}
 use Rattle.automata.specs.Acyclic.{Bounded}
-use Rattle.automata.specs.Automaton.{Automaton, accepts, states}
+use Rattle.automata.specs.Automaton.{Automaton, accepting, accepts, emptyAutomaton, run, states}
 use Rattle.automata.specs.Canonical.{Canonical}
 use Rattle.calls.specs.Calls.{Change, acceptedWith, addResult, approval, askAnswer, askRefusal}
-use Rattle.calls.specs.Calls.{changeConditions, changeRefusal, changeResult, changed, changedTree, delete}
-use Rattle.calls.specs.Calls.{doneWith, insert, intakeAnswer, outcome, refusedOr, removeResult}
-use Rattle.calls.specs.Calls.{scratchCondition}
-use Rattle.calls.specs.Samples.{holds}
-use Rattle.calls.specs.Series.{BringsBytes, Call, Model, add, answers, ask, canonicalOf, changedSet, intake}
-use Rattle.calls.specs.Series.{member, modelAfter, modelAnswers, modelOf, modelRefusal, perform, remove}
-use Rattle.calls.specs.Series.{respond, settled, tableAfter, withChange}
-use Rattle.format.specs.Format.{AllBytes, maxStates, maxTransitions}
+use Rattle.calls.specs.Calls.{changeRefusal, changeResult, changed, changedTree, delete, doneWith}
+use Rattle.calls.specs.Calls.{earlyConditions, insert, intakeAnswer, outcome, presence, refusedOr, removeResult}
+use Rattle.calls.specs.Calls.{scratchAfter, scratchCondition, sizeConditions}
+use Rattle.calls.specs.Claim.{Agrees, InStep, Meaning}
+use Rattle.calls.specs.Series.{AllBring, BringsBytes, Call, Model, Response, add, canonicalOf, changedSet}
+use Rattle.calls.specs.Series.{emptyModel, member, modelConditions, modelOf, modelRefusal, onlyAnswer, perform}
+use Rattle.calls.specs.Series.{query, queryResult, remove, replied, respond, settled, withChange}
+use Rattle.format.specs.Format.{AllBytes, maxStates, maxTransitions, tableBytes}
 use Rattle.lists.specs.Conditions.{Condition, firstBroken}
 use Rattle.table.specs.Intake.{WithinLimits, contentConditions, fitsTable, lengthCondition, tableRefusal}
 use Rattle.table.specs.Layout.{decode, encode}
 use Rattle.trees.specs.Legal.{Legal}
 use Rattle.trees.specs.Listing.{listingConditions, listingRefusal, readTree}
 use Rattle.trees.specs.Tree.{Tree}
+use Rattle.automata.proofs.CanonicalChange.{canonical-fits}
 use Rattle.automata.proofs.Legal.{accepted-legal, canonical-legal}
-use Rattle.automata.proofs.Unique.{next}
-use Rattle.calls.proofs.Conditions.{change-from-one, table-from-one}
-use Rattle.calls.proofs.Model.{Sound, changed-bounded, changed-canonical, changed-legal, sound-accepts}
-use Rattle.lists.proofs.Conditions.{AllHold, append-same, from-one-append, hold-append, hold-first, hold-last}
-use Rattle.lists.proofs.Conditions.{unbroken-hold}
+use Rattle.automata.proofs.ProductCounted.{product-counted}
+use Rattle.calls.proofs.Conditions.{model-from-one, table-from-one}
+use Rattle.calls.proofs.Model.{change-canonical, changed-bounded, changed-legal, model-accepts}
+use Rattle.lists.proofs.Conditions.{AllHold, append-same, hold-append, hold-first, hold-last, unbroken-hold}
 use Rattle.lists.proofs.Tests.{and-left, and-right}
-use Rattle.table.proofs.Intake.{canonical-passes, passes-canonical}
+use Rattle.table.proofs.Intake.{canonical-passes, empty-bounded, empty-canonical, empty-limits, encode-empty}
+use Rattle.table.proofs.Intake.{passes-canonical}
 use Rattle.table.proofs.RoundTrip.{decode-encode}
-use Rattle.trees.proofs.ListingRefusal.{listing-from-one, passed-legal}
-
--- a table and a model that are in step
-pub record InStep (b : List ℕ) (m : Model) : Type 0 where
-  pub table : b ≡ encode (canonicalOf m)
-  pub canonical : Sound m
-  pub bounded : Bounded (member m)
-  pub limits : WithinLimits (canonicalOf m)
-
--- every call of a list brings bytes
-abbrev pub AllBring : List Call → Type 0
-AllBring [] = Unit {0}
-AllBring (c ∷ cs) = BringsBytes c × AllBring cs
+use Rattle.trees.proofs.ListingRefusal.{passed-legal}
 
 module _ (b : List ℕ) (m : Model) (X : InStep b m) where
   decoded : decode b ≡ canonicalOf m
@@ -54,7 +43,11 @@ module _ (b : List ℕ) (m : Model) (X : InStep b m) where
 
   -- the set is what the automaton accepts
   accepted : accepts (canonicalOf m) ≡ member m
-  accepted = sound-accepts m (X .canonical)
+  accepted = model-accepts m (X .canonical)
+
+  pub in-step-accepts : (u : Tree) → accepts (decode b) u ≡ member m u
+  in-step-accepts u =
+      ap (λ (A : Automaton). accepts A u) decoded ∙ ap (λ (S : Tree → Bool). S u) accepted
 
   -- no table condition is broken
   unrefused : tableRefusal b ≡ 0
@@ -67,6 +60,8 @@ module _ (b : List ℕ) (m : Model) (X : InStep b m) where
   unfolding tableRefusal
   table-hold = unbroken-hold (lengthCondition b ∷ contentConditions b) (table-from-one b) unrefused
 
+  -- ---- calls that only read
+
   ask-refusal : (s : List ℕ) → askRefusal s b ≡ listingRefusal s
   unfolding askRefusal listingRefusal
   ask-refusal s = hold-last (listingConditions s) (lengthCondition b ∷ contentConditions b) table-hold
@@ -75,34 +70,53 @@ module _ (b : List ℕ) (m : Model) (X : InStep b m) where
   unfolding askAnswer
   ask-same s =
       ap₂ (λ (r : ℕ) (a : Bool). refusedOr r (approval a)) (ask-refusal s)
-      (ap (λ (A : Automaton). accepts A (readTree s)) decoded ∙ ap (λ (S : Tree → Bool). S (readTree s)) accepted)
+      (in-step-accepts (readTree s))
 
   intake-same : intakeAnswer b ≡ acceptedWith (canonicalOf m)
   unfolding intakeAnswer
   intake-same = rw (unrefused, decoded)
 
-  -- the table's conditions fall out of a change's refusal
-  change-refusal : (c : Change) (s w : List ℕ) → changeRefusal c s b w ≡ modelRefusal m c s w
-  unfolding changeRefusal modelRefusal
-  change-refusal c s w =
-      append-same (listingConditions s)
-      (lengthCondition b ∷ scratchCondition w ∷ (contentConditions b ++ theirs))
-      (scratchCondition w ∷ ours) (rw (table-hold .0) (ap (λ (r : ℕ). cond (scratchCondition w .holds) r 6) rest))
-    where
-      theirs : List Condition
-      theirs = changeConditions c (accepts (decode b) (changedTree c)) (decode b)
+  pub in-step-meaning : Meaning m
+  unfolding queryResult
+  in-step-meaning = record {
+    canonical = X .canonical;
+    changes = change-canonical m (X .canonical);
+    pairs = λ t. product-counted t (canonicalOf m) (canonical-fits (member m) (canonicalOf m) (X .canonical));
+    asked = λ s. ap onlyAnswer (ap (askAnswer s) (sym (X .table)) ∙ ask-same s);
+    taken = ap onlyAnswer (ap intakeAnswer (sym (X .table)) ∙ intake-same);
+  }
 
-      ours : List Condition
-      ours = changeConditions c (member m (changedTree c)) (canonicalOf m)
+  -- ---- changes
 
-      rest : firstBroken (contentConditions b ++ theirs) ≡ firstBroken ours
-      rest =
-          hold-first (contentConditions b) theirs (table-hold .1)
-          ∙ ap (λ (A : Automaton). firstBroken (changeConditions c (accepts A (changedTree c)) A)) decoded
-          ∙ ap (λ (S : Tree → Bool). firstBroken (changeConditions c (S (changedTree c)) (canonicalOf m))) accepted
+  module _ (c : Change) (s w : List ℕ) where
+    -- what the call asks of the table beside the model's conditions holds
+    pub change-refusal : changeRefusal c s b w ≡ modelRefusal m c s w
+    unfolding changeRefusal earlyConditions modelRefusal modelConditions canonicalOf
+    change-refusal =
+        ap firstBroken (append-assoc (listingConditions s) _ sizes)
+        ∙ append-same (listingConditions s)
+        (lengthCondition b ∷ scratchCondition w ∷ ((contentConditions b ++ (present ∷ [])) ++ sizes))
+        (scratchCondition w ∷ ours) (rw (table-hold .0) (ap (λ (r : ℕ). cond (scratchCondition w .holds) r 6) rest))
+      where
+        present : Condition
+        present = presence c (accepts (decode b) (changedTree c))
+
+        sizes : List Condition
+        sizes = sizeConditions c (decode b)
+
+        ours : List Condition
+        ours = presence c (member m (changedTree c)) ∷ sizeConditions c (canonicalOf m)
+
+        rest : firstBroken ((contentConditions b ++ (present ∷ [])) ++ sizes) ≡ firstBroken ours
+        rest =
+            ap firstBroken (append-assoc (contentConditions b) (present ∷ []) sizes)
+            ∙ hold-first (contentConditions b) (present ∷ sizes) (table-hold .1)
+            ∙ ap (λ (A : Automaton). firstBroken (presence c (accepts A (changedTree c)) ∷ sizeConditions c A)) decoded
+            ∙ ap (λ (S : Tree → Bool). firstBroken (presence c (S (changedTree c)) ∷ sizeConditions c (canonicalOf
+            m))) accepted
 
   -- a change that no condition refuses, by a legal tree
-  changed-in-step : (c : Change) → Legal (changedTree c) → fitsTable (changed c (canonicalOf m)) ≡ true →
+  changed-in-step : (c : Change) → Legal (changedTree c) → fitsTable (canonicalOf (withChange c m)) ≡ true →
       InStep (encode (changed c (decode b))) (withChange c m)
   unfolding member canonicalOf
   changed-in-step c l f = record {
@@ -110,47 +124,43 @@ module _ (b : List ℕ) (m : Model) (X : InStep b m) where
     canonical = Y;
     bounded = changed-bounded c (member m) (X .bounded);
     limits = record {
-      states = leb-true (states (changed c A)) maxStates (and-left _ _ f);
-      transitions =
-          leb-true (length (changed c A .transitions)) maxTransitions (and-right (leb (states (changed c A))
-          maxStates) _ f);
-      legal = canonical-legal (changedSet c (member m)) (changed c A) Y (changed-legal c (member m) l members-legal);
+      states = leb-true (states B) maxStates (and-left _ _ f);
+      transitions = leb-true (length (B .transitions)) maxTransitions (and-right (leb (states B) maxStates) _ f);
+      legal = canonical-legal (changedSet c (member m)) B Y (changed-legal c (member m) l members-legal);
     };
   }
     where
-      A : Automaton
-      A = canonicalOf m
+      B : Automaton
+      B = canonicalOf (withChange c m)
 
-      Y : Canonical (changedSet c (member m)) (changed c A)
-      Y = changed-canonical c (member m) A (X .canonical)
+      Y : Canonical (changedSet c (member m)) B
+      Y = change-canonical m (X .canonical) c
 
       members-legal : (u : Tree) → member m u ≡ true → Legal u
       members-legal u e =
-          accepted-legal A (X .limits .legal) u (ap (λ (S : Tree → Bool). S u) accepted ∙ e)
+          accepted-legal (canonicalOf m) (X .limits .legal) u (ap (λ (S : Tree → Bool). S u) accepted ∙ e)
 
   module _ (c : Change) (s w : List ℕ) (bytes : AllBytes s) (tree : changedTree c ≡ readTree s) where
     abbrev r : ℕ
     r = modelRefusal m c s w
 
-    -- where nothing is refused, the listing was that of a legal tree and the new table has room
+    -- if nothing is refused, the listing was that of a legal tree and the new table has room
     fresh : modelRefusal m c s w ≡ 0 → InStep (encode (changed c (decode b))) (withChange c m)
-    unfolding modelRefusal changeConditions
+    unfolding modelRefusal modelConditions
     fresh e =
-        let all = unbroken-hold (listingConditions s ++ (scratchCondition w ∷ changeConditions c (member m
-        (changedTree c)) (canonicalOf m)))
-        (from-one-append (listingConditions s) (scratchCondition w ∷ changeConditions c (member m (changedTree c))
-        (canonicalOf m))
-        (listing-from-one s) (change-from-one c (member m (changedTree c)) (canonicalOf m) w)) e in
-        let (p, q) = hold-append (listingConditions s) (scratchCondition w ∷ changeConditions c (member m
-        (changedTree c)) (canonicalOf m)) all in
+        let (p, q) = hold-append (listingConditions s) _ (unbroken-hold (modelConditions m c s w)
+        (model-from-one m c s w) e) in
         changed-in-step c (subst Legal (sym tree) (passed-legal s bytes p)) (q .1 .1 .1 .0)
 
-    change-answer : changeResult c s b w .answer ≡ settled (modelRefusal m c s w) c m .answer
+    pub change-response : replied (changeResult c s b w) .response ≡ settled (modelRefusal m c s w) c w m .response
     unfolding changeResult outcome canonicalOf
-    change-answer =
-        ap₂ (λ (n : ℕ) (A : Automaton). refusedOr n (doneWith (changed c A))) (change-refusal c s w) decoded
+    change-response =
+        ap₂ (λ (n : ℕ) (A : Automaton). response n A) (change-refusal c s w) decoded
+      where
+        response : ℕ → Automaton → Response
+        response n A = record { answer = refusedOr n (doneWith (changed c A)); lent = scratchAfter n w }
 
-    change-in-step : InStep (changeResult c s b w .table) (settled (modelRefusal m c s w) c m .next)
+    pub change-in-step : InStep (changeResult c s b w .table) (settled (modelRefusal m c s w) c w m .next)
     unfolding changeResult outcome
     change-in-step = rw (change-refusal c s w) (go (eqb r 0) refl)
       where
@@ -160,30 +170,24 @@ module _ (b : List ℕ) (m : Model) (X : InStep b m) where
 
   -- one call
   pub one-call : (c : Call) → BringsBytes c →
-      (perform b c .answer ≡ respond m c .answer) × InStep (perform b c .next) (respond m c .next)
+      (perform b c .response ≡ respond m c .response) × InStep (perform b c .next) (respond m c .next)
   unfolding perform respond addResult removeResult
-  one-call (ask s) h = (ask-same s, X)
-  one-call intake h = (intake-same, X)
-  one-call (add s w) h = (
-    change-answer (insert (readTree s)) s w h refl,
-    change-in-step (insert (readTree s)) s w h
-        refl,
-  )
+  one-call (query x) h = (ap (queryResult x) (X .table), X)
+  one-call (add s w) h =
+      (change-response (insert (readTree s)) s w h refl, change-in-step (insert (readTree s)) s w h refl)
   one-call (remove s w) h =
-      (change-answer (delete (readTree s)) s w h refl, change-in-step (delete (readTree s)) s w h refl)
-
--- what a list of calls from a table leaves, against the model
-pub record Agrees (b : List ℕ) (m : Model) (cs : List Call) : Type 0 where
-  pub answers : answers b cs ≡ modelAnswers m cs
-  pub table : tableAfter b cs ≡ encode (canonicalOf (modelAfter m cs))
-  pub canonical : Canonical (member (modelAfter m cs)) (canonicalOf (modelAfter m cs))
+      (change-response (delete (readTree s)) s w h refl, change-in-step (delete (readTree s)) s w h refl)
 
 from-step : (b : List ℕ) (m : Model) → InStep b m → (cs : List Call) → AllBring cs → Agrees b m cs
-from-step b m X [] h = record { answers = refl; table = X .table; canonical = X .canonical }
+from-step b m X [] h = record { responses = refl; table = X .table; meaning = in-step-meaning b m X }
 from-step b m X (c ∷ cs) h =
     let (a, Y) = one-call b m X c (h .0) in
     let R = from-step (perform b c .next) (respond m c .next) Y cs (h .1) in
-    record { answers = λ i. a i ∷ R .answers i; table = R .table; canonical = R .canonical }
+    record {
+      responses = λ i. a i ∷ R .responses i;
+      table = R .table;
+      meaning = (in-step-meaning b m X, R .meaning);
+    }
 
 -- a table that passed intake is in step with its model
 pub passed-in-step : (b : List ℕ) → AllBytes b → tableRefusal b ≡ 0 → InStep b (modelOf b)
@@ -198,3 +202,25 @@ passed-in-step b h e = let P = passes-canonical b h e in record {
 -- SERIES: from every table that passed intake, for every list of calls that bring any bytes of any length
 pub series : (b : List ℕ) → AllBytes b → tableRefusal b ≡ 0 → (cs : List Call) → AllBring cs → Agrees b (modelOf b) cs
 series b h e cs bring = from-step b (modelOf b) (passed-in-step b h e) cs bring
+
+-- the all-zero table is in step with the model of the empty set
+pub zero-in-step : InStep (replicate tableBytes 0) emptyModel
+unfolding emptyModel member canonicalOf
+zero-in-step = record {
+  table = sym encode-empty;
+  canonical = empty-canonical;
+  bounded = empty-bounded;
+  limits = empty-limits;
+}
+
+-- SERIES from the all-zero table, the model starting from the empty set
+pub series-empty : (cs : List Call) → AllBring cs → Agrees (replicate tableBytes 0) emptyModel cs
+series-empty cs bring = from-step (replicate tableBytes 0) emptyModel zero-in-step cs bring
+
+pub empty-model : (t : Tree) → member emptyModel t ≡ false
+unfolding emptyModel member
+empty-model t = rejects (run emptyAutomaton t)
+  where
+    rejects : (q : ℕ) → accepting emptyAutomaton q ≡ false
+    rejects zero = refl
+    rejects (suc q) = refl

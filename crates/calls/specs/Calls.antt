@@ -7,6 +7,8 @@ use lib.Dec.{eqb, leb}
 use lib.ListN.{length, replicate}
 use Rattle.automata.specs.Automaton.{Automaton, accepts, states}
 use Rattle.automata.specs.Change.{deleteTree, insertTree, productTransitions}
+use Rattle.calls.specs.declared.Answer.{Answer}
+use Rattle.calls.specs.declared.Answer.the-variants.{Accepted, Approved, Done, NotApproved, Refused}
 use Rattle.format.specs.Format.{maxProduct, scratchBytes}
 use Rattle.lists.specs.Conditions.{Condition, condition, firstBroken}
 use Rattle.table.specs.Intake.{contentConditions, fitsTable, lengthCondition, tableRefusal}
@@ -14,26 +16,22 @@ use Rattle.table.specs.Layout.{decode, encode}
 use Rattle.trees.specs.Listing.{listingConditions, readTree}
 use Rattle.trees.specs.Tree.{Tree}
 
--- what a call answers; the numbers are those of states and of transitions, or of the refusal
-pub data Answer : Type 0 where
-  approved notApproved : Answer
-  accepted done : ℕ → ℕ → Answer
-  refused : ℕ → Answer
-
--- a refusal where its number is not 0, else the answer
+-- a refusal if its number is not 0, else the answer
 abbrev pub refusedOr : ℕ → Answer → Answer
-refusedOr r a = cond (eqb r 0) a (refused r)
+refusedOr r a = cond (eqb r 0) a (Refused r)
 
+-- approved or not
 abbrev pub approval : Bool → Answer
-approval b = cond b approved notApproved
+approval b = cond b Approved NotApproved
 
+-- accepted, or done, with the numbers of states and of transitions
 abbrev pub acceptedWith : Automaton → Answer
-acceptedWith A = accepted (states A) (length (A .transitions))
+acceptedWith A = Accepted (states A) (length (A .transitions))
 
 abbrev pub doneWith : Automaton → Answer
-doneWith A = done (states A) (length (A .transitions))
+doneWith A = Done (states A) (length (A .transitions))
 
--- ---- ask and intake
+-- ---- calls that only read the table
 
 -- ask: 1 to 5 and 7 to 13
 unfoldable pub askRefusal : List ℕ → List ℕ → ℕ
@@ -46,7 +44,7 @@ askAnswer s b = refusedOr (askRefusal s b) (approval (accepts (decode b) (readTr
 unfoldable pub intakeAnswer : List ℕ → Answer
 intakeAnswer b = refusedOr (tableRefusal b) (acceptedWith (decode b))
 
--- ---- add and remove
+-- ---- calls that change the set
 
 -- a change of a set by one tree
 pub data Change : Type 0 where
@@ -66,19 +64,25 @@ abbrev pub presence : Change → Bool → Condition
 presence (insert t) present = condition 14 (not present)
 presence (delete t) present = condition 15 present
 
+-- condition 6
+abbrev pub scratchCondition : List ℕ → Condition
+scratchCondition w = condition 6 (eqb (length w) scratchBytes)
+
+-- 1 to 15 in 01's order
+unfoldable pub earlyConditions : Change → List ℕ → List ℕ → List ℕ → List Condition
+earlyConditions c s b w =
+    listingConditions s ++ (lengthCondition b ∷ scratchCondition w ∷
+    (contentConditions b ++ (presence c (accepts (decode b) (changedTree c)) ∷ [])))
+
 -- 16 and 17, from the set's automaton
 abbrev pub sizeConditions : Change → Automaton → List Condition
 sizeConditions c A =
     condition 16 (leb (productTransitions A (changedTree c)) maxProduct) ∷
     condition 17 (fitsTable (changed c A)) ∷ []
 
--- 14 or 15, 16 and 17, from whether the tree is in the set and the set's automaton
-unfoldable pub changeConditions : Change → Bool → Automaton → List Condition
-changeConditions c present A = presence c present ∷ sizeConditions c A
-
--- condition 6
-abbrev pub scratchCondition : List ℕ → Condition
-scratchCondition w = condition 6 (eqb (length w) scratchBytes)
+-- 1 to 17 in 01's order
+unfoldable pub changeRefusal : Change → List ℕ → List ℕ → List ℕ → ℕ
+changeRefusal c s b w = firstBroken (earlyConditions c s b w ++ sizeConditions c (decode b))
 
 -- what a change leaves: the answer, the table and the scratch
 pub record Result : Type 0 where
@@ -86,20 +90,18 @@ pub record Result : Type 0 where
   pub table : List ℕ
   pub scratch : List ℕ
 
--- refused by r, or done with the automaton B: a refusal leaves the table as it was, and 1 to 15 leave the
--- scratch as it was; after 16, 17 and done the scratch is all zeros
+-- what a change that r refuses, or none (0), leaves in the scratch: 1 to 15 leave it as it was, and after 16, 17 and
+-- done it is all zeros
+abbrev pub scratchAfter : ℕ → List ℕ → List ℕ
+scratchAfter r w = cond (eqb r 0 || leb 16 r) (replicate (length w) 0) w
+
+-- refused by r, or done with the automaton B: a refusal leaves the table as it was
 unfoldable pub outcome : ℕ → Automaton → List ℕ → List ℕ → Result
 outcome r B b w = record {
   answer = refusedOr r (doneWith B);
   table = cond (eqb r 0) (encode B) b;
-  scratch = cond (eqb r 0 || leb 16 r) (replicate (length w) 0) w;
+  scratch = scratchAfter r w;
 }
-
--- 1 to 17 in 01's order
-unfoldable pub changeRefusal : Change → List ℕ → List ℕ → List ℕ → ℕ
-changeRefusal c s b w =
-    firstBroken (listingConditions s ++ (lengthCondition b ∷ scratchCondition w ∷ (contentConditions b ++
-    changeConditions c (accepts (decode b) (changedTree c)) (decode b))))
 
 unfoldable pub changeResult : Change → List ℕ → List ℕ → List ℕ → Result
 changeResult c s b w = outcome (changeRefusal c s b w) (changed c (decode b)) b w

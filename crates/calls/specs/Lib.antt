@@ -1,3 +1,5 @@
 pub mod Calls
+pub mod Answers
 pub mod Series
+pub mod Claim
 pub mod Samples

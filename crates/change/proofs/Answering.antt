@@ -7,18 +7,18 @@ use Prim.Native.Nat.{_+_, _<_, _≤_, ℕ}
 use native.Mathlib.Omega.{arith}
 use lib.Dec.{eqb, leb}
 use lib.ListN.{length, replicate}
-use borrow.Author.Tests.{eq-eqb, le-leb, lt-leb}
+use borrow.Author.Tests.{eq-eqb, le-leb, leb-true, lt-leb}
 use Rattle.automata.specs.Automaton.{Automaton, states}
 use Rattle.automata.specs.Change.{productTransitions}
 use Rattle.automata.specs.Minimal.{minimal}
 use Rattle.automata.specs.Order.{rising}
 use Rattle.calls.specs.Calls.{Change, changed, changedTree, doneWith, outcome}
-use Rattle.change.specs.Changing.{Worked, changeOf, changedAnswer, changedOutcome, resultOf, sizeRefusal}
+use Rattle.calls.specs.declared.Answer.{Answer}
+use Rattle.calls.specs.declared.Answer.the-variants.{Done, Refused}
+use Rattle.change.specs.Changing.{MadeFits, Worked, changeOf, changedOutcome, resultOf, sizeRefusal}
 use Rattle.change.specs.Classes.{Classed, pairClass}
-use Rattle.change.specs.declared.Changed.{Changed}
-use Rattle.change.specs.declared.Changed.the-variants.{Done, Refused}
 use Rattle.fields.specs.View.{Viewed, viewed}
-use Rattle.format.specs.Format.{maxProduct}
+use Rattle.format.specs.Format.{maxProduct, maxStates, maxTransitions}
 use Rattle.minimize.specs.Made.{madeOf, writtenTo}
 use Rattle.minimize.specs.declared.write.Made.{Made}
 use Rattle.minimize.specs.declared.write.Made.the-variants.{Table, TooBig}
@@ -32,12 +32,26 @@ use Rattle.trees.specs.Listing.{readTree}
 use Rattle.trees.specs.Tree.{Tree}
 use Rattle.change.proofs.Exact.{exact-changed, exact-rises, exact-viewed}
 use Rattle.change.proofs.Inputs.{Given}
-use Rattle.lists.proofs.Tests.{or-right}
+use Rattle.lists.proofs.Tests.{and-left, and-right, or-right}
 
 -- the answer for what was written
-abbrev pub answerOf : Made → Changed
+abbrev pub answerOf : Made → Answer
 answerOf (Table n m) = Done n m
 answerOf TooBig = Refused 17
+
+-- what was written fits a table
+pub made-fits : (B : Automaton) → MadeFits (madeOf B)
+made-fits B = go (fitsTable B) refl
+  where
+    go : (f : Bool) → fitsTable B ≡ f → MadeFits (cond f (Table (states B) (length (B .transitions))) TooBig)
+    go true f = (
+      leb-true (states B) maxStates (and-left _ _ f),
+      leb-true (length (B .transitions)) maxTransitions (and-right (leb (states B) maxStates) _ f),
+    )
+    go false f = tt
+
+pub made-few : {r : Made} → MadeFits r → {n m : ℕ} → r ≡ Table n m → (n ≤ maxStates) × (m ≤ maxTransitions)
+made-few h d = subst MadeFits d h
 
 pub change-tree : (inserting : Bool) (t : Tree) → changedTree (changeOf inserting t) ≡ t
 change-tree true t = refl
@@ -70,7 +84,7 @@ module _ (c : Change) (b : List ℕ) where
             let made : madeOf B ≡ Table (states B) (length (B .transitions)) = rw f in
             let written : writtenTo B b ≡ encode B = rw f in
             record {
-              answer = rw z (ap (λ (m : Made). changedAnswer (answerOf m)) (e ∙ made) ∙ ap doneWith d);
+              answer = rw z (ap answerOf (e ∙ made) ∙ ap doneWith d);
               table = rw z (w ∙ written ∙ ap encode d);
             }
         go false f =
@@ -78,7 +92,7 @@ module _ (c : Change) (b : List ℕ) where
             let made : madeOf B ≡ TooBig = rw f in
             let written : writtenTo B b ≡ b = rw f in
             record {
-              answer = rw z (ap (λ (m : Made). changedAnswer (answerOf m)) (e ∙ made));
+              answer = rw z (ap answerOf (e ∙ made));
               table = rw z (w ∙ written);
             }
 
@@ -140,7 +154,7 @@ zeroed k x y (inl e) = rw (eq-eqb k 0 e)
 zeroed k x y (inr h) = let o : (eqb k 0 || leb 16 k) ≡ true = or-right (eqb k 0) (leb 16 k) (le-leb 16 k h) in rw o
 
 -- so the scratch is all zeros in the end
-pub cleared-outcome : (c : Change) {b b' : List ℕ} {r : Changed} → Worked c b b' r → (w : List ℕ) {z : List ℕ} →
+pub cleared-outcome : (c : Change) {b b' : List ℕ} {r : Answer} → Worked c b b' r → (w : List ℕ) {z : List ℕ} →
     z ≡ replicate (length w) 0 → resultOf r b' z ≡ changedOutcome c b w
 unfolding outcome
 cleared-outcome c {b} worked w e = λ i. record {

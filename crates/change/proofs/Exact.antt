@@ -7,11 +7,12 @@ use native.Mathlib.Omega.{arith}
 use lib.Dec.{eqb, leb}
 use lib.ListN.{getD}
 use borrow.Author.Tests.{eq-eqb, eqb-false, eqb-true, leb-false, leb-true, ne-eqb}
-use Rattle.automata.specs.Automaton.{Automaton, accepting, accepts}
+use Rattle.automata.specs.Automaton.{Automaton, Fits, accepting, accepts}
 use Rattle.automata.specs.Canonical.{Canonical}
 use Rattle.automata.specs.Change.{subtreeNumber, subtrees}
 use Rattle.automata.specs.Minimal.{minimal}
 use Rattle.automata.specs.Order.{rising}
+use Rattle.automata.specs.ProductView.{ProductView}
 use Rattle.calls.specs.Calls.{changed}
 use Rattle.change.specs.Changing.{changeOf}
 use Rattle.change.specs.Classes.{Classed, classIn, pairClass}
@@ -26,8 +27,7 @@ use Rattle.trees.specs.Tree.{Tree}
 use Rattle.automata.proofs.Change.{own-not-zero}
 use Rattle.automata.proofs.Distinguishable.{run-fits}
 use Rattle.automata.proofs.Minimal.{minimal-canonical}
-use Rattle.automata.proofs.ProductView.{ProductView, view-args, view-delete, view-fits, view-insert}
-use Rattle.automata.proofs.Steps.{Fits}
+use Rattle.automata.proofs.ProductView.{view-args, view-delete, view-fits, view-insert}
 use Rattle.fields.proofs.Views.{viewed-class, viewed-states}
 use Rattle.subtrees.proofs.Listed.{number-position, number-state}
 use Rattle.table.proofs.Decoded.{decoded-class, decoded-states}

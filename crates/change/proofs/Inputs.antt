@@ -4,7 +4,7 @@ use mathlib.Core.Path.{_∙_, _≡_, ap₂, subst, subst₂, sym}
 use Prim.Native.Nat.{_-_, _≤_, ℕ}
 use native.Mathlib.Omega.{arith}
 use lib.ListN.{length}
-use Rattle.automata.specs.Automaton.{Automaton}
+use Rattle.automata.specs.Automaton.{Automaton, Fits}
 use Rattle.fields.specs.Fields.{InTable, HasTransitionsOver}
 use Rattle.format.specs.Format.{AllBytes, headBytes, maxStates, tableBytes}
 use Rattle.products.specs.Result.{Holds}
@@ -13,7 +13,6 @@ use Rattle.subtrees.specs.declared.Subtrees.{Subtrees}
 use Rattle.table.specs.Intake.{tableRefusal}
 use Rattle.table.specs.Layout.{body, decode, stateCount, transitionCount, transitionsIn}
 use Rattle.trees.specs.Listing.{listingConditions, listingRefusal, readTree}
-use Rattle.automata.proofs.Steps.{Fits}
 use Rattle.automata.proofs.Valid.{ranged-fits}
 use Rattle.fields.proofs.Transitions.{layout-in-table, part-body}
 use Rattle.lists.proofs.Conditions.{unbroken-hold}

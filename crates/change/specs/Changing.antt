@@ -2,37 +2,39 @@
 use mathlib.Core.Bool.{Bool, cond}
 use mathlib.Core.List.{List}
 use mathlib.Core.Path.{_≡_}
-use Prim.Native.Nat.{ℕ}
+use Prim.Native.Nat.{_≤_, ℕ}
 use lib.Dec.{eqb}
 use Rattle.automata.specs.Automaton.{Automaton}
-use Rattle.calls.specs.Calls.{Answer, Change, Result, changed, delete, doneWith, insert, outcome, refusedOr}
+use Rattle.calls.specs.Calls.{Change, Result, changed, delete, doneWith, insert, outcome, refusedOr}
 use Rattle.calls.specs.Calls.{sizeConditions}
-use Rattle.change.specs.declared.Changed.{Changed}
-use Rattle.change.specs.declared.Changed.the-variants.{Done, Refused}
+use Rattle.calls.specs.declared.Answer.{Answer}
+use Rattle.format.specs.Format.{maxStates, maxTransitions}
 use Rattle.lists.specs.Conditions.{firstBroken}
+use Rattle.minimize.specs.declared.write.Made.{Made}
+use Rattle.minimize.specs.declared.write.Made.the-variants.{Table, TooBig}
 use Rattle.table.specs.Layout.{decode, encode}
 use Rattle.trees.specs.Tree.{Tree}
+
+-- a table that was written holds no more states and transitions than a table can
+abbrev pub MadeFits : Made → Type 0
+MadeFits (Table n m) = (n ≤ maxStates) × (m ≤ maxTransitions)
+MadeFits TooBig = Unit {0}
 
 -- an addition, or a withdrawal
 abbrev pub changeOf : Bool → Tree → Change
 changeOf inserting t = cond inserting (insert t) (delete t)
 
--- 01's answer for each case of the enum
-abbrev pub changedAnswer : Changed → Answer
-changedAnswer (Done n m) = Answer.done n m
-changedAnswer (Refused k) = Answer.refused k
-
 -- the answer, the table and the scratch together
-abbrev pub resultOf : Changed → List ℕ → List ℕ → Result
-resultOf r b w = record { answer = changedAnswer r; table = b; scratch = w }
+abbrev pub resultOf : Answer → List ℕ → List ℕ → Result
+resultOf a b w = record { answer = a; table = b; scratch = w }
 
 -- 16, 17 or 0
 unfoldable pub sizeRefusal : Change → Automaton → ℕ
 sizeRefusal c A = firstBroken (sizeConditions c A)
 
 -- the answer, and the table b' that b became
-pub record Worked (c : Change) (b b' : List ℕ) (r : Changed) : Type 0 where
-  pub answer : changedAnswer r ≡ refusedOr (sizeRefusal c (decode b)) (doneWith (changed c (decode b)))
+pub record Worked (c : Change) (b b' : List ℕ) (a : Answer) : Type 0 where
+  pub answer : a ≡ refusedOr (sizeRefusal c (decode b)) (doneWith (changed c (decode b)))
   pub table : b' ≡ cond (eqb (sizeRefusal c (decode b)) 0) (encode (changed c (decode b))) b
 
 -- what the change does to a table and a scratch

@@ -13,7 +13,8 @@ ghost use Rattle.minimize.specs.Made.{madeOf, writtenTo};
 ghost use Rattle.table.specs.Intake.{tableRefusal};
 ghost use Rattle.table.specs.Layout.{transitionsIn};
 ghost use Rattle.trees.specs.Listing.{listingRefusal, readTree};
-ghost use Rattle.change.specs.Changing.{Worked, changeOf, changedOutcome, resultOf};
+ghost use Rattle.change.specs.Changing.{MadeFits, Worked, changeOf, changedOutcome, resultOf};
+use calls::Answer;
 use classes::pair_classes;
 use distinguish::blank;
 use fields::transition_count;
@@ -25,12 +26,6 @@ use partition::distinguish;
 use products::Produced;
 use products::product;
 use subtrees::collect;
-
-// What a change answers: the new numbers of states and of transitions.
-pub enum Changed {
-    Done { states: usize, transitions: usize },
-    Refused { number: u8 },
-}
 
 // Zeroes every byte.
 fn clear(scratch: &mut [u8])
@@ -44,13 +39,20 @@ fn clear(scratch: &mut [u8])
 }
 
 // Writes the minimal automaton of a transitions to a table; where the table cannot hold it, leaves the table as it is.
-fn minimize(transitions: &mut [u8], count: usize, classes: &[u8], n: usize, table: &mut [u8]) -> Made
+fn minimize(
+    transitions: &mut [u8],
+    count: usize,
+    classes: &[u8],
+    n: usize,
+    table: &mut [u8],
+) -> Made
     requires { ⌜ Viewed (now classes) (now transitions) n count ⌝ }
     requires { ⌜ rising (transitionsIn (now transitions) count) ≡ true ⌝ }
     requires { ⌜ length (now table) ≡ tableBytes ⌝ }
     ensures { λ r. ⌜ r ≡ madeOf (minimal (viewed (now (classes .entry)) (now (transitions .entry)) n count)) ⌝ }
     ensures { λ _. ⌜ now (table .exit) ≡
         writtenTo (minimal (viewed (now (classes .entry)) (now (transitions .entry)) n count)) (now (table .entry)) ⌝ }
+    ensures { λ r. ⌜ MadeFits r ⌝ }
 {
     let mut marks = blank();
     distinguish(classes, transitions, count, n, &mut marks);
@@ -58,7 +60,7 @@ fn minimize(transitions: &mut [u8], count: usize, classes: &[u8], n: usize, tabl
 }
 
 // Puts the tree in or takes it out, and leaves anything in the scratch.
-fn work(tree: &[u8], table: &mut [u8], scratch: &mut [u8], inserting: bool) -> Changed
+fn work(tree: &[u8], table: &mut [u8], scratch: &mut [u8], inserting: bool) -> Answer
     requires { ⌜ listingRefusal (now tree) ≡ 0 ⌝ }
     requires { ⌜ tableRefusal (now table) ≡ 0 ⌝ }
     requires { ⌜ length (now scratch) ≡ scratchBytes ⌝ }
@@ -73,7 +75,7 @@ fn work(tree: &[u8], table: &mut [u8], scratch: &mut [u8], inserting: bool) -> C
     let states = s.states;
     let Produced::Transitions { count: made } = product(&table[HEAD_BYTES..], count, n, s, scratch)
     else {
-        return Changed::Refused { number: 16 };
+        return Answer::Refused { number: 16 };
     };
     let classes = pair_classes(table, n, m, &states, own, inserting);
     let Made::Table {
@@ -81,16 +83,18 @@ fn work(tree: &[u8], table: &mut [u8], scratch: &mut [u8], inserting: bool) -> C
         transitions,
     } = minimize(scratch, made, &classes, n + m, table)
     else {
-        return Changed::Refused { number: 17 };
+        return Answer::Refused { number: 17 };
     };
-    Changed::Done {
-        states: left,
-        transitions: transitions,
+    let new_states = left as u16;
+    let new_transitions = transitions as u16;
+    Answer::Done {
+        states: new_states,
+        transitions: new_transitions,
     }
 }
 
 // Puts the tree in or takes it out. The scratch is all zeros after that.
-pub fn change(tree: &[u8], table: &mut [u8], scratch: &mut [u8], inserting: bool) -> Changed
+pub fn change(tree: &[u8], table: &mut [u8], scratch: &mut [u8], inserting: bool) -> Answer
     requires { ⌜ listingRefusal (now tree) ≡ 0 ⌝ }
     requires { ⌜ tableRefusal (now table) ≡ 0 ⌝ }
     requires { ⌜ length (now scratch) ≡ scratchBytes ⌝ }

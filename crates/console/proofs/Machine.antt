@@ -8,20 +8,21 @@ use lib.Dec.{eqb, leb}
 use lib.ListN.{length, length-replicate, replicate}
 use borrow.Author.Tests.{leb-false, leb-true}
 use Rattle.automata.specs.Automaton.{Automaton}
-use Rattle.calls.proofs.Series.{InStep, one-call, passed-in-step}
-use Rattle.calls.specs.Calls.{addResult, changeResult, outcome, removeResult}
-use Rattle.calls.specs.Series.{BringsBytes, Model, intake, modelOf, perform, respond}
+use Rattle.calls.proofs.Series.{in-step-meaning, one-call, zero-in-step}
+use Rattle.calls.specs.Calls.{addResult, changeResult, intakeAnswer, outcome, removeResult}
+use Rattle.calls.specs.Claim.{InStep}
+use Rattle.calls.specs.Series.{BringsBytes, Model, Response, emptyModel, perform, queryResult, respond}
 use Rattle.format.specs.Format.{AllBytes, maxLine, scratchBytes, tableBytes}
+use Rattle.report.specs.declared.Outcome.the-variants.{Answered}
 use Rattle.report.specs.Report.{lineText}
-use Rattle.serving.specs.Serving.{called, closing, closingFor, handled, outcomeOf, served}
-use Rattle.table.proofs.Intake.{zero-table}
+use Rattle.serving.specs.Serving.{called, closing, closingFor, handled, served}
 use Rattle.text.proofs.LineMeaning.{line-long}
 use Rattle.text.specs.Grammar.{Command, toAdd, toAsk, toDrop}
 use Rattle.text.specs.Reader.{Line, form, formed, long, readLine}
 use Rattle.console.specs.Input.{linesOf}
 use Rattle.console.specs.Machine.{callOf, lineModel, lineOutcome, machine, machineFrom}
 use Rattle.console.specs.Console.{printed, printedFrom}
-use Rattle.console.proofs.Listings.{bytes-zeros, line-bytes}
+use Rattle.console.proofs.Listings.{line-bytes}
 
 abbrev zeros : List ℕ
 zeros = replicate scratchBytes 0
@@ -32,10 +33,10 @@ brings : (c : Command) (s : List ℕ) → AllBytes s → BringsBytes (callOf c s
 unfolding callOf
 brings toAdd s h = h
 brings toDrop s h = h
-brings toAsk s h = h
+brings toAsk s h = tt
 
-called-answer : (c : Command) (s b : List ℕ) → called c s b zeros .answer ≡ perform b (callOf c s) .answer
-unfolding called callOf perform
+called-answer : (c : Command) (s b : List ℕ) → called c s b zeros .answer ≡ perform b (callOf c s) .response .answer
+unfolding called callOf perform queryResult
 called-answer toAdd s b = refl
 called-answer toDrop s b = refl
 called-answer toAsk s b = refl
@@ -83,7 +84,7 @@ unfolding handled
 line-step s (formed c l) e b m X =
     let (a, Y) = one-call b m X (callOf c l) (brings c l (line-bytes s c l (short s c l e) e)) in
     record {
-      outcome = ap outcomeOf (called-answer c l b ∙ a);
+      outcome = ap Answered (called-answer c l b ∙ ap (λ (x : Response). x .answer) a);
       next = rw (called-table c l b) Y;
       scratch = called-scratch c l b;
     }
@@ -93,8 +94,10 @@ line-step s long e b m X = record { outcome = refl; next = X; scratch = refl }
 -- ---- all lines
 
 closing-model : (n : ℕ) (b : List ℕ) (m : Model) → InStep b m → closing n b ≡ machineFrom [] n m
-unfolding closing perform respond
-closing-model n b m X = ap (closingFor n) (one-call b m X intake tt .0)
+unfolding closing queryResult
+closing-model n b m X =
+    ap (closingFor n)
+    (ap intakeAnswer (X .table) ∙ ap (λ (x : Response). x .answer) (in-step-meaning b m X .taken))
 
 printed-from : (ss : List (List ℕ)) (n : ℕ) (b : List ℕ) (m : Model) → InStep b m →
     printedFrom ss n b zeros ≡ machineFrom ss n m
@@ -111,5 +114,4 @@ printed-from (s ∷ ss) n b m X =
 pub printed-machine : (input : List ℕ) → printed input ≡ machine input
 unfolding printed machine
 printed-machine input =
-    printed-from (linesOf input) 0 (replicate tableBytes 0) (modelOf (replicate tableBytes 0))
-    (passed-in-step (replicate tableBytes 0) (bytes-zeros tableBytes) zero-table)
+    printed-from (linesOf input) 0 (replicate tableBytes 0) emptyModel zero-in-step

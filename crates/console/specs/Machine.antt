@@ -1,13 +1,14 @@
--- What the bench program prints, told by the model that keeps a set (01: the plain machine): there is no table, and
--- every answer is the model's.
+-- What the bench program prints, by the model that keeps a set (01: the plain machine): there is no table, and every
+-- answer is the model's.
 use mathlib.Core.List.{List, [], _++_, _∷_}
 use Prim.Native.Nat.{suc, ℕ}
 use lib.ListN.{length, replicate}
 use Rattle.automata.specs.Automaton.{states}
-use Rattle.calls.specs.Series.{Call, Model, add, ask, canonicalOf, modelOf, remove, respond}
-use Rattle.format.specs.Format.{scratchBytes, tableBytes}
-use Rattle.report.specs.Report.{Outcome, endText, lineText}
-use Rattle.serving.specs.Serving.{outcomeOf}
+use Rattle.calls.specs.Series.{Call, Model, add, ask, canonicalOf, emptyModel, query, remove, respond}
+use Rattle.format.specs.Format.{scratchBytes}
+use Rattle.report.specs.Report.{endText, lineText}
+use Rattle.report.specs.declared.Outcome.{Outcome}
+use Rattle.report.specs.declared.Outcome.the-variants.{Answered, Form, Long}
 use Rattle.text.specs.Grammar.{Command, toAdd, toAsk, toDrop}
 use Rattle.text.specs.Reader.{Line, form, formed, long, readLine}
 use Rattle.console.specs.Input.{linesOf}
@@ -16,13 +17,13 @@ use Rattle.console.specs.Input.{linesOf}
 unfoldable pub callOf : Command → List ℕ → Call
 callOf toAdd s = add s (replicate scratchBytes 0)
 callOf toDrop s = remove s (replicate scratchBytes 0)
-callOf toAsk s = ask s
+callOf toAsk s = query (ask s)
 
 -- what comes of a line, and the model after it
 abbrev pub lineOutcome : Line → Model → Outcome
-lineOutcome (formed c s) m = outcomeOf (respond m (callOf c s) .answer)
-lineOutcome (form n) m = Outcome.form n
-lineOutcome long m = Outcome.long
+lineOutcome (formed c s) m = Answered (respond m (callOf c s) .response .answer)
+lineOutcome (form n) m = Form n
+lineOutcome long m = Long
 
 abbrev pub lineModel : Line → Model → Model
 lineModel (formed c s) m = respond m (callOf c s) .next
@@ -37,4 +38,4 @@ machineFrom (s ∷ ss) n m =
 
 -- what is printed for an input, starting from the empty set
 unfoldable pub machine : List ℕ → List ℕ
-machine input = machineFrom (linesOf input) 0 (modelOf (replicate tableBytes 0))
+machine input = machineFrom (linesOf input) 0 emptyModel

@@ -8,7 +8,7 @@ use Prim.Native.Nat.{_%_, _*_, _+_, _-_, _/_, _<_, _≤_, suc, ℕ}
 use native.Mathlib.Omega.{arith}
 use lib.Dec.{eqb}
 use lib.ListN.{length}
-use Rattle.automata.specs.Automaton.{Automaton, Transition, accepting, states, step}
+use Rattle.automata.specs.Automaton.{Automaton, Fits, Transition, accepting, states, step}
 use Rattle.automata.specs.Distinguishable.{Slot, allDistinguishable, distinguishable, distinguishablePairs}
 use Rattle.automata.specs.Distinguishable.{distinguishableRule, pairs, slots, stepSlot}
 use Rattle.automata.specs.Order.{rising}
@@ -25,7 +25,7 @@ use Rattle.table.specs.Layout.{argOf, arityOf, labelOf, nthTransition, outOf, t
 use Rattle.marking.specs.Spread.{Covers, UpTo}
 use Rattle.automata.proofs.Distinguishable.{in-slots, pairs-in, step-fits}
 use Rattle.automata.proofs.Order.{lookup-transition}
-use Rattle.automata.proofs.Steps.{Fits, Taken, step-view}
+use Rattle.automata.proofs.Steps.{Taken, step-view}
 use Rattle.automata.proofs.Symmetry.{separated-sym, zero-not-separated}
 use Rattle.automata.proofs.Valid.{ranged-fits}
 use Rattle.distinguish.proofs.Slots.{args-around, slot-is}

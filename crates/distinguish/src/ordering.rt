@@ -35,7 +35,13 @@ fn put_below(depths: &mut [u8; BYTE_VALUES], a: usize, out: usize) -> bool
 }
 
 // Each argument of transition i is deeper than its output. Answers whether a depth has grown.
-fn deepen(transitions: &[u8], count: usize, n: usize, i: usize, depths: &mut [u8; BYTE_VALUES]) -> bool
+fn deepen(
+    transitions: &[u8],
+    count: usize,
+    n: usize,
+    i: usize,
+    depths: &mut [u8; BYTE_VALUES],
+) -> bool
     requires { ⌜ HasTransitionsOver (now transitions) count n ⌝ }
     requires { ⌜ n ≤ 255 ⌝ }
     requires { ⌜ i < count ⌝ }

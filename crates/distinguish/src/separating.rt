@@ -80,7 +80,13 @@ fn separate_arg(
     changed
 }
 
-pub fn separate_at(transitions: &[u8], count: usize, n: usize, i: usize, marks: &mut [u8; BYTE_PAIRS]) -> bool
+pub fn separate_at(
+    transitions: &[u8],
+    count: usize,
+    n: usize,
+    i: usize,
+    marks: &mut [u8; BYTE_PAIRS],
+) -> bool
     requires { ⌜ Sorted (now transitions) count ⌝ }
     requires { ⌜ HasTransitionsOver (now transitions) count n ⌝ }
     requires { ⌜ n ≤ 255 ⌝ }

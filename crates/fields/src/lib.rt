@@ -213,7 +213,11 @@ pub fn rises(transitions: &[u8], count: usize) -> bool
 {
     let mut i = 0;
     while i + 1 < count {
-        if !precedes_at(transitions, TRANSITION_BYTES * i, TRANSITION_BYTES * (i + 1)) {
+        if !precedes_at(
+            transitions,
+            TRANSITION_BYTES * i,
+            TRANSITION_BYTES * (i + 1),
+        ) {
             return false;
         }
         i += 1;
@@ -222,7 +226,13 @@ pub fn rises(transitions: &[u8], count: usize) -> bool
 }
 
 // The output of the first transition that has this label and these arguments.
-pub fn find(transitions: &[u8], count: usize, label: u8, arity: usize, args: [u8; MAX_ARITY]) -> Found
+pub fn find(
+    transitions: &[u8],
+    count: usize,
+    label: u8,
+    arity: usize,
+    args: [u8; MAX_ARITY],
+) -> Found
     requires { ⌜ HasTransitions (now transitions) count ⌝ }
     requires { ⌜ arity ≤ maxArity ⌝ }
     ensures { λ r. ⌜ foundState r ≡ lookup label (take arity args) (transitionsIn (now (transitions .entry)) count) ⌝ }

@@ -8,7 +8,7 @@ use Prim.Native.Nat.{_%_, _+_, _-_, _^_, _≤_, suc, zero, ℕ}
 use native.Mathlib.Omega.{arith}
 use lib.Dec.{eqb}
 use borrow.Author.Tests.{eqb-true}
-use Rattle.automata.specs.Automaton.{Automaton, Transition, accepting, states}
+use Rattle.automata.specs.Automaton.{Automaton, Fits, Transition, accepting, states}
 use Rattle.automata.specs.Coaccessible.{coaccessible, coaccessibleRule}
 use Rattle.automata.specs.Distinguishable.{Slot, distinguishable, distinguishablePairs}
 use Rattle.automata.specs.Distinguishable.{distinguishableRule, pairs, slots, stepSlot}
@@ -21,7 +21,7 @@ use Rattle.lists.specs.Positions.{eqPair, upFrom}
 use Rattle.lists.specs.Tests.{_∈_, any, bit, filter}
 use Rattle.automata.proofs.Distinguishable.{in-slots, step-fits}
 use Rattle.automata.proofs.Order.{lookup-transition}
-use Rattle.automata.proofs.Steps.{Fits, Taken, step-view}
+use Rattle.automata.proofs.Steps.{Taken, step-view}
 use Rattle.automata.proofs.Valid.{ranged-fits, ranged-transition}
 use Rattle.automata.proofs.Symmetry.{separated-sym}
 use Rattle.fingerprints.proofs.Uses.{Used, in-uses, places-in, total-append, total-filter, total-members}

@@ -9,7 +9,7 @@ use native.Mathlib.Omega.{arith}
 use lib.Dec.{eqb}
 use lib.ListN.{length}
 use borrow.Author.Tests.{eqb-false, eqb-true}
-use Rattle.automata.specs.Acyclic.{acyclic, leads}
+use Rattle.automata.specs.Acyclic.{Feeds, acyclic, leads, once}
 use Rattle.automata.specs.Automaton.{Automaton, states}
 use Rattle.automata.specs.Coaccessible.{allCoaccessible, coaccessible}
 use Rattle.automata.specs.Distinguishable.{Slot, allDistinguishable, distinguishable, stepSlot}
@@ -18,7 +18,7 @@ use Rattle.automata.specs.Valid.{statesInRange}
 use Rattle.fingerprints.specs.Fingerprints.{Round, allDiffer, printOf}
 use Rattle.lists.specs.Positions.{upFrom}
 use Rattle.lists.specs.Tests.{_∈_, filter}
-use Rattle.automata.proofs.Leads.{Feeds, acyclic-iff, leads-before, leads-iff, once}
+use Rattle.automata.proofs.Leads.{acyclic-iff, leads-before, leads-iff}
 use Rattle.automata.proofs.Valid.{ranged-transition}
 use Rattle.automata.proofs.Symmetry.{separated-sym}
 use Rattle.fingerprints.proofs.Equivalent.{by-use, equal-fingerprint, leadsOn, use-too, used-step}

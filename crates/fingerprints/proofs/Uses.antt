@@ -12,9 +12,9 @@ use Rattle.automata.specs.Automaton.{Transition}
 use Rattle.automata.specs.Distinguishable.{Slot}
 use Rattle.automata.specs.Order.{key, lex, rising}
 use Rattle.fingerprints.specs.Fingerprints.{places, total}
-use Rattle.lists.specs.Tests.{_∈_, filter}
+use Rattle.lists.specs.Tests.{Distinct, _∈_, filter}
 use Rattle.automata.proofs.Order.{key-equal, lex-irrefl, rising-head, rising-tail}
-use Rattle.lists.proofs.Distinct.{Distinct, append-distinct}
+use Rattle.lists.proofs.Distinct.{append-distinct}
 use Rattle.lists.proofs.Tests.{append-in, eqb-same, in-append-left, in-append-right, in-split}
 
 -- ---- the slots of one transition

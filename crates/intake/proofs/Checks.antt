@@ -19,11 +19,10 @@ use Rattle.automata.specs.Order.{rising}
 use Rattle.fields.specs.Fields.{HasTransitions, HasTransitionsOver}
 use Rattle.fields.specs.View.{Viewed, viewed}
 use Rattle.format.specs.Format.{headBytes, tableBytes}
-use Rattle.intake.specs.Automata.{automatonConditions}
 use Rattle.lists.specs.Conditions.{firstBroken}
 use Rattle.lists.specs.Positions.{upFrom}
 use Rattle.lists.specs.Tests.{every}
-use Rattle.table.specs.Intake.{contentConditions, tableRefusal}
+use Rattle.table.specs.Intake.{automatonConditions, contentConditions, tableRefusal}
 use Rattle.table.specs.Layout.{body, decode, layoutFits, stateCount, transitionCount, transitionsIn}
 use Rattle.automata.proofs.NumberedPass.{numbered-accessible}
 use Rattle.fields.proofs.Transitions.{layout-in-table, layout-runs, part-body}

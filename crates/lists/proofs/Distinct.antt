@@ -8,17 +8,12 @@ use native.Mathlib.Omega.{arith}
 use lib.ListN.{length, length-append}
 use Rattle.lists.specs.Closure.{closure, elem}
 use Rattle.lists.specs.Positions.{Pair, grid, row, upFrom}
-use Rattle.lists.specs.Tests.{_∈_, filter}
+use Rattle.lists.specs.Tests.{Distinct, _∈_, filter}
 use Rattle.lists.proofs.Closure.{closure-fixed}
 use Rattle.lists.proofs.Positions.{upFrom-in}
 use Rattle.lists.proofs.Tests.{append-in, filter-in, in-append-left, in-append-right, in-split, map-in}
 
 module _ {A : Type 0} where
-  -- no element stands twice in the list
-  abbrev pub Distinct : List A → Type 0
-  Distinct [] = Unit {0}
-  Distinct (x ∷ xs) = (x ∈ xs → ⊥) × Distinct xs
-
   pub filter-distinct : (p : A → Bool) (xs : List A) → Distinct xs → Distinct (filter p xs)
   filter-distinct p [] d = tt
   filter-distinct p (x ∷ xs) d = go (filter-distinct p xs (d .1)) (p x)

@@ -5,6 +5,7 @@ pub mod Loops
 pub mod Closure
 pub mod Conditions
 pub mod Distinct
+pub mod Counts
 pub mod Clearing
 pub mod Filling
 pub mod Parts

@@ -156,6 +156,17 @@ module _ {A B : Type 0} where
   map-in f (x ∷ xs) y (inl e) = (x, inl refl, e)
   map-in f (x ∷ xs) y (inr m) = let r = map-in f xs y m in (r .0, inr (r .1), r .2)
 
+  -- lists with the same values are the same, where elements with the same value are
+  pub map-inj : (f : A → B) (xs ys : List A) → ((x y : A) → x ∈ xs → y ∈ ys → f x ≡ f y → x ≡ y) →
+      map f xs ≡ map f ys → xs ≡ ys
+  map-inj f [] [] h e = refl
+  map-inj f [] (y ∷ ys) h e = let z : _≡_ {A = ℕ} 0 1 = cc in absurd (omega arith)
+  map-inj f (x ∷ xs) [] h e = let z : _≡_ {A = ℕ} 0 1 = cc in absurd (omega arith)
+  map-inj f (x ∷ xs) (y ∷ ys) h e =
+      let u : f x ≡ f y = cc in
+      let v : map f xs ≡ map f ys = cc in
+      cc (h x y (inl refl) (inl refl) u, map-inj f xs ys (λ a b i j. h a b (inr i) (inr j)) v)
+
 -- a test of the values of a function
 pub every-mapped : {A B : Type 0} (p : B → Bool) (f : A → B) (xs : List A) →
     every p (map f xs) ≡ every (λ x. p (f x)) xs

@@ -10,7 +10,7 @@ abbrev pub shift : ℕ → ℕ
 shift zero = zero
 shift (suc k) = suc (suc k)
 
--- the position of a key in a list, from 1; 0 where it is not there
+-- the position of a key in a list, from 1; 0 if it is not there
 abbrev pub position : {K : Type 0} → (K → K → Bool) → List K → K → ℕ
 position eq [] k = 0
 position eq (x ∷ xs) k = cond (eq k x) 1 (shift (position eq xs k))
@@ -20,7 +20,7 @@ abbrev pub upFrom : ℕ → ℕ → List ℕ
 upFrom k zero = []
 upFrom k (suc n) = k ∷ upFrom (suc k) n
 
--- the byte k places behind a byte
+-- the byte k places after a byte
 abbrev pub byteFrom : List ℕ → ℕ → ℕ → ℕ
 byteFrom s at k = getD s (at + k) 0
 

@@ -1,10 +1,11 @@
--- Membership in a list, and tests over lists that compute.
+-- Membership in a list, lists without repeats and how many elements have a property, and tests over lists that compute.
 use mathlib.Core.Bool.{Bool, _&&_, _||_, cond, false, true}
 use mathlib.Core.List.{List, [], _∷_}
-use mathlib.Core.Logic.{_⊎_}
+use mathlib.Core.Logic.{_↔_, _⊎_}
 use mathlib.Core.Path.{_≡_}
 use Prim.Native.Nat.{ℕ}
 use lib.Dec.{eqb}
+use lib.ListN.{length}
 
 module _ {A : Type 0} where
   -- x stands in the list
@@ -12,6 +13,22 @@ module _ {A : Type 0} where
   abbrev pub _∈_ : A → List A → Type 0
   x ∈ [] = ⊥
   x ∈ (y ∷ ys) = (x ≡ y) ⊎ (x ∈ ys)
+
+  -- no element stands twice in the list
+  abbrev pub Distinct : List A → Type 0
+  Distinct [] = Unit {0}
+  Distinct (x ∷ xs) = (x ∈ xs → ⊥) × Distinct xs
+
+  -- the list holds exactly the elements that have the property, none twice
+  pub record Exactly (P : A → Type 0) (L : List A) : Type 0 where
+    pub once : Distinct L
+    pub members : (x : A) → (x ∈ L) ↔ P x
+
+  -- n elements have the property: some list holds exactly them, none twice, and every such list has length n
+  pub record Counts (P : A → Type 0) (n : ℕ) : Type 0 where
+    pub list : List A
+    pub exactly : Exactly P list
+    pub every-length : (L : List A) → Exactly P L → length L ≡ n
 
   -- every element passes the test
   abbrev pub every : (A → Bool) → List A → Bool
@@ -28,7 +45,7 @@ module _ {A : Type 0} where
   filter p [] = []
   filter p (x ∷ xs) = let r = filter p xs in cond (p x) (x ∷ r) r
 
--- 1 where a test passes, 0 where not
+-- 1 if a test passes, else 0
 abbrev pub bit : Bool → ℕ
 bit true = 1
 bit false = 0

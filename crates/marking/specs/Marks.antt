@@ -1,5 +1,5 @@
 -- Tables of marks that grow in place until nothing new is marked. A function that adds marks promises `Swept`;
--- what is sound and what is closed are facts about the table of marks, so that code may mark in any order.
+-- what is sound and what is closed are facts about the table of marks: code may mark in any order.
 use mathlib.Core.Bool.{Bool, false, true}
 use mathlib.Core.List.{List, [], _∷_}
 use mathlib.Core.Path.{_≡_}
@@ -12,6 +12,7 @@ abbrev pub nonzero : ℕ → Bool
 nonzero zero = false
 nonzero (suc n) = true
 
+-- entry i is a mark
 abbrev pub marked : List ℕ → ℕ → Bool
 marked m i = nonzero (getD m i 0)
 
@@ -28,7 +29,7 @@ Within P m = (i : ℕ) → marked m i ≡ true → P i
 abbrev pub Below : (ℕ → List ℕ → Type 0) → ℕ → List ℕ → Type 0
 Below C n m = (i : ℕ) → i < n → C i m
 
--- marks were added, r says whether any: the marks stay sound, and where none was added they are closed
+-- marks were added, r says whether any: the marks stay sound, and if none was added they are closed
 pub record Swept (Sound Closed : List ℕ → Type 0) (m m' : List ℕ) (r : Bool) : Type 0 where
   pub size : length m' ≡ length m
   pub sound : Sound m → Sound m'

@@ -27,7 +27,7 @@ fromLast C n j = C (n - 1 - j)
 abbrev pub Covers : (ℕ → Bool) → List ℕ → Type 0
 Covers p m = Within (λ q. p q ≡ true) m
 
--- marks were added, r says whether any: each set that is closed and had the old marks has the new ones, and where
+-- marks were added, r says whether any: each set that is closed and had the old marks has the new ones, and if
 -- none was added the marks are closed
 pub record Spread (C : Rule) (m m' : List ℕ) (r : Bool) : Type 0 where
   pub swept : Swept (Within (λ q. Unit {0})) (λ k. C (marked k)) m m' r

@@ -18,13 +18,13 @@ use Rattle.automata.specs.Renumber.{best, numberOf, numbering, numberingFrom}
 use Rattle.format.specs.Format.{transitionBytes}
 use Rattle.lists.specs.Closure.{elem}
 use Rattle.lists.specs.Positions.{shift, upFrom}
-use Rattle.lists.specs.Tests.{_∈_, every}
+use Rattle.lists.specs.Tests.{Distinct, _∈_, every}
 use Rattle.minimize.specs.Merged.{nameIn}
 use Rattle.minimize.specs.Numbering.{NumberingHeld, NumbersOf, Outputs, Unnumbered, picked}
 use Rattle.table.specs.Layout.{nthTransition, outOf, transitionsIn}
 use Rattle.automata.proofs.Numbering.{Best, BestView, best-view}
 use Rattle.lists.proofs.Closure.{in-elem}
-use Rattle.lists.proofs.Distinct.{Distinct, append-distinct, distinct-length}
+use Rattle.lists.proofs.Distinct.{append-distinct, distinct-length}
 use Rattle.lists.proofs.Positions.{in-upFrom, upFrom-length}
 use Rattle.lists.proofs.Tests.{and-right, append-in, eqb-same, in-map, or-none-left, or-none-right}
 

@@ -107,7 +107,12 @@ pub fn merge(transitions: &mut [u8], count: usize, names: &[u8; BYTE_VALUES]) ->
 }
 
 // Merges the equivalent states of a transitions over the states 1 to n: how many transitions stay.
-pub fn merge_equivalent(transitions: &mut [u8], count: usize, n: usize, marks: &[u8; BYTE_PAIRS]) -> usize
+pub fn merge_equivalent(
+    transitions: &mut [u8],
+    count: usize,
+    n: usize,
+    marks: &[u8; BYTE_PAIRS],
+) -> usize
     requires { ⌜ HasTransitionsOver (now transitions) count n ⌝ }
     requires { ⌜ n < byteValues ⌝ }
     ensures { λ r. ⌜ HasTransitions (now (transitions .exit)) r ⌝ }

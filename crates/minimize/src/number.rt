@@ -53,7 +53,13 @@ fn ready(transitions: &[u8], at: usize, numbers: &[u8; BYTE_VALUES]) -> bool
 }
 
 // Whether the first n arguments of one transition come before those of another, each as its number.
-fn args_precede(transitions: &[u8], a: usize, b: usize, n: usize, numbers: &[u8; BYTE_VALUES]) -> bool
+fn args_precede(
+    transitions: &[u8],
+    a: usize,
+    b: usize,
+    n: usize,
+    numbers: &[u8; BYTE_VALUES],
+) -> bool
     requires { ⌜ Readable (now transitions) a ⌝ }
     requires { ⌜ Readable (now transitions) b ⌝ }
     requires { ⌜ n ≤ maxArity ⌝ }
@@ -95,7 +101,13 @@ fn precedes_by(transitions: &[u8], a: usize, b: usize, numbers: &[u8; BYTE_VALUE
 }
 
 // Whether transition i is ready and comes before the first ready one so far; `best` is `count` where there is none.
-fn improves_on(transitions: &[u8], count: usize, best: usize, i: usize, numbers: &[u8; BYTE_VALUES]) -> bool
+fn improves_on(
+    transitions: &[u8],
+    count: usize,
+    best: usize,
+    i: usize,
+    numbers: &[u8; BYTE_VALUES],
+) -> bool
     requires { ⌜ HasTransitions (now transitions) count ⌝ }
     requires { ⌜ best ≤ count ⌝ }
     requires { ⌜ i < count ⌝ }
@@ -108,7 +120,12 @@ fn improves_on(transitions: &[u8], count: usize, best: usize, i: usize, numbers:
     if best == count {
         return true;
     }
-    precedes_by(transitions, TRANSITION_BYTES * i, TRANSITION_BYTES * best, numbers)
+    precedes_by(
+        transitions,
+        TRANSITION_BYTES * i,
+        TRANSITION_BYTES * best,
+        numbers,
+    )
 }
 
 // Whether there is a first ready one so far and transition i has another child count or label.
@@ -121,7 +138,9 @@ fn other_group(transitions: &[u8], count: usize, best: usize, i: usize) -> bool
     if best == count {
         return false;
     }
-    if transitions[TRANSITION_BYTES * i + ARITY_AT] != transitions[TRANSITION_BYTES * best + ARITY_AT] {
+    if transitions[TRANSITION_BYTES * i + ARITY_AT]
+        != transitions[TRANSITION_BYTES * best + ARITY_AT]
+    {
         return true;
     }
     transitions[TRANSITION_BYTES * i] != transitions[TRANSITION_BYTES * best]
@@ -154,7 +173,12 @@ fn first_ready(transitions: &[u8], start: usize, count: usize, numbers: &[u8; BY
 }
 
 // The first transition from `start` on whose output has no number; `count` where there is none.
-fn first_unsettled(transitions: &[u8], start: usize, count: usize, numbers: &[u8; BYTE_VALUES]) -> usize
+fn first_unsettled(
+    transitions: &[u8],
+    start: usize,
+    count: usize,
+    numbers: &[u8; BYTE_VALUES],
+) -> usize
     requires { ⌜ HasTransitions (now transitions) count ⌝ }
     requires { ⌜ start ≤ count ⌝ }
     requires { ⌜ Settled (now transitions) start (now numbers) ⌝ }

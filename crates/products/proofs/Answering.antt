@@ -10,19 +10,18 @@ use Rattle.automata.specs.Automaton.{Automaton, Transition, lookup, run, states
 use Rattle.automata.specs.Change.{productTransitions, subtreeNumber, subtrees}
 use Rattle.automata.specs.Order.{rising}
 use Rattle.automata.specs.Product.{fst, live, outPair}
+use Rattle.automata.specs.ProductView.{PairStep, ProductView, pairsWith}
 use Rattle.lists.specs.Positions.{Pair}
-use Rattle.lists.specs.Tests.{_∈_, every}
+use Rattle.lists.specs.Tests.{Distinct, _∈_, every}
 use Rattle.products.specs.Choices.{Chosen, Expands, candidate, over}
 use Rattle.products.specs.Growth.{Keyed, SomeBelow}
 use Rattle.products.specs.Pairs.{LostAt, inUse, nodeTransition, pairOf}
 use Rattle.trees.specs.Tree.{Tree}
 use Rattle.automata.proofs.Change.{subtrees-closed}
-use Rattle.automata.proofs.ProductLaws.{pairs-exact, pairsWith}
-use Rattle.automata.proofs.ProductView.{PairStep, ProductView}
+use Rattle.automata.proofs.ProductLaws.{pairs-exact}
 use Rattle.automata.proofs.ProductViewCount.{view-distinct}
 use Rattle.automata.proofs.Steps.{Taken, step-view}
 use Rattle.automata.proofs.Subtrees.{run-subtree}
-use Rattle.lists.proofs.Distinct.{Distinct}
 use Rattle.products.proofs.NodeLookup.{Makes, NodeList, lookup-node, lookup-none, node-out}
 use Rattle.products.proofs.Pairing.{Setting, tree-used, treeAutomaton, used-among, used-injective, used-pair}
 use Rattle.products.proofs.Pairing.{used-some}

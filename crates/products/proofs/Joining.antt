@@ -12,6 +12,7 @@ use borrow.Author.Tests.{le-leb}
 use Rattle.automata.specs.Automaton.{Automaton, Transition, states}
 use Rattle.automata.specs.Change.{collect, collects, productTransitions, subtrees}
 use Rattle.automata.specs.Order.{rising}
+use Rattle.automata.specs.ProductView.{PairStep, ProductView}
 use Rattle.fields.specs.Fields.{HasTransitionsOver}
 use Rattle.format.specs.Format.{maxProduct, scratchBytes, transitionBytes}
 use Rattle.lists.specs.Closure.{elem}
@@ -30,7 +31,6 @@ use Rattle.subtrees.specs.declared.Subtrees.{Subtrees}
 use Rattle.table.specs.Layout.{argOf, arityOf, nthTransition, transitionsIn}
 use Rattle.trees.specs.Legal.{AllLegal, Legal}
 use Rattle.trees.specs.Tree.{Forest, Tree, cons, eqTree, nil, node}
-use Rattle.automata.proofs.ProductView.{PairStep, ProductView}
 use Rattle.automata.proofs.ProductViewCount.{view-count}
 use Rattle.fields.proofs.Transitions.{arg-at, args-length, in-args}
 use Rattle.lists.proofs.Intervals.{getD-in}

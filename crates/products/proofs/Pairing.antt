@@ -8,18 +8,18 @@ use Prim.Native.Nat.{_+_, _-_, _≤_, ℕ}
 use native.Mathlib.Omega.{arith}
 use lib.Dec.{eqb, leb}
 use borrow.Author.Tests.{eqb-false, eqb-true, le-leb, leb-false, leb-true, lt-leb}
-use Rattle.automata.specs.Automaton.{Automaton, Transition, run, runs, states, step}
+use Rattle.automata.specs.Automaton.{Automaton, Fits, Transition, run, runs, states, step}
 use Rattle.automata.specs.Change.{subtreeAutomaton, subtreeNumber, subtrees}
 use Rattle.automata.specs.Order.{rising}
 use Rattle.automata.specs.Product.{fst, live, outPair, snd}
+use Rattle.automata.specs.ProductView.{pairsWith}
 use Rattle.lists.specs.Positions.{Pair, eqPair}
 use Rattle.lists.specs.Tests.{_∈_, every}
 use Rattle.products.specs.Pairs.{inUse, pairOf}
 use Rattle.subtrees.specs.Store.{Stored, noTree, treeNumbered}
 use Rattle.trees.specs.Tree.{Forest, Tree, cons, eqTree, nil, node}
 use Rattle.automata.proofs.Change.{subtrees-closed}
-use Rattle.automata.proofs.ProductLaws.{pairs-exact, pairsWith}
-use Rattle.automata.proofs.Steps.{Fits}
+use Rattle.automata.proofs.ProductLaws.{pairs-exact}
 use Rattle.automata.proofs.Subtrees.{run-subtree, subtree-numbered}
 use Rattle.lists.proofs.Closure.{elem-in, in-elem}
 use Rattle.lists.proofs.Intervals.{getD-in}

@@ -11,6 +11,7 @@ use borrow.Author.Tests.{eq-eqb, eqb-false, eqb-true, ne-eqb}
 use Rattle.automata.specs.Automaton.{Automaton, Transition, lookup, run, runs, step}
 use Rattle.automata.specs.Change.{subtrees}
 use Rattle.automata.specs.Product.{fst, outPair, snd}
+use Rattle.automata.specs.ProductView.{PairStep}
 use Rattle.lists.specs.Positions.{Pair, upFrom}
 use Rattle.lists.specs.Tests.{_∈_, any, every}
 use Rattle.products.specs.Choices.{Candidate, Chosen, Reaches, candidate, outOver, over}
@@ -21,7 +22,6 @@ use Rattle.trees.specs.Tree.{Forest, Tree, cons, nil, node}
 use Rattle.automata.proofs.Change.{subtrees-closed}
 use Rattle.automata.proofs.Distinguishable.{run-fits}
 use Rattle.automata.proofs.Order.{lookup-transition}
-use Rattle.automata.proofs.ProductView.{PairStep}
 use Rattle.automata.proofs.Steps.{Taken, step-view}
 use Rattle.automata.proofs.Subtrees.{numbered-subtree, run-subtree}
 use Rattle.lists.proofs.Intervals.{in-getD}

@@ -7,12 +7,11 @@ use Prim.Native.Nat.{_<_, _≤_, ℕ}
 use lib.ListN.{length}
 use Rattle.automata.specs.Automaton.{Transition}
 use Rattle.format.specs.Format.{maxProduct}
-use Rattle.lists.specs.Tests.{_∈_}
+use Rattle.lists.specs.Tests.{Distinct, _∈_}
 use Rattle.products.specs.declared.Produced.{Produced}
 use Rattle.products.specs.declared.Produced.the-variants.{TooMany, Transitions}
 use Rattle.sorted.specs.Sorted.{Sorted}
 use Rattle.table.specs.Layout.{transitionsIn}
-use Rattle.lists.proofs.Distinct.{Distinct}
 
 -- the list has a transition with the label and the arguments of τ
 abbrev pub Keyed : List Transition → Transition → Type 0

@@ -8,6 +8,7 @@ use lib.ListN.{length}
 use Rattle.automata.specs.Automaton.{Automaton, states}
 use Rattle.automata.specs.Change.{productTransitions}
 use Rattle.automata.specs.Order.{rising}
+use Rattle.automata.specs.ProductView.{ProductView}
 use Rattle.fields.specs.Fields.{HasTransitionsOver}
 use Rattle.format.specs.Format.{maxProduct, scratchBytes}
 use Rattle.products.specs.Pairs.{inUse, pairOf}
@@ -18,7 +19,6 @@ use Rattle.subtrees.specs.declared.Subtrees.{Subtrees}
 use Rattle.table.specs.Layout.{transitionsIn}
 use Rattle.trees.specs.Legal.{Legal}
 use Rattle.trees.specs.Tree.{Tree}
-use Rattle.automata.proofs.ProductView.{ProductView}
 
 -- the run has the transitions of an automaton with n states, and s the subtrees of a tree
 pub record Holds (A : Automaton) (t : Tree) (run : List ℕ) (count n : ℕ) (s : Subtrees) : Type 0 where

@@ -29,7 +29,13 @@ pub enum Produced {
 }
 
 // Writes the transitions of the product into the scratch, sorted.
-pub fn product(transitions: &[u8], count: usize, n: usize, s: Subtrees, scratch: &mut [u8]) -> Produced
+pub fn product(
+    transitions: &[u8],
+    count: usize,
+    n: usize,
+    s: Subtrees,
+    scratch: &mut [u8],
+) -> Produced
     requires { ⌜ HasTransitionsOver (now transitions) count n ⌝ }
     requires { ⌜ n ≤ maxStates ⌝ }
     requires { ⌜ Nodes (s .count) (s .arities) (s .children) ⌝ }

@@ -1,23 +1,25 @@
 -- The lines that document 01 prints for its example, and others, computed.
 use mathlib.Core.List.{[], _∷_}
 use mathlib.Core.Path.{_≡_, refl}
+use Rattle.calls.specs.declared.Answer.the-variants.{Done, Refused}
 use Rattle.lists.specs.Decimal.{decimal, digits}
-use Rattle.report.specs.Report.{done, endText, field, form, lineText, outcomeText, refused}
+use Rattle.report.specs.Report.{answerText, endText, field, lineText, outcomeText}
+use Rattle.report.specs.declared.Outcome.the-variants.{Answered, Form}
 
 -- 1 done 2 2
-done-sample : lineText 1 (done 2 2) ≡ 49 ∷ 32 ∷ 100 ∷ 111 ∷ 110 ∷ 101 ∷ 32 ∷ 50 ∷ 32 ∷ 50 ∷ 10 ∷ []
-unfolding lineText outcomeText field decimal digits
+done-sample : lineText 1 (Answered (Done 2 2)) ≡ 49 ∷ 32 ∷ 100 ∷ 111 ∷ 110 ∷ 101 ∷ 32 ∷ 50 ∷ 32 ∷ 50 ∷ 10 ∷ []
+unfolding lineText outcomeText answerText field decimal digits
 done-sample = refl
 
 -- 3 refused 15
-refused-sample : lineText 3 (refused 15) ≡
+refused-sample : lineText 3 (Answered (Refused 15)) ≡
     51 ∷ 32 ∷ 114 ∷ 101 ∷ 102 ∷ 117 ∷ 115 ∷ 101 ∷ 100 ∷ 32 ∷ 49 ∷ 53 ∷ 10 ∷ []
-unfolding lineText outcomeText field decimal digits
+unfolding lineText outcomeText answerText field decimal digits
 refused-sample = refl
 
 -- 70 form 100
-form-sample : lineText 70 (form 100) ≡ 55 ∷ 48 ∷ 32 ∷ 102 ∷ 111 ∷ 114 ∷ 109 ∷ 32 ∷ 49 ∷ 48 ∷ 48 ∷ 10 ∷ []
-unfolding lineText outcomeText field decimal digits
+form-sample : lineText 70 (Form 100) ≡ 55 ∷ 48 ∷ 32 ∷ 102 ∷ 111 ∷ 114 ∷ 109 ∷ 32 ∷ 49 ∷ 48 ∷ 48 ∷ 10 ∷ []
+unfolding lineText outcomeText answerText field decimal digits
 form-sample = refl
 
 -- end 0 0 0

@@ -1,34 +1,22 @@
--- What the functions that print answer: the outcome that a value of the code stands for, and text put into a buffer.
+-- What the functions that print leave: text put into a buffer.
 use mathlib.Core.List.{List, _++_}
 use mathlib.Core.Path.{_≡_}
 use Prim.Native.Nat.{_+_, _≤_, ℕ}
 use lib.ListN.{length, take}
-use Rattle.report.specs.Report.{Outcome, approved, done, form, long, notApproved, refused}
-use Rattle.report.specs.declared.Outcome as code
-use Rattle.report.specs.declared.Outcome.the-variants.{Approved, Done, Form, Long, NotApproved, Refused}
 
 -- the bytes of the buffer
 abbrev pub lineBytes : ℕ
 lineBytes = 80
 
--- the most bytes of a number below 2^64, of a field, and of an outcome
+-- the most bytes of a number below 2^64, of a field, and of an answer
 abbrev pub numberBytes : ℕ
 numberBytes = 20
 
 abbrev pub fieldBytes : ℕ
 fieldBytes = 21
 
-abbrev pub outcomeBytes : ℕ
-outcomeBytes = 46
-
--- the outcome that a value of the code stands for
-abbrev pub meaning : code.Outcome → Outcome
-meaning (Done states transitions) = done states transitions
-meaning Approved = approved
-meaning NotApproved = notApproved
-meaning (Refused number) = refused number
-meaning (Form column) = form column
-meaning Long = long
+abbrev pub answerBytes : ℕ
+answerBytes = 50
 
 -- a buffer has room for n bytes from a place on
 pub record TextRoom (s : List ℕ) (at n : ℕ) : Type 0 where

@@ -2,7 +2,11 @@
 -- space apart: the line number, a word, then states and transitions, the refusal, or the column.
 use mathlib.Core.List.{List, [], _++_, _∷_}
 use Prim.Native.Nat.{ℕ}
+use Rattle.calls.specs.declared.Answer.{Answer}
+use Rattle.calls.specs.declared.Answer.the-variants.{Accepted, Approved, Done, NotApproved, Refused}
 use Rattle.lists.specs.Decimal.{decimal}
+use Rattle.report.specs.declared.Outcome.{Outcome}
+use Rattle.report.specs.declared.Outcome.the-variants.{Answered, Form, Long}
 
 abbrev pub space : ℕ
 space = 32
@@ -12,6 +16,9 @@ newline = 10
 
 abbrev pub doneWord : List ℕ
 doneWord = 100 ∷ 111 ∷ 110 ∷ 101 ∷ []
+
+abbrev pub acceptedWord : List ℕ
+acceptedWord = 97 ∷ 99 ∷ 99 ∷ 101 ∷ 112 ∷ 116 ∷ 101 ∷ 100 ∷ []
 
 abbrev pub approvedWord : List ℕ
 approvedWord = 97 ∷ 112 ∷ 112 ∷ 114 ∷ 111 ∷ 118 ∷ 101 ∷ 100 ∷ []
@@ -31,28 +38,23 @@ longWord = 108 ∷ 111 ∷ 110 ∷ 103 ∷ []
 abbrev pub endWord : List ℕ
 endWord = 101 ∷ 110 ∷ 100 ∷ []
 
--- What came of a line: the tree was put in or taken out, with the new numbers of states and transitions; it is approved
--- or not; the call refused it, with the number of the refusal; the line is malformed from a column on, or too long.
-pub data Outcome : Type 0 where
-  done : ℕ → ℕ → Outcome
-  approved : Outcome
-  notApproved : Outcome
-  refused : ℕ → Outcome
-  form : ℕ → Outcome
-  long : Outcome
-
 -- a further field that is a number
 unfoldable pub field : ℕ → List ℕ
 field n = space ∷ decimal n
 
--- the word of an outcome and its numbers
+-- the word of an answer and its numbers; no line makes the call that accepts a table
+unfoldable pub answerText : Answer → List ℕ
+answerText Approved = approvedWord
+answerText NotApproved = notWord
+answerText (Accepted states transitions) = acceptedWord ++ (field states ++ field transitions)
+answerText (Done states transitions) = doneWord ++ (field states ++ field transitions)
+answerText (Refused number) = refusedWord ++ field number
+
+-- what came of a line: an answer, the column from which it is malformed, or that it is too long
 unfoldable pub outcomeText : Outcome → List ℕ
-outcomeText (done states transitions) = doneWord ++ (field states ++ field transitions)
-outcomeText approved = approvedWord
-outcomeText notApproved = notWord
-outcomeText (refused number) = refusedWord ++ field number
-outcomeText (form column) = formWord ++ field column
-outcomeText long = longWord
+outcomeText (Answered answer) = answerText answer
+outcomeText (Form column) = formWord ++ field column
+outcomeText Long = longWord
 
 -- what is printed for a line: its number, its outcome
 unfoldable pub lineText : ℕ → Outcome → List ℕ

@@ -1,13 +1,14 @@
 // What the bench program prints for a line and at the end of its input, written into a buffer that the caller lends.
 ghost use mathlib.Core.Path.{_≡_};
-ghost use mathlib.Core.List.{[], _∷_};
+ghost use mathlib.Core.List.{[], _++_, _∷_};
 ghost use Prim.Native.Nat.{_+_, _<_, _≤_};
 ghost use lib.ListN.{length};
 ghost use Rattle.lists.specs.Decimal.{decimal, digit};
-ghost use Rattle.report.specs.Printing.{Printed, Put, TextRoom, fieldBytes, lineBytes, meaning, outcomeBytes};
-ghost use Rattle.report.specs.Report.{endText, field, lineText, outcomeText};
+ghost use Rattle.report.specs.Printing.{Printed, Put, TextRoom, answerBytes, fieldBytes, lineBytes};
+ghost use Rattle.report.specs.Report.{answerText, endText, field, lineText, outcomeText};
+use calls::Answer;
 
-// The bytes of the buffer. The longest line has 68.
+// The bytes of the buffer. The longest line has 72.
 pub const LINE_BYTES: usize = 80;
 
 const SPACE: u8 = 32;
@@ -16,18 +17,15 @@ const NEWLINE: u8 = 10;
 
 const ZERO: u8 = 48;
 
-// What came of a line: a change with the new numbers of states and transitions, an answer, the number of a refusal,
-// the column from which the line is malformed, or that it is too long.
+// What came of a line: the answer of the call that it made, the column from which it is malformed, or that it is too
+// long.
 pub enum Outcome {
-    Done { states: u64, transitions: u64 },
-    Approved,
-    NotApproved,
-    Refused { number: u8 },
+    Answered(Answer),
     Form { column: u64 },
     Long,
 }
 
-// The functions that put a text take the place where it goes, keep the bytes before, and answer where it ends.
+// The functions that put a text take the place where it goes, keep the bytes before, and return where it ends.
 fn put_byte(out: &mut [u8; LINE_BYTES], at: usize, byte: u8) -> usize
     requires { ⌜ TextRoom (now out) at 1 ⌝ }
     ensures { λ r. ⌜ Put (now (out .entry)) (now (out .exit)) at (byte ∷ []) r ⌝ }
@@ -78,27 +76,54 @@ fn put_field(out: &mut [u8; LINE_BYTES], at: usize, n: u64) -> usize
     put_number(out, number, n)
 }
 
-// Puts the word of an outcome and its numbers.
-fn put_outcome(out: &mut [u8; LINE_BYTES], at: usize, outcome: Outcome) -> usize
-    requires { ⌜ TextRoom (now out) at outcomeBytes ⌝ }
-    ensures text { λ r. ⌜ Put (now (out .entry)) (now (out .exit)) at (outcomeText (meaning outcome)) r ⌝ }
-    ensures within { λ r. ⌜ r ≤ at + outcomeBytes ⌝ }
+// Puts two numbers, each after a space.
+fn put_counts(out: &mut [u8; LINE_BYTES], at: usize, states: u16, transitions: u16) -> usize
+    requires { ⌜ TextRoom (now out) at (fieldBytes + fieldBytes) ⌝ }
+    ensures text { λ r. ⌜ Put (now (out .entry)) (now (out .exit)) at (field states ++ field transitions) r ⌝ }
+    ensures within { λ r. ⌜ r ≤ at + (fieldBytes + fieldBytes) ⌝ }
 {
-    match outcome {
-        Outcome::Done {
+    let second = put_field(out, at, states as u64);
+    put_field(out, second, transitions as u64)
+}
+
+// Puts the word of an answer and its numbers.
+fn put_answer(out: &mut [u8; LINE_BYTES], at: usize, answer: Answer) -> usize
+    requires { ⌜ TextRoom (now out) at answerBytes ⌝ }
+    ensures text { λ r. ⌜ Put (now (out .entry)) (now (out .exit)) at (answerText answer) r ⌝ }
+    ensures within { λ r. ⌜ r ≤ at + answerBytes ⌝ }
+{
+    match answer {
+        Answer::Approved => put_word(out, at, b"approved"),
+        Answer::NotApproved => put_word(out, at, b"not"),
+        Answer::Accepted {
+            states,
+            transitions,
+        } => {
+            let first = put_word(out, at, b"accepted");
+            put_counts(out, first, states, transitions)
+        }
+        Answer::Done {
             states,
             transitions,
         } => {
             let first = put_word(out, at, b"done");
-            let second = put_field(out, first, states);
-            put_field(out, second, transitions)
+            put_counts(out, first, states, transitions)
         }
-        Outcome::Approved => put_word(out, at, b"approved"),
-        Outcome::NotApproved => put_word(out, at, b"not"),
-        Outcome::Refused { number } => {
+        Answer::Refused { number } => {
             let first = put_word(out, at, b"refused");
             put_field(out, first, number as u64)
         }
+    }
+}
+
+// Puts what came of a line.
+fn put_outcome(out: &mut [u8; LINE_BYTES], at: usize, outcome: Outcome) -> usize
+    requires { ⌜ TextRoom (now out) at answerBytes ⌝ }
+    ensures text { λ r. ⌜ Put (now (out .entry)) (now (out .exit)) at (outcomeText outcome) r ⌝ }
+    ensures within { λ r. ⌜ r ≤ at + answerBytes ⌝ }
+{
+    match outcome {
+        Outcome::Answered(answer) => put_answer(out, at, answer),
         Outcome::Form { column } => {
             let first = put_word(out, at, b"form");
             put_field(out, first, column)
@@ -107,18 +132,18 @@ fn put_outcome(out: &mut [u8; LINE_BYTES], at: usize, outcome: Outcome) -> usize
     }
 }
 
-// Writes what is printed for the line with this number, from the first byte of the buffer on, and answers its length.
+// Writes what is printed for the line with this number, from the first byte of the buffer on, and returns its length.
 pub fn line(number: u64, outcome: Outcome, out: &mut [u8; LINE_BYTES]) -> usize
     requires { ⌜ length (now out) ≡ lineBytes ⌝ }
-    ensures { λ r. ⌜ Printed (now (out .exit)) (lineText number (meaning outcome)) r ⌝ }
+    ensures { λ r. ⌜ Printed (now (out .exit)) (lineText number outcome) r ⌝ }
 {
-    let behind = put_number(out, 0, number);
-    let word = put_byte(out, behind, SPACE);
+    let space = put_number(out, 0, number);
+    let word = put_byte(out, space, SPACE);
     let last = put_outcome(out, word, outcome);
     put_byte(out, last, NEWLINE)
 }
 
-// Writes what is printed last, from the first byte of the buffer on, and answers its length.
+// Writes what is printed last, from the first byte of the buffer on, and returns its length.
 pub fn end(lines: u64, states: u64, transitions: u64, out: &mut [u8; LINE_BYTES]) -> usize
     requires { ⌜ length (now out) ≡ lineBytes ⌝ }
     ensures { λ r. ⌜ Printed (now (out .exit)) (endText lines states transitions) r ⌝ }

@@ -10,7 +10,7 @@ use lib.ListN.{getD, length, length-append, length-replicate, replicate}
 use lib.Seq.{ext-getD}
 use borrow.Author.Tests.{eq-eqb, leb-false, leb-true, ne-eqb}
 use Rattle.format.specs.Format.{listingBytes, maxLine}
-use Rattle.scalebench.specs.Typed.{Small, packedLine, packedParsed}
+use Rattle.scalebench.specs.Typed.{Small, lineNumber}
 use Rattle.text.specs.Grammar.{Command, toAdd, toAsk, toDrop}
 use Rattle.text.specs.Outcome.{listed, padded, parsed, parsedAs}
 use Rattle.text.specs.Reader.{Line, form, formed, long, readLine}
@@ -29,15 +29,6 @@ copied-end from {to} x h e =
     ext-getD 0 to from (x .size ∙ sym e) (λ j l. x .same j (omega (arith, x .size)))
 
 -- ---- numbers
-
--- the number of what the reader answers is that of the line
-packed-parsed : (l : Line) → packedParsed (parsed l) ≡ packedLine l
-unfolding parsed
-packed-parsed (formed toAdd l) = refl
-packed-parsed (formed toDrop l) = refl
-packed-parsed (formed toAsk l) = refl
-packed-parsed (form n) = refl
-packed-parsed long = refl
 
 abbrev isLong : Line → Bool
 isLong (formed c l) = false
@@ -89,18 +80,18 @@ module _ (s : List ℕ) {p : Parsed} (e : p ≡ parsed (readLine s)) where
   pub read-small : Small p
   read-small = subst Small (sym e) (small-line s)
 
-  pub read-packed : {k : ℕ} → k ≡ packedParsed p → k ≡ packedLine (readLine s)
-  read-packed d = d ∙ ap packedParsed e ∙ packed-parsed (readLine s)
+  pub read-number : {k : ℕ} → k ≡ lineNumber p → k ≡ lineNumber (parsed (readLine s))
+  read-number d = d ∙ ap lineNumber e
 
--- a table of another size is left alone
+-- a buffer of another size is left untouched
 module _ (s l : List ℕ) where
   pub read-other : length l ≢ listingBytes →
-      (_≡_ {A = ℕ} 0 (cond (eqb (length l) listingBytes) (packedLine (readLine s)) 0)) ×
+      (_≡_ {A = ℕ} 0 (cond (eqb (length l) listingBytes) (lineNumber (parsed (readLine s))) 0)) ×
       (l ≡ cond (eqb (length l) listingBytes) (listed (readLine s)) l)
   read-other n = rw (ne-eqb (length l) listingBytes n) (refl, refl)
 
-  pub read-listed : length l ≡ listingBytes → {k : ℕ} {t : List ℕ} → k ≡ packedLine (readLine s) → t ≡ listed
+  pub read-listed : length l ≡ listingBytes → {k : ℕ} {t : List ℕ} → k ≡ lineNumber (parsed (readLine s)) → t ≡ listed
       (readLine s) →
-      (k ≡ cond (eqb (length l) listingBytes) (packedLine (readLine s)) 0) ×
+      (k ≡ cond (eqb (length l) listingBytes) (lineNumber (parsed (readLine s))) 0) ×
       (t ≡ cond (eqb (length l) listingBytes) (listed (readLine s)) l)
   read-listed h d e = rw (eq-eqb (length l) listingBytes h) (d, e)

@@ -3,34 +3,18 @@
 mod lines; // lines of text
 
 ghost use mathlib.Core.Path.{_≡_};
-ghost use Prim.Native.Nat.{_*_, _+_, _≤_};
+ghost use Rattle.calls.specs.Answers.{answerNumber, countsNumber};
 ghost use Rattle.calls.specs.Calls.{addResult, askAnswer, askRefusal, changeResult, intakeAnswer, removeResult};
-ghost use Rattle.change.specs.Changing.{changeOf, changedAnswer, resultOf};
-ghost use Rattle.format.specs.Format.{maxStates, maxTransitions};
+ghost use Rattle.change.specs.Changing.{changeOf, resultOf};
 ghost use Rattle.trees.specs.Listing.{readTree};
 ghost use Rattle.trees.specs.Tree.{Tree};
-ghost use Rattle.scalebench.specs.Changes.{Counted, beforeChange, presenceRefusal};
-ghost use Rattle.scalebench.specs.Host.{askedAnswer, packed, packedCounts, takenAnswer};
-use change::Changed;
+ghost use Rattle.scalebench.specs.Changes.{earlyRefusal, presenceRefusal};
+use calls::Answer;
 use fields::transition_count;
 use format::SCRATCH_BYTES;
 use format::TABLE_BYTES;
-use format::wide;
 use intake::content_refusal;
 use running::accepted;
-
-// What ask answers.
-pub enum Asked {
-    Approved,
-    NotApproved,
-    Refused { number: u8 },
-}
-
-// What intake answers: the numbers of states and of transitions.
-pub enum Taken {
-    Accepted { states: usize, transitions: usize },
-    Refused { number: u8 },
-}
 
 // A byte as a number to return.
 fn widened(x: u8) -> u64
@@ -39,13 +23,37 @@ fn widened(x: u8) -> u64
     x as u64
 }
 
+// A byte as a count in an answer.
+fn counted(x: u8) -> u16
+    ensures { λ r. ⌜ r ≡ x ⌝ }
+{
+    x as u16
+}
+
 // Two numbers in one.
-fn counts(states: usize, transitions: usize) -> u64
-    requires { ⌜ states ≤ maxStates ⌝ }
-    requires { ⌜ transitions ≤ maxTransitions ⌝ }
-    ensures { λ r. ⌜ r ≡ packedCounts states transitions ⌝ }
+fn counts(states: u16, transitions: u16) -> u64
+    ensures { λ r. ⌜ r ≡ countsNumber states transitions ⌝ }
 {
     65536 * states as u64 + 4294967296 * transitions as u64
+}
+
+// The number that stands for an answer.
+fn answer_number(answer: Answer) -> u64
+    ensures { λ r. ⌜ r ≡ answerNumber answer ⌝ }
+{
+    match answer {
+        Answer::Approved => 256,
+        Answer::NotApproved => 0,
+        Answer::Accepted {
+            states,
+            transitions,
+        } => counts(states, transitions),
+        Answer::Done {
+            states,
+            transitions,
+        } => counts(states, transitions),
+        Answer::Refused { number } => widened(number),
+    }
 }
 
 // The first of refusals 1 to 5 and 7 to 13 that applies, or 0.
@@ -60,31 +68,31 @@ fn ask_refusal(tree: &[u8], table: &[u8]) -> u8
 }
 
 // Whether the table's set has the tree.
-pub fn ask(tree: &[u8], table: &[u8]) -> Asked
-    ensures { λ r. ⌜ askedAnswer r ≡ askAnswer (now (tree .entry)) (now (table .entry)) ⌝ }
+pub fn ask(tree: &[u8], table: &[u8]) -> Answer
+    ensures { λ r. ⌜ r ≡ askAnswer (now (tree .entry)) (now (table .entry)) ⌝ }
 {
     let number = ask_refusal(tree, table);
     if number != 0 {
-        return Asked::Refused { number };
+        return Answer::Refused { number };
     }
     if accepted(tree, table) {
-        return Asked::Approved;
+        return Answer::Approved;
     }
-    Asked::NotApproved
+    Answer::NotApproved
 }
 
 // Whether the table is one that these calls leave.
-pub fn take_in(table: &[u8]) -> Taken
-    ensures { λ r. ⌜ takenAnswer r ≡ intakeAnswer (now (table .entry)) ⌝ }
+pub fn take_in(table: &[u8]) -> Answer
+    ensures { λ r. ⌜ r ≡ intakeAnswer (now (table .entry)) ⌝ }
 {
     let number = intake::refusal(table);
     if number != 0 {
-        return Taken::Refused { number };
+        return Answer::Refused { number };
     }
     let transitions = transition_count(table);
-    Taken::Accepted {
-        states: wide(table[0]),
-        transitions,
+    Answer::Accepted {
+        states: counted(table[0]),
+        transitions: transitions as u16,
     }
 }
 
@@ -106,7 +114,7 @@ fn presence_refusal(inserting: bool, present: bool) -> u8
 
 // The first of refusals 1 to 15 that applies to a change, or 0.
 fn change_refusal(tree: &[u8], table: &[u8], scratch: &[u8], inserting: bool) -> u8
-    ensures { λ r. ⌜ r ≡ beforeChange (changeOf inserting (readTree (now (tree .entry)))) (now (tree .entry))
+    ensures { λ r. ⌜ r ≡ earlyRefusal (changeOf inserting (readTree (now (tree .entry)))) (now (tree .entry))
         (now (table .entry)) (now (scratch .entry)) ⌝ }
 {
     let broken = listing::refusal(tree);
@@ -128,20 +136,20 @@ fn change_refusal(tree: &[u8], table: &[u8], scratch: &[u8], inserting: bool) ->
 }
 
 // Puts the tree into the table's set or takes it out.
-fn change(tree: &[u8], table: &mut [u8], scratch: &mut [u8], inserting: bool) -> Changed
+fn change(tree: &[u8], table: &mut [u8], scratch: &mut [u8], inserting: bool) -> Answer
     ensures { λ r. ⌜ resultOf r (now (table .exit)) (now (scratch .exit)) ≡
         changeResult (changeOf inserting (readTree (now (tree .entry)))) (now (tree .entry)) (now (table .entry))
         (now (scratch .entry)) ⌝ }
 {
     let number = change_refusal(tree, table, scratch, inserting);
     if number != 0 {
-        return Changed::Refused { number };
+        return Answer::Refused { number };
     }
     change::change(tree, table, scratch, inserting)
 }
 
 // Puts the tree into the table's set.
-pub fn add(tree: &[u8], table: &mut [u8], scratch: &mut [u8]) -> Changed
+pub fn add(tree: &[u8], table: &mut [u8], scratch: &mut [u8]) -> Answer
     ensures { λ r. ⌜ resultOf r (now (table .exit)) (now (scratch .exit)) ≡
         addResult (now (tree .entry)) (now (table .entry)) (now (scratch .entry)) ⌝ }
 {
@@ -149,73 +157,51 @@ pub fn add(tree: &[u8], table: &mut [u8], scratch: &mut [u8]) -> Changed
 }
 
 // Takes the tree out of the table's set.
-pub fn remove(tree: &[u8], table: &mut [u8], scratch: &mut [u8]) -> Changed
+pub fn remove(tree: &[u8], table: &mut [u8], scratch: &mut [u8]) -> Answer
     ensures { λ r. ⌜ resultOf r (now (table .exit)) (now (scratch .exit)) ≡
         removeResult (now (tree .entry)) (now (table .entry)) (now (scratch .entry)) ⌝ }
 {
     change(tree, table, scratch, false)
 }
 
-// The number that stands for the answer to a change.
-fn packed_change(answer: Changed) -> u64
-    requires { ⌜ Counted answer ⌝ }
-    ensures { λ r. ⌜ r ≡ packed (changedAnswer answer) ⌝ }
-{
-    match answer {
-        Changed::Done {
-            states,
-            transitions,
-        } => counts(states, transitions),
-        Changed::Refused { number } => widened(number),
-    }
-}
-
 #[no_mangle]
 pub extern "C" fn scalebench_add(tree: &[u8], table: &mut [u8], scratch: &mut [u8]) -> u64
     ensures answer { λ r. ⌜ r ≡
-        packed (addResult (now (tree .entry)) (now (table .entry)) (now (scratch .entry)) .answer) ⌝ }
+        answerNumber (addResult (now (tree .entry)) (now (table .entry)) (now (scratch .entry)) .answer) ⌝ }
     ensures left { λ _. ⌜ now (table .exit) ≡
         addResult (now (tree .entry)) (now (table .entry)) (now (scratch .entry)) .table ⌝ }
     ensures cleared { λ _. ⌜ now (scratch .exit) ≡
         addResult (now (tree .entry)) (now (table .entry)) (now (scratch .entry)) .scratch ⌝ }
 {
     let answer = add(tree, table, scratch);
-    packed_change(answer)
+    answer_number(answer)
 }
 
 #[no_mangle]
 pub extern "C" fn scalebench_remove(tree: &[u8], table: &mut [u8], scratch: &mut [u8]) -> u64
     ensures answer { λ r. ⌜ r ≡
-        packed (removeResult (now (tree .entry)) (now (table .entry)) (now (scratch .entry)) .answer) ⌝ }
+        answerNumber (removeResult (now (tree .entry)) (now (table .entry)) (now (scratch .entry)) .answer) ⌝ }
     ensures left { λ _. ⌜ now (table .exit) ≡
         removeResult (now (tree .entry)) (now (table .entry)) (now (scratch .entry)) .table ⌝ }
     ensures cleared { λ _. ⌜ now (scratch .exit) ≡
         removeResult (now (tree .entry)) (now (table .entry)) (now (scratch .entry)) .scratch ⌝ }
 {
     let answer = remove(tree, table, scratch);
-    packed_change(answer)
+    answer_number(answer)
 }
 
 #[no_mangle]
 pub extern "C" fn scalebench_ask(tree: &[u8], table: &[u8]) -> u64
-    ensures { λ r. ⌜ r ≡ packed (askAnswer (now (tree .entry)) (now (table .entry))) ⌝ }
+    ensures { λ r. ⌜ r ≡ answerNumber (askAnswer (now (tree .entry)) (now (table .entry))) ⌝ }
 {
-    match ask(tree, table) {
-        Asked::Approved => 256,
-        Asked::NotApproved => 0,
-        Asked::Refused { number } => widened(number),
-    }
+    let answer = ask(tree, table);
+    answer_number(answer)
 }
 
 #[no_mangle]
 pub extern "C" fn scalebench_intake(table: &[u8]) -> u64
-    ensures { λ r. ⌜ r ≡ packed (intakeAnswer (now (table .entry))) ⌝ }
+    ensures { λ r. ⌜ r ≡ answerNumber (intakeAnswer (now (table .entry))) ⌝ }
 {
-    match take_in(table) {
-        Taken::Accepted {
-            states,
-            transitions,
-        } => counts(states, transitions),
-        Taken::Refused { number } => widened(number),
-    }
+    let answer = take_in(table);
+    answer_number(answer)
 }

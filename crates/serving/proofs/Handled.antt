@@ -1,13 +1,18 @@
 -- What a line's reading makes of it: a command with the listing that the lent bytes start with, or no call at all.
-use mathlib.Core.List.{List}
+use mathlib.Core.List.{List, [], _∷_}
 use mathlib.Core.Path.{_∙_, _≡_, ap, ap₂, refl, subst, sym}
 use Prim.Native.Nat.{_-_, _≤_, ℕ}
 use native.Mathlib.Omega.{arith}
+use denote.Enum.Declared.{tagOf}
+use types.Run.{OneOf, miss}
 use lib.ListN.{drop, length, length-append, replicate, take}
 use Rattle.format.specs.Format.{listingBytes}
-use Rattle.calls.specs.Calls.{Answer, Result, intakeAnswer}
-use Rattle.report.specs.Printing.{Printed, meaning}
-use Rattle.report.specs.Report.{lineText}
+use Rattle.calls.specs.Calls.{Result, intakeAnswer}
+use Rattle.calls.specs.declared.Answer.{Answer}
+use Rattle.calls.specs.declared.Answer.the-variants.{Accepted, Approved, Done, NotApproved, Refused}
+use Rattle.calls.proofs.Answer.{the-type}
+use Rattle.report.specs.Printing.{Printed}
+use Rattle.report.specs.Report.{endText, lineText}
 use Rattle.report.specs.declared.Outcome.{Outcome}
 use Rattle.report.specs.declared.Outcome.the-variants.{Form as Malformed, Long as TooLong}
 use Rattle.text.proofs.Lines.{padded-listing}
@@ -17,7 +22,7 @@ use Rattle.text.specs.Reader.{Line, form, formed, long, readLine}
 use Rattle.text.specs.declared.Parsed.{Parsed}
 use Rattle.text.specs.declared.Parsed.the-variants.{Add, Ask, Drop, Form, Long}
 use Rattle.serving.specs.Answering.{Serves, handling}
-use Rattle.serving.specs.Serving.{answered, called, closing, closingFor, handled, outcomeOf, reported, served}
+use Rattle.serving.specs.Serving.{answered, called, closing, closingFor, handled, reported, served}
 
 -- a line is a command, with a listing of n bytes
 record Commands (r : Line) (c : Command) (n : ℕ) : Type 0 where
@@ -25,30 +30,30 @@ record Commands (r : Line) (c : Command) (n : ℕ) : Type 0 where
   line : r ≡ formed c listing
   size : n ≡ length listing
 
--- what an answer tells of its line
-Told : Line → Parsed → Type 0
-Told r (Add n) = Commands r toAdd n
-Told r (Drop n) = Commands r toDrop n
-Told r (Ask n) = Commands r toAsk n
-Told r (Form n) = r ≡ form n
-Told r Long = r ≡ long
+-- what the reader's enum says of its line
+Says : Line → Parsed → Type 0
+Says r (Add n) = Commands r toAdd n
+Says r (Drop n) = Commands r toDrop n
+Says r (Ask n) = Commands r toAsk n
+Says r (Form n) = r ≡ form n
+Says r Long = r ≡ long
 
-told-itself : (r : Line) → Told r (parsed r)
-unfolding Told parsed
-told-itself (formed toAdd l) = record { listing = l; line = refl; size = refl }
-told-itself (formed toDrop l) = record { listing = l; line = refl; size = refl }
-told-itself (formed toAsk l) = record { listing = l; line = refl; size = refl }
-told-itself (form n) = refl
-told-itself long = refl
+says-itself : (r : Line) → Says r (parsed r)
+unfolding Says parsed
+says-itself (formed toAdd l) = record { listing = l; line = refl; size = refl }
+says-itself (formed toDrop l) = record { listing = l; line = refl; size = refl }
+says-itself (formed toAsk l) = record { listing = l; line = refl; size = refl }
+says-itself (form n) = refl
+says-itself long = refl
 
-told : (r : Line) (x : Parsed) → parsed r ≡ x → Told r x
-told r x e = subst (Told r) e (told-itself r)
+says : (r : Line) (x : Parsed) → parsed r ≡ x → Says r x
+says r x e = subst (Says r) e (says-itself r)
 
 commands : (r : Line) (c : Command) (n : ℕ) → parsed r ≡ parsedAs c n → Commands r c n
-unfolding Told
-commands r toAdd n e = told r (Add n) e
-commands r toDrop n e = told r (Drop n) e
-commands r toAsk n e = told r (Ask n) e
+unfolding Says
+commands r toAdd n e = says r (Add n) e
+commands r toDrop n e = says r (Drop n) e
+commands r toAsk n e = says r (Ask n) e
 
 module _ (r : Line) (c : Command) (n : ℕ) (e : parsed r ≡ parsedAs c n) where
   -- the lent bytes have its listing
@@ -71,24 +76,19 @@ module _ (r : Line) (c : Command) (n : ℕ) (e : parsed r ≡ parsedAs c n) wher
       ap₂ take z q ∙ padded-listing (X .listing) in
       ap answered (h ∙ ap (λ (s : List ℕ). called c s b w) t) ∙ sym (ap (λ (l : Line). handled l b w) (X .line))
 
--- an outcome with the table and the scratch that a call left
-pub outcome-handled : (o : Outcome) (a : Answer) (b w : List ℕ) → meaning o ≡ outcomeOf a →
-    handling o b w ≡ answered (record { answer = a; table = b; scratch = w })
-outcome-handled o a b w e = λ i. record { outcome = e i; table = b; scratch = w }
-
 -- a malformed line and one that is too long change nothing
 pub form-handled : (r : Line) (n : ℕ) → parsed r ≡ Form n → (b w : List ℕ) →
     handling (Malformed n) b w ≡ handled r b w
-unfolding Told handled
-form-handled r n e b w = sym (ap (λ (l : Line). handled l b w) (told r (Form n) e))
+unfolding Says handled
+form-handled r n e b w = sym (ap (λ (l : Line). handled l b w) (says r (Form n) e))
 
 pub long-handled : (r : Line) → parsed r ≡ Long → (b w : List ℕ) → handling TooLong b w ≡ handled r b w
-unfolding Told handled
-long-handled r e b w = sym (ap (λ (l : Line). handled l b w) (told r Long e))
+unfolding Says handled
+long-handled r e b w = sym (ap (λ (l : Line). handled l b w) (says r Long e))
 
 -- a line handled and its outcome printed
 pub printed-served : (n : ℕ) (s b w : List ℕ) (o : Outcome) (b' w' t : List ℕ) (r : ℕ) →
-    handling o b' w' ≡ handled (readLine s) b w → Printed t (lineText n (meaning o)) r → Serves n s b w t r b' w'
+    handling o b' w' ≡ handled (readLine s) b w → Printed t (lineText n o) r → Serves n s b w t r b' w'
 unfolding served
 printed-served n s b w o b' w' t r e p = record {
   size = p .size;
@@ -96,8 +96,17 @@ printed-served n s b w o b' w' t r e p = record {
   equal = (λ i. record { text = p .text i; table = b'; scratch = w' }) ∙ ap (reported n) e;
 }
 
--- the last line, from what intake told
+-- the last line, from what intake reported
 pub printed-closing : (n : ℕ) (b t x : List ℕ) (r : ℕ) (a : Answer) → a ≡ intakeAnswer b → closingFor n a ≡ x →
     Printed t x r → Printed t (closing n b) r
 unfolding closing
 printed-closing n b t x r a e f p = subst (λ (y : List ℕ). Printed t y r) (sym f ∙ ap (closingFor n) e) p
+
+-- an answer of any other case than the third, which accepts a table, has no numbers
+pub other-closing : (n : ℕ) (a : Answer) → OneOf (0 ∷ 1 ∷ 3 ∷ 4 ∷ []) (tagOf the-type a) →
+    closingFor n a ≡ endText n 0 0
+other-closing n Approved h = refl
+other-closing n NotApproved h = refl
+other-closing n (Accepted j k) h = absurd (miss (0 ∷ 1 ∷ 3 ∷ 4 ∷ []) 2 tt h)
+other-closing n (Done j k) h = refl
+other-closing n (Refused k) h = refl

@@ -1,15 +1,15 @@
--- What the functions answer: an outcome with the table and the scratch after it, and a buffer that holds a text.
+-- What the functions leave: an outcome with the table and the scratch after it, and a buffer that holds a text.
 use mathlib.Core.List.{List}
 use mathlib.Core.Path.{_≡_}
 use Prim.Native.Nat.{_≤_, ℕ}
 use lib.ListN.{length, take}
-use Rattle.report.specs.Printing.{lineBytes, meaning}
+use Rattle.report.specs.Printing.{lineBytes}
 use Rattle.report.specs.declared.Outcome.{Outcome}
 use Rattle.serving.specs.Serving.{Handled, Served, served}
 
--- an outcome of the code with the table and the scratch
+-- an outcome with the table and the scratch
 abbrev pub handling : Outcome → List ℕ → List ℕ → Handled
-handling o b w = record { outcome = meaning o; table = b; scratch = w }
+handling o b w = record { outcome = o; table = b; scratch = w }
 
 -- the first bytes of a buffer with the table and the scratch
 abbrev pub serving : List ℕ → ℕ → List ℕ → List ℕ → Served

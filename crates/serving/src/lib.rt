@@ -2,47 +2,16 @@
 // and no table is refused here: any bytes of any length have a text.
 ghost use mathlib.Core.Path.{_≡_};
 ghost use lib.ListN.{length};
-ghost use Rattle.change.specs.Changing.{changedAnswer};
-ghost use Rattle.report.specs.Printing.{Printed, lineBytes, meaning};
-ghost use Rattle.scalebench.specs.Host.{askedAnswer};
+ghost use Rattle.report.specs.Printing.{Printed, lineBytes};
 ghost use Rattle.text.specs.Reader.{readLine};
 ghost use Rattle.serving.specs.Answering.{Serves, handling};
-ghost use Rattle.serving.specs.Serving.{closing, handled, outcomeOf};
-use change::Changed;
+ghost use Rattle.serving.specs.Serving.{closing, handled};
+use calls::Answer;
 use format::LISTING_BYTES;
 use report::LINE_BYTES;
 use report::Outcome;
-use scalebench::Asked;
-use scalebench::Taken;
 use text::Parsed;
 use text::read_line;
-
-// What is printed for the answer to ask.
-fn ask_outcome(answer: Asked) -> Outcome
-    ensures { λ r. ⌜ meaning r ≡ outcomeOf (askedAnswer answer) ⌝ }
-{
-    match answer {
-        Asked::Approved => Outcome::Approved,
-        Asked::NotApproved => Outcome::NotApproved,
-        Asked::Refused { number } => Outcome::Refused { number },
-    }
-}
-
-// What is printed for the answer to a change.
-fn change_outcome(answer: Changed) -> Outcome
-    ensures { λ r. ⌜ meaning r ≡ outcomeOf (changedAnswer answer) ⌝ }
-{
-    match answer {
-        Changed::Done {
-            states,
-            transitions,
-        } => Outcome::Done {
-            states: states as u64,
-            transitions: transitions as u64,
-        },
-        Changed::Refused { number } => Outcome::Refused { number },
-    }
-}
 
 // Reads a line and makes the call that it asks for.
 fn handle(line: &[u8], table: &mut [u8], scratch: &mut [u8]) -> Outcome
@@ -51,13 +20,13 @@ fn handle(line: &[u8], table: &mut [u8], scratch: &mut [u8]) -> Outcome
 {
     let mut listing = [0u8; LISTING_BYTES];
     match read_line(line, &mut listing) {
-        Parsed::Add { len } => change_outcome(scalebench::add(&listing[0..len], table, scratch)),
-        Parsed::Drop { len } => change_outcome(scalebench::remove(
-            &listing[0..len],
-            table,
-            scratch,
-        )),
-        Parsed::Ask { len } => ask_outcome(scalebench::ask(&listing[0..len], table)),
+        Parsed::Add { len } => {
+            Outcome::Answered(scalebench::add(&listing[0..len], table, scratch))
+        }
+        Parsed::Drop { len } => {
+            Outcome::Answered(scalebench::remove(&listing[0..len], table, scratch))
+        }
+        Parsed::Ask { len } => Outcome::Answered(scalebench::ask(&listing[0..len], table)),
         Parsed::Form { column } => Outcome::Form {
             column: column as u64,
         },
@@ -65,7 +34,7 @@ fn handle(line: &[u8], table: &mut [u8], scratch: &mut [u8]) -> Outcome
     }
 }
 
-// Carries out a line and writes what is printed for it, from the first byte of the buffer on; answers its length.
+// Carries out a line and writes what is printed for it, from the first byte of the buffer on; returns its length.
 pub fn serve(
     line: &[u8],
     number: u64,
@@ -81,16 +50,16 @@ pub fn serve(
     report::line(number, outcome, out)
 }
 
-// Writes what is printed last, from the first byte of the buffer on, and answers its length.
+// Writes what is printed last, from the first byte of the buffer on, and returns its length.
 pub fn finish(lines: u64, table: &[u8], out: &mut [u8; LINE_BYTES]) -> usize
     requires { ⌜ length (now out) ≡ lineBytes ⌝ }
     ensures { λ r. ⌜ Printed (now (out .exit)) (closing lines (now (table .entry))) r ⌝ }
 {
     match scalebench::take_in(table) {
-        Taken::Accepted {
+        Answer::Accepted {
             states,
             transitions,
         } => report::end(lines, states as u64, transitions as u64, out),
-        Taken::Refused { number: _ } => report::end(lines, 0, 0, out),
+        _ => report::end(lines, 0, 0, out),
     }
 }

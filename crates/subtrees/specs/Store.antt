@@ -9,10 +9,9 @@ use Rattle.automata.specs.Automaton.{Automaton, run}
 use Rattle.automata.specs.Change.{subtrees}
 use Rattle.format.specs.Format.{maxArity, maxNodes}
 use Rattle.lists.specs.Positions.{upFrom}
-use Rattle.lists.specs.Tests.{_∈_}
+use Rattle.lists.specs.Tests.{Distinct, _∈_}
 use Rattle.subtrees.specs.declared.Subtrees.{Subtrees}
 use Rattle.trees.specs.Tree.{Forest, Tree, cons, nil, node}
-use Rattle.lists.proofs.Distinct.{Distinct}
 
 -- ---- trees by number
 

@@ -13,7 +13,7 @@ use Rattle.format.specs.Format.{AllBytes, maxArity, maxListing, nodeBytes}
 use Rattle.lists.specs.Conditions.{firstBroken}
 use Rattle.lists.specs.Positions.{upFrom}
 use Rattle.lists.specs.Tests.{_∈_}
-use Rattle.trees.specs.Legal.{AllLegal, Legal}
+use Rattle.trees.specs.Legal.{AllLegal, Legal, ListsLegal}
 use Rattle.trees.specs.Listing.{allLabelled, allNarrow, childrenAt, firstTree, labelAt, labelled, listing}
 use Rattle.trees.specs.Listing.{listingConditions, listingRefusal, listings, narrow, nodesIn, oneTree}
 use Rattle.trees.specs.Listing.{readTree, readTrees, wholeNodes}
@@ -27,13 +27,6 @@ use Rattle.trees.proofs.Listing.{listings-read, nodes-index, read-legal
 pub listing-from-one : (s : List ℕ) → FromOne (listingConditions s)
 unfolding listingConditions
 listing-from-one s = omega arith
-
--- the bytes list one legal tree, of no more nodes than a listing may have
-pub record ListsLegal (s : List ℕ) : Type 0 where
-  pub tree : Tree
-  pub legal : Legal tree
-  pub short : length (listing tree) ≤ maxListing
-  pub lists : s ≡ listing tree
 
 first-legal-tree : (f : Forest) → count f ≡ 1 → AllLegal f → Legal (firstTree f)
 first-legal-tree nil e h = absurd (omega arith)

@@ -1,6 +1,6 @@
 -- Laws of equality, of forests and of contexts.
 use mathlib.Core.Bool.{false≢true, true}
-use mathlib.Core.List.{[], _∷_}
+use mathlib.Core.List.{[], _++_, _∷_}
 use mathlib.Core.Path.{_≡_, refl}
 use Prim.Native.Nat.{_+_, _≤_, ℕ}
 use native.Mathlib.Omega.{arith}
@@ -61,7 +61,17 @@ abbrev pub AllTrees : (Tree → Type 0) → Forest → Type 0
 AllTrees P nil = Unit {0}
 AllTrees P (cons t f) = P t × AllTrees P f
 
--- the other way: a way back can be gone any number of times
+-- one tree of the forest
+pub all-here : (P : Tree → Type 0) (b : Forest) (t : Tree) (f : Forest) → AllTrees P (b ⧺ cons t f) → P t
+all-here P nil t f h = h .0
+all-here P (cons u b) t f h = all-here P b t f (h .1)
+
+-- a context in another
+pub plug-append : (c d : Context) (t : Tree) → plug (c ++ d) t ≡ plug d (plug c t)
+plug-append [] d t = refl
+plug-append (f ∷ c) d t = plug-append c d (fill f t)
+
+-- a tree is no deeper than what it stands in
 pub depths-here : (b : Forest) (t : Tree) (c : Forest) → depth t ≤ depths (b ⧺ cons t c)
 depths-here nil t c = omega arith
 depths-here (cons u b) t c = omega (arith, depths-here b t c)

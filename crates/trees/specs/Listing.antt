@@ -10,6 +10,7 @@ use Rattle.lists.specs.Positions.{upFrom}
 use Rattle.lists.specs.Tests.{every}
 use Rattle.trees.specs.Tree.{Forest, Tree, cons, count, nil, node}
 
+-- the listing of a tree, and the listings of a list of trees
 abbrev mutual
   pub listing : Tree → List ℕ
   listing (node a f) = a ∷ count f ∷ listings f
@@ -27,62 +28,70 @@ listsTrees (a ∷ []) (suc k) = false
 listsTrees (a ∷ c ∷ s) zero = false
 listsTrees (a ∷ c ∷ s) (suc k) = listsTrees s (c + k)
 
--- the first k trees of a list of trees, and those after them
+-- the first k trees of a list of trees
 abbrev pub firstTrees : ℕ → Forest → Forest
 firstTrees zero f = nil
 firstTrees (suc k) nil = nil
 firstTrees (suc k) (cons t f) = cons t (firstTrees k f)
 
+-- the trees after the first k
 abbrev pub laterTrees : ℕ → Forest → Forest
 laterTrees zero f = f
 laterTrees (suc k) nil = nil
 laterTrees (suc k) (cons t f) = laterTrees k f
 
--- the trees that the bytes list, read from the end: a node takes its children off the trees behind it
+-- the trees that the bytes list, read from the end: a node takes its children off the trees after it
 abbrev pub readTrees : List ℕ → Forest
 readTrees [] = nil
 readTrees (a ∷ []) = nil
 readTrees (a ∷ c ∷ s) = let f = readTrees s in cons (node a (firstTrees c f)) (laterTrees c f)
 
--- the first tree of a list of trees; any tree where there is none
+-- the first tree of a list of trees; any tree if there is none
 abbrev pub firstTree : Forest → Tree
 firstTree nil = node 0 nil
 firstTree (cons t f) = t
 
--- the tree that the bytes list, where they list one
+-- the tree that the bytes list, if they list one
 abbrev pub readTree : List ℕ → Tree
 readTree s = firstTree (readTrees s)
 
--- the fields of node i, and the number of nodes
+-- the label of node i
 abbrev pub labelAt : List ℕ → ℕ → ℕ
 labelAt s i = getD s (nodeBytes * i) 0
 
+-- the child count of node i
 abbrev pub childrenAt : List ℕ → ℕ → ℕ
 childrenAt s i = getD s (nodeBytes * i + labelBytes) 0
 
+-- the number of nodes
 abbrev pub nodesIn : List ℕ → ℕ
 nodesIn s = length s / nodeBytes
 
--- node i has a label, and no more children than a node may have
+-- node i has a label
 abbrev pub labelled : List ℕ → ℕ → Bool
 labelled s i = not (eqb (labelAt s i) 0)
 
+-- node i has no more children than a node may have
 abbrev pub narrow : List ℕ → ℕ → Bool
 narrow s i = leb (childrenAt s i) maxArity
 
--- 01's conditions on a listing; 2 and 3 look at every node, also behind the first tree
+-- condition 1: a length that whole nodes have, no more than a listing may have
 unfoldable pub wholeNodes : List ℕ → Bool
 wholeNodes s = leb nodeBytes (length s) && leb (length s) maxListing && eqb (length s % nodeBytes) 0
 
+-- condition 2, for every node, also after the first tree
 unfoldable pub allLabelled : List ℕ → Bool
 allLabelled s = every (labelled s) (upFrom 0 (nodesIn s))
 
+-- condition 3, for every node, also after the first tree
 unfoldable pub allNarrow : List ℕ → Bool
 allNarrow s = every (narrow s) (upFrom 0 (nodesIn s))
 
+-- condition 4: the counts make exactly one tree
 unfoldable pub oneTree : List ℕ → Bool
 oneTree s = listsTrees s 1
 
+-- conditions 1 to 4, in 01's order
 unfoldable pub listingConditions : List ℕ → List Condition
 listingConditions s =
     condition 1 (wholeNodes s) ∷ condition 2 (allLabelled s) ∷ condition 3 (allNarrow s) ∷ condition 4 (oneTree s) ∷ []

@@ -4,6 +4,7 @@ use mathlib.Core.Bool.{Bool, _&&_, false, true}
 use Prim.Native.Nat.{max, suc, ℕ}
 use lib.Dec.{eqb}
 
+-- a label with child trees, and a list of trees
 mutual
   pub data Tree : Type 0 where
     node : ℕ → Forest → Tree

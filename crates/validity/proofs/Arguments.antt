@@ -4,8 +4,8 @@ use mathlib.Core.Path.{_∙_, _≡_, sym}
 use Prim.Native.Nat.{_+_, _-_, _<_, _≤_, max, ℕ}
 use native.Mathlib.Nat.{sub-zero}
 use native.Mathlib.Omega.{arith}
+use Rattle.automata.specs.Numbered.{top}
 use Rattle.lists.specs.Positions.{upFrom}
-use Rattle.automata.proofs.NumberedPass.{top}
 use Rattle.lists.proofs.Loops.{upFrom-next, upFrom-none}
 
 -- a loop at k, with n its end: s is the greatest of t and the numbers left

@@ -11,7 +11,7 @@ use lib.ListN.{getD, length, length-set, replicate, set}
 use lib.Seq.{getD-set-other, getD-set-same}
 use borrow.Author.Tests.{eqb-false, eqb-true, leb-false, leb-true}
 use Rattle.automata.specs.Automaton.{Transition}
-use Rattle.automata.specs.Numbered.{firstOpen, numbered}
+use Rattle.automata.specs.Numbered.{Passed, firstOpen, numbered, top}
 use Rattle.fields.specs.Fields.{HasTransitionsOver}
 use Rattle.fields.specs.View.{viewed}
 use Rattle.format.specs.Format.{byteValues, transitionBytes}
@@ -20,8 +20,8 @@ use Rattle.lists.specs.Tests.{every}
 use Rattle.marking.specs.Marks.{marked}
 use Rattle.table.specs.Layout.{nthTransition, outOf, transitionsIn}
 use Rattle.validity.specs.Rules.{NumbersRead, Spans}
-use Rattle.automata.proofs.NumberedPass.{Passed, broken-numbered, firstOpen-kept, passed-broken, passed-low}
-use Rattle.automata.proofs.NumberedPass.{passed-next, passed-none, passed-numbered, top}
+use Rattle.automata.proofs.NumberedPass.{broken-numbered, firstOpen-kept, passed-broken, passed-low, passed-next}
+use Rattle.automata.proofs.NumberedPass.{passed-none, passed-numbered}
 use Rattle.fields.proofs.Transitions.{transitionsIn-suc}
 use Rattle.lists.proofs.Intervals.{every-at}
 use Rattle.marking.proofs.Sweeps.{nonzero-true}

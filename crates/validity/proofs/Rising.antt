@@ -6,14 +6,14 @@ use Prim.Native.Nat.{_<_, ℕ}
 use native.Mathlib.Omega.{arith}
 use lib.Dec.{ltb}
 use borrow.Author.Tests.{ltb-true}
-use Rattle.automata.specs.Acyclic.{acyclic}
-use Rattle.automata.specs.Automaton.{Automaton, Transition}
+use Rattle.automata.specs.Acyclic.{Feeds, Leads, acyclic, more, once}
+use Rattle.automata.specs.Automaton.{Automaton}
 use Rattle.automata.specs.Valid.{statesInRange}
 use Rattle.fields.specs.Fields.{HasTransitionsOver}
 use Rattle.fields.specs.View.{viewed}
 use Rattle.lists.specs.Tests.{every}
 use Rattle.table.specs.Layout.{outOf, transitionAt, transitionsIn}
-use Rattle.automata.proofs.Leads.{Feeds, Leads, acyclic-iff, more, once}
+use Rattle.automata.proofs.Leads.{acyclic-iff}
 use Rattle.lists.proofs.Tests.{every-in}
 use Rattle.validity.specs.Ranks.{rankOf, risesBy}
 use Rattle.fields.proofs.Views.{viewed-ranged}

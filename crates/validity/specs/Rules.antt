@@ -4,13 +4,12 @@ use mathlib.Core.List.{List}
 use mathlib.Core.Path.{_≡_}
 use Prim.Native.Nat.{_*_, _+_, _<_, _≤_, suc, ℕ}
 use lib.ListN.{getD, length}
-use Rattle.automata.specs.Numbered.{firstOpen}
+use Rattle.automata.specs.Numbered.{Passed, firstOpen}
 use Rattle.format.specs.Format.{byteValues, transitionBytes}
 use Rattle.lists.specs.Tests.{every}
 use Rattle.marking.specs.Marks.{marked}
 use Rattle.table.specs.Layout.{argOf, arityOf, nthTransition, outOf, transitionAt, transitionsIn}
 use Rattle.marking.specs.Spread.{Rule, UpTo}
-use Rattle.automata.proofs.NumberedPass.{Passed}
 
 -- ---- from arguments to output
 

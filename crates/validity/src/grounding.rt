@@ -33,7 +33,12 @@ fn block(transitions: &[u8], i: usize, marks: &[u8; BYTE_VALUES], blocked: &mut 
     blocked[out] = 1;
 }
 
-fn block_all(transitions: &[u8], count: usize, marks: &[u8; BYTE_VALUES], blocked: &mut [u8; BYTE_VALUES])
+fn block_all(
+    transitions: &[u8],
+    count: usize,
+    marks: &[u8; BYTE_VALUES],
+    blocked: &mut [u8; BYTE_VALUES],
+)
     requires { ⌜ HasTransitions (now transitions) count ⌝ }
     requires { ⌜ Blocks (now transitions) (now marks) 0 (now blocked) ⌝ }
     ensures { λ _. ⌜ Blocks (now (transitions .entry)) (now (marks .entry)) count (now (blocked .exit)) ⌝ }

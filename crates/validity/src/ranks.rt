@@ -67,7 +67,12 @@ pub fn numbers() -> [u8; BYTE_VALUES] {
 
 // Links the transitions into each state: `first` has one of them, `others` another for each, as its number from 1; 0
 // is none.
-fn link(transitions: &[u8], count: usize, first: &mut [u16; BYTE_VALUES], others: &mut [u16; MAX_PRODUCT])
+fn link(
+    transitions: &[u8],
+    count: usize,
+    first: &mut [u16; BYTE_VALUES],
+    others: &mut [u16; MAX_PRODUCT],
+)
     requires { ⌜ HasTransitions (now transitions) count ⌝ }
     requires { ⌜ length (now first) ≡ byteValues ⌝ }
     requires { ⌜ length (now others) ≡ maxProduct ⌝ }

@@ -1,3 +1,8 @@
+use Rattle.automata.specs.Minimal.{minimal}
+use Rattle.fields.specs.View.{viewed}
+use Rattle.change.specs.Changing.{MadeFits}
+use Rattle.change.proofs.Answering.{made-fits}
+use mathlib.Core.Path.{subst, sym}
 use native.Mathlib.Omega.{arith}
 use Rattle.fields.proofs.Views.{viewed-states}
 use borrow.Author.Needs.{needs}
@@ -38,7 +43,8 @@ same-length-2 : tie.Need-same-length-2
 same-length-2 c = search needs
 
 returns : tie.Need-returns
-returns c = search needs
+returns c =
+    (c .before .before .before .before .write .ensures .0, (c .before .before .before .before .write .ensures .1, subst MadeFits (sym (c .before .before .before .before .write .ensures .0)) (made-fits (minimal (viewed ((c .before .before .before .before .before .before .before .before .before .before .before .before .before .before .before .args) .classes .now) ((c .before .before .before .before .before .before .before .before .before .before .before .before .before .before .before .args) .transitions .now) ((c .before .before .before .before .before .before .before .before .before .before .before .before .before .before .before .args) .n) ((c .before .before .before .before .before .before .before .before .before .before .before .before .before .before .before .args) .count))))))
 
 pub minimize-spec : {M : Type 1} → statement M
 minimize-spec =

@@ -4,7 +4,7 @@ use Rattle.products.proofs.Joining.{lists-nodes}
 use Rattle.table.specs.Layout.{decode}
 use Rattle.trees.specs.Listing.{readTree}
 use Rattle.change.proofs.Inputs.{given, given-table, passed-size}
-use Rattle.change.proofs.Answering.{given-16, given-made, given-view, given-holding}
+use Rattle.change.proofs.Answering.{given-16, given-made, given-view, given-holding, made-few}
 use borrow.Author.Needs.{needs}
 use Rattle.change.proofs.work.Statement.{statement}
 use Rattle.change.proofs.work.Tie as tie
@@ -202,7 +202,15 @@ returns-2 c =
     (at-product .product .ensures (decode (start .args .table .now)) (readTree (start .args .tree .now)) (g
     .holds)) (at-made .made .given .1)) in
     given-made g h (at-wide2 .wide2 .ensures) (start .args .inserting) (at-pair-classes .pair-classes .ensures)
-    (at-minimize .minimize .ensures .0) (at-minimize .minimize .ensures .1) TooBig (c .enum-told2 .given .1)
+    (at-minimize .minimize .ensures .0) (at-minimize .minimize .ensures .1 .0) TooBig (c .enum-told2 .given .1)
+
+cast-new-states : tie.Need-cast-new-states
+cast-new-states c =
+    let f = made-few (c .before .before .before .before .before .before .before .minimize .ensures .1 .1) (c .before .left .given .1) in omega (arith, f .0)
+
+cast-new-transitions : tie.Need-cast-new-transitions
+cast-new-transitions c =
+    let f = made-few (c .before .before .before .before .before .before .before .minimize .ensures .1 .1) (c .before .left .given .1) in omega (arith, f .1)
 
 same-length-5 : tie.Need-same-length-5
 same-length-5 c = search needs
@@ -230,7 +238,7 @@ returns-3 c =
     (at-product .product .ensures (decode (start .args .table .now)) (readTree (start .args .tree .now)) (g
     .holds)) (at-made .made .given .1)) in
     given-made g h (at-wide2 .wide2 .ensures) (start .args .inserting) (at-pair-classes .pair-classes .ensures)
-    (at-minimize .minimize .ensures .0) (at-minimize .minimize .ensures .1) (Table (c .before .left .given .0
+    (at-minimize .minimize .ensures .0) (at-minimize .minimize .ensures .1 .0) (Table (c .before .left .given .0
     .0) (c .before .left .given .0 .1 .0)) (c .before .left .given .1)
 
 pub work-spec : {M : Type 1} → statement M
@@ -264,6 +272,8 @@ work-spec =
     same-length-3
     same-length-4
     returns-2
+    cast-new-states
+    cast-new-transitions
     same-length-5
     same-length-6
     returns-3)

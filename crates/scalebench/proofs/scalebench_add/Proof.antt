@@ -1,4 +1,5 @@
-use Rattle.scalebench.proofs.Changing.{add-counted, returned}
+-- `scalebench_add` meets its contract: the three parts of the result, the answer as its number.
+use Rattle.scalebench.proofs.Changing.{returned}
 use borrow.Author.Needs.{needs}
 use Rattle.scalebench.proofs.scalebench_add.Statement.{statement}
 use Rattle.scalebench.proofs.scalebench_add.Tie as tie
@@ -6,12 +7,8 @@ use Rattle.scalebench.proofs.scalebench_add.Tie as tie
 add-requires : tie.Need-add-requires
 add-requires c κs = search needs
 
-packed-change-requires : tie.Need-packed-change-requires
-packed-change-requires c κs =
-    let at-add = c .before .before .before .before in
-    let start = at-add .before .before .before .before .before .before in
-    add-counted (start .args .tree .now) (start .args .table .now) (start .args .scratch .now) (at-add .add
-    .ensures)
+answer-number-requires : tie.Need-answer-number-requires
+answer-number-requires c κs = search needs
 
 same-length : tie.Need-same-length
 same-length c = search needs
@@ -22,9 +19,9 @@ same-length-2 c = search needs
 returns : tie.Need-returns
 returns c =
     let at-add = c .before .before .before .before .before in
-    let x = returned (at-add .add .result) (at-add .add .ensures) (c .packed-change .ensures) in
+    let x = returned (at-add .add .result) (at-add .add .ensures) (c .answer-number .ensures) in
     (x .0, (x .1, x .2))
 
 pub scalebench-add-spec : {M : Type 1} → statement M
 scalebench-add-spec =
-    tie.close (tie.spec add-requires packed-change-requires same-length same-length-2 returns)
+    tie.close (tie.spec add-requires answer-number-requires same-length same-length-2 returns)

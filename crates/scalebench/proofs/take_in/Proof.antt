@@ -10,35 +10,25 @@ refusal-requires c κs = search needs
 
 returns : tie.Need-returns
 returns c =
-    take-refused (c .before .before .before .args .table .now) (c .before .refusal .ensures) (c .if1 .taken)
+    take-refused ((c .before .before .before .args .table .now)) (c .before .refusal .ensures) (c .if1 .taken)
 
 transition-count-requires : tie.Need-transition-count-requires
 transition-count-requires c κs =
-    let start = c .before .before .before in
-    passed-table (start .args .table .now) (sym (c .before .refusal .ensures) ∙ c .if1 .left) .size
+    passed-table ((c .before .before .before .args .table .now)) (sym (c .before .refusal .ensures) ∙ c .if1 .left) .size
 
-shared-slice-read-wide : tie.Need-shared-slice-read-wide
-shared-slice-read-wide c =
-    let at-if1 = c .before .before in
-    let at-refusal = at-if1 .before in
-    let start = at-refusal .before .before in
-    omega (
-      arith,
-      passed-table (start .args .table .now) (sym (at-refusal .refusal .ensures) ∙ at-if1 .if1
-          .left) .size,
-    )
+shared-slice-read-counted : tie.Need-shared-slice-read-counted
+shared-slice-read-counted c =
+    omega (arith, passed-table ((c .before .before .before .before .before .args .table .now)) (sym (c .before .before .before .refusal .ensures) ∙ c .before .before .if1 .left) .size)
 
-wide-requires : tie.Need-wide-requires
-wide-requires c κs = search needs
+counted-requires : tie.Need-counted-requires
+counted-requires c κs = search needs
+
+cast-t8 : tie.Need-cast-t8
+cast-t8 c = search needs
 
 returns-2 : tie.Need-returns-2
 returns-2 c =
-    let at-transition-count = c .before .before in
-    let at-if1 = at-transition-count .before in
-    let at-refusal = at-if1 .before in
-    let start = at-refusal .before .before in
-    take-answered (start .args .table .now) (at-refusal .refusal .ensures) (at-if1 .if1 .left) (c .wide
-    .ensures) (at-transition-count .transition-count .ensures .0)
+    take-answered ((c .before .before .before .before .before .before .args .table .now)) (c .before .before .before .before .refusal .ensures) (c .before .before .before .if1 .left) (c .counted .ensures) (c .before .before .transition-count .ensures .0)
 
 pub take-in-spec : {M : Type 1} → statement M
 take-in-spec =
@@ -47,6 +37,7 @@ take-in-spec =
     refusal-requires
     returns
     transition-count-requires
-    shared-slice-read-wide
-    wide-requires
+    shared-slice-read-counted
+    counted-requires
+    cast-t8
     returns-2)

@@ -1,7 +1,6 @@
--- `serving::finish` meets its contract: the numbers printed last are those that intake tells.
+-- `serving::finish` meets its contract: the numbers printed last are those that intake reports.
 use mathlib.Core.Path.{_∙_, ap, refl, sym}
-use Rattle.scalebench.specs.Host.{takenAnswer}
-use Rattle.serving.proofs.Handled.{printed-closing}
+use Rattle.serving.proofs.Handled.{printed-closing, other-closing}
 use borrow.Author.Needs.{needs}
 use Rattle.serving.proofs.finish.Statement.{statement}
 use Rattle.serving.proofs.finish.Tie as tie
@@ -12,28 +11,25 @@ take-in-requires c κs = search needs
 enum-known-states : tie.Need-enum-known-states
 enum-known-states c = search needs
 
+cast-end : tie.Need-cast-end
+cast-end c = search needs
+
+cast-end-2 : tie.Need-cast-end-2
+cast-end-2 c = search needs
+
 end-requires : tie.Need-end-requires
 end-requires c κs = search needs
-
-enum-told : tie.Need-enum-told
-enum-told c = search needs
 
 end-requires-2 : tie.Need-end-requires-2
 end-requires-2 c κs = search needs
 
 returns : tie.Need-returns
 returns c =
-    let after-states = c .before .before .before in
-    let after-take-in = after-states .before .before in
-    printed-closing _ _ _ _ _ _ (sym (ap takenAnswer (after-states .states .given .1)) ∙ after-take-in .take-in
-    .ensures) refl (c .end .ensures)
+    printed-closing _ _ _ _ _ _ (sym (c .before .before .before .states .given .1) ∙ c .before .before .before .before .before .take-in .ensures) refl (c .end .ensures)
 
 returns-2 : tie.Need-returns-2
 returns-2 c =
-    let after-enum-told = c .before .before in
-    let after-take-in = after-enum-told .before .before in
-    printed-closing _ _ _ _ _ _ (sym (ap takenAnswer (after-enum-told .enum-told .given .1)) ∙ after-take-in
-    .take-in .ensures) refl (c .end2 .ensures)
+    printed-closing (c .before .before .before .before .before .args .lines) (c .before .before .before .before .before .args .table .now) _ _ _ (c .before .before .before .take-in .result) (c .before .before .before .take-in .ensures) (other-closing (c .before .before .before .before .before .args .lines) (c .before .before .before .take-in .result) (c .before .before .match .keys2)) (c .end2 .ensures)
 
 pub finish-spec : {M : Type 1} → statement M
 finish-spec =
@@ -41,8 +37,9 @@ finish-spec =
     (tie.spec
     take-in-requires
     enum-known-states
+    cast-end
+    cast-end-2
     end-requires
-    enum-told
     end-requires-2
     returns
     returns-2)

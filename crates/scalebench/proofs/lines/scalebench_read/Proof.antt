@@ -1,6 +1,6 @@
 use mathlib.Core.Path.{_∙_, ap}
 use lib.ListN.{length}
-use Rattle.scalebench.proofs.Typed.{listed-size, read-listed, read-other, read-packed, read-small}
+use Rattle.scalebench.proofs.Typed.{listed-size, read-listed, read-other, read-number, read-small}
 use borrow.Author.Needs.{needs}
 use Rattle.scalebench.proofs.lines.scalebench_read.Statement.{statement}
 use Rattle.scalebench.proofs.lines.scalebench_read.Tie as tie
@@ -26,8 +26,8 @@ copy-requires c κs =
           .left,
     )
 
-packed-line-requires : tie.Need-packed-line-requires
-packed-line-requires c κs =
+line-number-requires : tie.Need-line-number-requires
+line-number-requires c κs =
     let at-read-line = c .before .before .before .before .before in
     let start = at-read-line .before .before .before .before .before .before in
     read-small (start .args .line .now) (at-read-line .read-line .ensures .0)
@@ -41,8 +41,8 @@ returns-2 c =
     let at-read-line = at-copy .before .before .before in
     let at-if1 = at-read-line .before .before .before in
     let start = at-if1 .before .before .before in
-    read-listed (start .args .line .now) (start .args .listing .now) (at-if1 .if1 .left) (read-packed
-    (start .args .line .now) (at-read-line .read-line .ensures .0) (c .packed-line .ensures)) (at-copy .copy
+    read-listed (start .args .line .now) (start .args .listing .now) (at-if1 .if1 .left) (read-number
+    (start .args .line .now) (at-read-line .read-line .ensures .0) (c .line-number .ensures)) (at-copy .copy
     .ensures ∙ at-read-line .read-line .ensures .1)
 
 pub scalebench-read-spec : {M : Type 1} → statement M
@@ -53,6 +53,6 @@ scalebench-read-spec =
     no-listing-requires
     read-line-requires
     copy-requires
-    packed-line-requires
+    line-number-requires
     same-length
     returns-2)

@@ -6,15 +6,15 @@ use native.Mathlib.Omega.{arith}
 use lib.ListN.{length, length-replicate}
 use borrow.Author.Needs.{needs}
 use borrow.Author.Tests.{not-false, not-true}
+use Rattle.automata.specs.Numbered.{Passed}
 use Rattle.marking.specs.Marks.{marked}
 use Rattle.table.specs.Layout.{transitionsIn}
 use Rattle.validity.specs.Rules.{NumbersRead, Spans}
-use Rattle.automata.proofs.NumberedPass.{Passed}
 use Rattle.fields.proofs.Transitions.{readable}
 use Rattle.validity.proofs.Passing.{pass-broken, pass-end, pass-start, spans-none}
 use Rattle.validity.proofs.numbering.numbered.Statement.{statement}
-use Rattle.validity.proofs.numbering.numbered.Tie as tie
 use Rattle.format.specs.Format.{byteValues}
+use Rattle.validity.proofs.numbering.numbered.Tie as tie
 
 abbrev Inv-loop : tie.InvT-loop
 Inv-loop run count n seen₀ i₀ seen i =

@@ -4,8 +4,8 @@ use mathlib.Core.Path.{_≡_}
 use Prim.Native.Nat.{_-_}
 use native.Mathlib.Omega.{arith}
 use borrow.Author.Needs.{needs}
+use Rattle.automata.specs.Numbered.{top}
 use Rattle.table.specs.Layout.{argOf, arityOf, transitionAt}
-use Rattle.automata.proofs.NumberedPass.{top}
 use Rattle.validity.proofs.Arguments.{TopFrom, top-end, top-next, top-start}
 use Rattle.validity.proofs.numbering.top_argument.Statement.{statement}
 use Rattle.validity.proofs.numbering.top_argument.Tie as tie

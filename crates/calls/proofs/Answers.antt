@@ -1,0 +1,116 @@
+-- Each call gives an answer of its kind, and no two answers of a kind have one number.
+use mathlib.Core.Bool.{Bool, cond, false, true}
+use mathlib.Core.List.{List, [], _++_, _∷_}
+use mathlib.Core.Path.{_∙_, _≡_, ap, ap₂, refl, sym}
+use Prim.Native.Nat.{_≤_, ℕ}
+use native.Mathlib.Omega.{arith}
+use lib.Dec.{eqb, leb}
+use lib.ListN.{length}
+use borrow.Author.Tests.{eqb-false, eqb-true, leb-true}
+use Rattle.automata.specs.Automaton.{Automaton, accepts, states}
+use Rattle.calls.specs.Answers.{CallKind, Gives, RefusalNumber, TableCounts, answerNumber, asking, changing, taking}
+use Rattle.calls.specs.Calls.{Change, acceptedWith, addResult, approval, askAnswer, askRefusal, changeRefusal}
+use Rattle.calls.specs.Calls.{changeResult, changed, delete, doneWith, earlyConditions, insert, intakeAnswer}
+use Rattle.calls.specs.Calls.{outcome, refusedOr, removeResult, sizeConditions}
+use Rattle.calls.specs.declared.Answer.{Answer}
+use Rattle.calls.specs.declared.Answer.the-variants.{Accepted, Approved, Done, NotApproved, Refused}
+use Rattle.format.specs.Format.{maxStates, maxTransitions}
+use Rattle.lists.specs.Conditions.{Condition, firstBroken}
+use Rattle.table.specs.Intake.{automatonConditions, contentConditions, fitsTable, lengthCondition, tableRefusal}
+use Rattle.table.specs.Layout.{decode}
+use Rattle.trees.specs.Listing.{listingConditions, readTree}
+use Rattle.calls.proofs.Conditions.{change-passed, early-at-most}
+use Rattle.lists.proofs.Conditions.{AtMost, at-most-append, broken-at-most}
+use Rattle.lists.proofs.Tests.{and-left, and-right}
+use Rattle.table.proofs.Decoded.{decoded-count, decoded-states}
+use Rattle.table.proofs.Intake.{unrefused-passes}
+use Rattle.table.proofs.Laid.{layout-laid}
+
+-- ---- what a call gives
+
+-- a refusal of 1 to 17, or what is given if nothing is refused
+refused-gives : (x : CallKind) (r : ℕ) (a : Answer) → r ≤ 17 → ((k : ℕ) → RefusalNumber k → Gives x (Refused k)) →
+    (r ≡ 0 → Gives x a) → Gives x (refusedOr r a)
+refused-gives x r a h refuse give = go (eqb r 0) refl
+  where
+    go : (t : Bool) → eqb r 0 ≡ t → Gives x (cond t a (Refused r))
+    go true e = give (eqb-true r 0 e)
+    go false e = refuse r (omega (arith, eqb-false r 0 e), h)
+
+table-at-most : (b : List ℕ) → AtMost 17 (lengthCondition b ∷ contentConditions b)
+unfolding contentConditions automatonConditions
+table-at-most b = omega arith
+
+pub ask-gives : (s b : List ℕ) → Gives asking (askAnswer s b)
+unfolding askAnswer askRefusal listingConditions
+ask-gives s b =
+    refused-gives asking (askRefusal s b) (approval (accepts (decode b) (readTree s)))
+    (broken-at-most 17 (listingConditions s ++ (lengthCondition b ∷ contentConditions b))
+    (at-most-append 17 (listingConditions s) (lengthCondition b ∷ contentConditions b) (omega arith) (table-at-most b)))
+    (λ k h. h) (λ _. approves (accepts (decode b) (readTree s)))
+  where
+    approves : (t : Bool) → Gives asking (approval t)
+    approves true = tt
+    approves false = tt
+
+pub intake-gives : (b : List ℕ) → Gives taking (intakeAnswer b)
+unfolding intakeAnswer tableRefusal
+intake-gives b =
+    refused-gives taking (tableRefusal b) (acceptedWith (decode b))
+    (broken-at-most 17 (lengthCondition b ∷ contentConditions b) (table-at-most b)) (λ k h. h)
+    (λ z.
+    let l = layout-laid b (unrefused-passes b z .layout) in
+    (omega (arith, decoded-states b, l .states), omega (arith, decoded-count b, l .count)))
+
+-- the numbers of an automaton that fits a table
+fits-counts : (A : Automaton) → fitsTable A ≡ true → TableCounts (states A) (length (A .transitions))
+fits-counts A f = (
+  leb-true (states A) maxStates (and-left _ _ f),
+  leb-true (length (A .transitions)) maxTransitions (and-right
+      (leb (states A) maxStates) _ f),
+)
+
+at-most-more : (cs : List Condition) → AtMost 15 cs → AtMost 17 cs
+at-most-more [] h = tt
+at-most-more (c ∷ cs) h = (omega (arith, h .0), at-most-more cs (h .1))
+
+change-gives : (c : Change) (s b w : List ℕ) → Gives changing (changeResult c s b w .answer)
+unfolding changeResult outcome changeRefusal
+change-gives c s b w =
+    refused-gives changing (changeRefusal c s b w) (doneWith (changed c (decode b)))
+    (broken-at-most 17 (earlyConditions c s b w ++ sizeConditions c (decode b))
+    (at-most-append 17 (earlyConditions c s b w) (sizeConditions c (decode b))
+    (at-most-more (earlyConditions c s b w) (early-at-most c s b w)) (omega arith)))
+    (λ k h. h) (λ z. fits-counts (changed c (decode b)) (change-passed c s b w z .1))
+
+pub add-gives : (s b w : List ℕ) → Gives changing (addResult s b w .answer)
+unfolding addResult
+add-gives s b w = change-gives (insert (readTree s)) s b w
+
+pub remove-gives : (s b w : List ℕ) → Gives changing (removeResult s b w .answer)
+unfolding removeResult
+remove-gives s b w = change-gives (delete (readTree s)) s b w
+
+-- ---- numbers
+
+-- no two answers of a kind of call have one number
+pub answer-injective : (x : CallKind) (a b : Answer) → Gives x a → Gives x b → answerNumber a ≡ answerNumber b → a ≡ b
+answer-injective asking Approved Approved g h e = refl
+answer-injective asking Approved NotApproved g h e = absurd (omega arith)
+answer-injective asking Approved (Refused k) g h e = absurd (omega (arith, e, h .1))
+answer-injective asking NotApproved Approved g h e = absurd (omega arith)
+answer-injective asking NotApproved NotApproved g h e = refl
+answer-injective asking NotApproved (Refused k) g h e = absurd (omega (arith, e, h .0))
+answer-injective asking (Refused j) Approved g h e = absurd (omega (arith, e, g .1))
+answer-injective asking (Refused j) NotApproved g h e = absurd (omega (arith, e, g .0))
+answer-injective asking (Refused j) (Refused k) g h e = ap Refused e
+answer-injective taking (Accepted n m) (Accepted j k) g h e =
+    let y : m ≡ k = omega (arith, e, g .0, h .0) in ap₂ Accepted (omega (arith, e, y)) y
+answer-injective taking (Accepted n m) (Refused k) g h e = absurd (omega (arith, e, g .0, h .0, h .1))
+answer-injective taking (Refused k) (Accepted n m) g h e = absurd (omega (arith, e, h .0, g .0, g .1))
+answer-injective taking (Refused j) (Refused k) g h e = ap Refused e
+answer-injective changing (Done n m) (Done j k) g h e =
+    let y : m ≡ k = omega (arith, e, g .0, h .0) in ap₂ Done (omega (arith, e, y)) y
+answer-injective changing (Done n m) (Refused k) g h e = absurd (omega (arith, e, g .0, h .0, h .1))
+answer-injective changing (Refused k) (Done n m) g h e = absurd (omega (arith, e, h .0, g .0, g .1))
+answer-injective changing (Refused j) (Refused k) g h e = ap Refused e

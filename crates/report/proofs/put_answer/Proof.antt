@@ -1,0 +1,116 @@
+-- `report::put_answer` meets its contract: in each case the word and the fields in a row are the text of the answer.
+use Rattle.report.proofs.Puts.{put-then}
+use Rattle.report.specs.Report.{answerText}
+use native.Mathlib.Omega.{arith}
+use borrow.Author.Needs.{needs}
+use Rattle.report.proofs.put_answer.Statement.{statement}
+use Rattle.report.proofs.put_answer.Tie as tie
+
+enum-told : tie.Need-enum-told
+enum-told c = search needs
+
+slice-aggregate-put-word : tie.Need-slice-aggregate-put-word
+slice-aggregate-put-word c = search needs
+
+put-word-requires : tie.Need-put-word-requires
+put-word-requires c κs = search needs
+
+enum-told-2 : tie.Need-enum-told-2
+enum-told-2 c = search needs
+
+slice-aggregate-put-word-2 : tie.Need-slice-aggregate-put-word-2
+slice-aggregate-put-word-2 c = search needs
+
+put-word-requires-2 : tie.Need-put-word-requires-2
+put-word-requires-2 c κs = search needs
+
+enum-known-answer : tie.Need-enum-known-answer
+enum-known-answer c = search needs
+
+slice-aggregate-put-word-3 : tie.Need-slice-aggregate-put-word-3
+slice-aggregate-put-word-3 c = search needs
+
+put-word-requires-3 : tie.Need-put-word-requires-3
+put-word-requires-3 c κs = search needs
+
+put-counts-requires : tie.Need-put-counts-requires
+put-counts-requires c κs = search needs
+
+enum-known-answer-2 : tie.Need-enum-known-answer-2
+enum-known-answer-2 c = search needs
+
+slice-aggregate-put-word-4 : tie.Need-slice-aggregate-put-word-4
+slice-aggregate-put-word-4 c = search needs
+
+put-word-requires-4 : tie.Need-put-word-requires-4
+put-word-requires-4 c κs = search needs
+
+put-counts-requires-2 : tie.Need-put-counts-requires-2
+put-counts-requires-2 c κs = search needs
+
+enum-known-answer-3 : tie.Need-enum-known-answer-3
+enum-known-answer-3 c = search needs
+
+slice-aggregate-put-word-5 : tie.Need-slice-aggregate-put-word-5
+slice-aggregate-put-word-5 c = search needs
+
+put-word-requires-5 : tie.Need-put-word-requires-5
+put-word-requires-5 c κs = search needs
+
+cast-put-field : tie.Need-cast-put-field
+cast-put-field c = search needs
+
+put-field-requires : tie.Need-put-field-requires
+put-field-requires c κs = search needs
+
+returns : tie.Need-returns
+unfolding answerText
+returns c = (rw (c .before .before .before .enum-told .given .1) (c .put-word .ensures), omega arith)
+
+returns-2 : tie.Need-returns-2
+unfolding answerText
+returns-2 c = (rw (c .before .before .before .enum-told2 .given .1) (c .put-word2 .ensures), omega arith)
+
+returns-3 : tie.Need-returns-3
+unfolding answerText
+returns-3 c =
+    (rw (c .before .before .before .before .before .before .answer .given .1) (put-then (c .before .before .put-word3 .ensures) (c .put-counts .ensures .0)), omega arith)
+
+returns-4 : tie.Need-returns-4
+unfolding answerText
+returns-4 c =
+    (rw (c .before .before .before .before .before .before .answer2 .given .1) (put-then (c .before .before .put-word4 .ensures) (c .put-counts2 .ensures .0)), omega arith)
+
+returns-5 : tie.Need-returns-5
+unfolding answerText
+returns-5 c =
+    (rw (c .before .before .before .before .before .before .answer3 .given .1) (put-then (c .before .before .put-word5 .ensures) (c .put-field .ensures .0)), omega arith)
+
+pub put-answer-spec : {M : Type 1} → statement M
+put-answer-spec =
+    tie.close
+    (tie.spec
+    enum-told
+    slice-aggregate-put-word
+    put-word-requires
+    enum-told-2
+    slice-aggregate-put-word-2
+    put-word-requires-2
+    enum-known-answer
+    slice-aggregate-put-word-3
+    put-word-requires-3
+    put-counts-requires
+    enum-known-answer-2
+    slice-aggregate-put-word-4
+    put-word-requires-4
+    put-counts-requires-2
+    enum-known-answer-3
+    slice-aggregate-put-word-5
+    put-word-requires-5
+    cast-put-field
+    put-field-requires
+    returns
+    returns-2
+    returns-3
+    returns-4
+    returns-5)

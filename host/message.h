@@ -1,0 +1,24 @@
+/* What the host writes to standard error: one line each, with the line of the input that it is about. */
+#ifndef MESSAGE_H
+#define MESSAGE_H
+
+/* The line of the input that the messages from here on are about; 0 if they are about none. */
+void message_line(unsigned long number);
+
+/* A message WHAT NAME: WHY. */
+void complain(const char *what, const char *name, const char *why, ...) __attribute__((format(printf, 3, 4)));
+
+/* A message that names no file. */
+void explain(const char *why, ...) __attribute__((format(printf, 1, 2)));
+
+/*
+ * The name, with every byte that is no part of a printable character written as \xNN, and the backslash too, so that
+ * two names never look alike. A name longer than some thousand bytes is cut. It stands until the next name is shown.
+ */
+const char *shown(const char *name);
+
+/* Shows how many lines have been read, over the number shown before. The next message or the last count ends it. */
+void show_count(unsigned long lines);
+void end_count(void);
+
+#endif

@@ -1,0 +1,151 @@
+/* See options.h. */
+#include "options.h"
+
+#include "message.h"
+
+#include <stddef.h>
+#include <stdlib.h>
+#include <string.h>
+
+const char help[] =
+    "usage: scalebench [--new] [--dry-run] [--wait SECONDS] [-q] BOOK [COMMAND]\n"
+    "       scalebench --batch [--new] [--dry-run] [--wait SECONDS] [-q] BOOK\n"
+    "       scalebench --check [-q] BOOK\n"
+    "       scalebench --backup FILE BOOK\n"
+    "\n"
+    "Keeps approved assemblies in the file BOOK. COMMAND, or each line of standard\n"
+    "input, is one of\n"
+    "    (add TREE)   (drop TREE)   (ask TREE)\n"
+    "TREE is a label from 1 to 255 followed by its child trees, in brackets, as in\n"
+    "(1 (1) (2)). Prints for each line its number and one of\n"
+    "    done STATES TRANSITIONS   approved   not\n"
+    "    refused NUMBER   form COLUMN   long\n"
+    "and at the end: end LINES STATES TRANSITIONS. Reasons in words go to standard\n"
+    "error. A change is in the file before its line is printed; whenever the host is\n"
+    "stopped, BOOK has all of a change or nothing of it. Several hosts may have one\n"
+    "BOOK: each change is made to the book as the others left it.\n"
+    "\n"
+    "      --new           begin an empty BOOK if there is none\n"
+    "      --batch         make all changes of standard input and save once, at the\n"
+    "                      end, or nothing if a line is refused; done is not printed\n"
+    "      --dry-run       carry out the commands without saving anything\n"
+    "      --wait SECONDS  how long to wait while another program changes BOOK\n"
+    "                      (5 if not given, 0 not to wait)\n"
+    "      --check         say whether BOOK is sound, and if not why\n"
+    "      --backup FILE   copy BOOK to FILE, which must not exist\n"
+    "  -q, --quiet         print nothing on standard output\n"
+    "  -h, --help          print this\n"
+    "      --version       print the version\n"
+    "      --              no options follow\n"
+    "\n"
+    "exit status\n"
+    "  0  COMMAND: approved or done; standard input: each line done or answered;\n"
+    "     --check: sound; --backup: copied\n"
+    "  1  COMMAND asked, and the assembly is not approved\n"
+    "  2  the command line is wrong\n"
+    "  3  BOOK is missing, is damaged, or may not be read or changed\n"
+    "  4  another program is changing BOOK\n"
+    "  5  BOOK or FILE could not be saved, or input or output failed; what was\n"
+    "     printed as done is saved\n"
+    "  6  a line was refused, malformed or too long; the others were carried out,\n"
+    "     with --batch none\n";
+
+/* The options that are only given or not, and where that is noted. */
+static const struct {
+    const char *name, *letter;
+    size_t place;
+} flags[] = {
+    {"--new", "", offsetof(struct options, begin)},
+    {"--batch", "", offsetof(struct options, batch)},
+    {"--check", "", offsetof(struct options, check)},
+    {"--dry-run", "", offsetof(struct options, dry_run)},
+    {"--quiet", "-q", offsetof(struct options, quiet)},
+    {"--help", "-h", offsetof(struct options, help)},
+    {"--version", "", offsetof(struct options, version)},
+};
+
+static int wrong(const char *what, const char *argument)
+{
+    explain("%s %s", what, shown(argument));
+    return 0;
+}
+
+static int read_flag(const char *argument, struct options *options)
+{
+    for (size_t i = 0; i < sizeof flags / sizeof flags[0]; i++)
+        if (strcmp(argument, flags[i].name) == 0 || strcmp(argument, flags[i].letter) == 0) {
+            *(int *)(void *)((char *)options + flags[i].place) = 1;
+            return 1;
+        }
+    return wrong("unknown option:", argument);
+}
+
+/* At most a day, so that no number is too large for anything. */
+static int read_seconds(const char *text, unsigned *seconds)
+{
+    size_t digits = strspn(text, "0123456789");
+    if (digits == 0 || digits > 5 || text[digits] || strtoul(text, NULL, 10) > 86400)
+        return wrong("not a number of seconds up to 86400:", text);
+    *seconds = (unsigned)strtoul(text, NULL, 10);
+    return 1;
+}
+
+/* An option with a value, which is the next argument. */
+static int read_value(const char *option, const char *value, struct options *options)
+{
+    if (!value)
+        return wrong("a value is missing after", option);
+    if (strcmp(option, "--wait") == 0)
+        return read_seconds(value, &options->wait);
+    options->backup = value;
+    return 1;
+}
+
+static int read_name(const char *argument, struct options *options)
+{
+    const char **place = options->book ? &options->command : &options->book;
+    if (*place)
+        return wrong("too many arguments:", argument);
+    *place = argument;
+    return 1;
+}
+
+/* Whether what was asked for goes together. */
+static int fits(const struct options *options)
+{
+    int changes = options->begin || options->batch || options->dry_run;
+    if (options->help || options->version)
+        return 1;
+    if (!options->book)
+        explain("no book named");
+    else if (options->check && options->backup)
+        explain("--check and --backup do not go together");
+    else if ((options->check || options->backup) && (changes || options->command))
+        explain("--check and --backup change nothing and take no COMMAND");
+    else if (options->batch && options->command)
+        explain("--batch reads standard input and takes no COMMAND");
+    else
+        return 1;
+    return 0;
+}
+
+int read_options(int count, char **arguments, struct options *options)
+{
+    int ended = 0;
+    *options = (struct options){.wait = 5};
+    for (int i = 1; i < count; i++) {
+        const char *argument = arguments[i];
+        int fine = 1;
+        if (ended || *argument != '-')
+            fine = read_name(argument, options);
+        else if (strcmp(argument, "--") == 0)
+            ended = 1;
+        else if (strcmp(argument, "--wait") == 0 || strcmp(argument, "--backup") == 0)
+            fine = read_value(argument, arguments[++i], options);
+        else
+            fine = read_flag(argument, options);
+        if (!fine)
+            return 0;
+    }
+    return fits(options);
+}

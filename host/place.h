@@ -1,0 +1,28 @@
+/* Where a file is: its folder, which is held open, and its name in it. */
+#ifndef PLACE_H
+#define PLACE_H
+
+struct place {
+    const char *path; /* as it was given, for messages */
+    char *name;
+    int folder;
+};
+
+/*
+ * Finds the place of a file; false if that fails, which is reported. A link is followed: a save would replace the link
+ * and not what it leads to. With `begin` the file may be missing, but not its folder.
+ */
+int place_find(struct place *place, const char *path, int begin);
+
+/* Opens the file at the place; -1 with errno if that fails or it is no regular file. */
+int place_open(const struct place *place, int flags);
+
+/* Whether the name stands for this open file now. */
+int place_holds(const struct place *place, int file);
+
+/* Whether the folder can be brought to the disk, which needs permission to read it. */
+int place_lasts(const struct place *place);
+
+void place_leave(struct place *place);
+
+#endif

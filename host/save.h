@@ -1,0 +1,26 @@
+/* A table put into a file whole: written beside it under a name of its own, then renamed. */
+#ifndef SAVE_H
+#define SAVE_H
+
+#include "place.h"
+#include "scalebench.h"
+
+#include <sys/types.h>
+
+/*
+ * Replaces the file at the place, which `old` is open on, by one with this table and with the owner, group, mode and
+ * access list of the old one. Returns the new file, open and locked; -1 with errno if that fails, and ESTALE if the
+ * place holds another file than `old`. Whenever the host or the machine stops, the place has either file whole.
+ */
+int save_over(const struct place *place, int old, const uint8_t *table);
+
+/* Puts a file with this table and mode at a place that has none; EEXIST if it has one. Otherwise as save_over. */
+int save_new(const struct place *place, mode_t mode, const uint8_t *table);
+
+/*
+ * Removes what killed saves have left in the folder: files of this user that no living host writes, and second names
+ * of the file that this host has locked.
+ */
+void remove_strays(int folder, int locked);
+
+#endif

@@ -1,0 +1,115 @@
+#!/bin/sh
+# What the host prints for each line, and its exit statuses.
+# shellcheck source=host/tests/checks
+. "$(dirname "$0")/checks"
+
+nodes() { # a chain of so many nodes as text
+    awk -v n="$1" 'BEGIN { for (i = 1; i < n; i++) printf "(1 "; printf "(1"; for (i = 0; i < n; i++) printf ")" }'
+}
+
+run 'a new book' 0 'end 0 0 0' --new book
+equal 'the empty book' "$(tr -d '\000' <book | wc -c) $(wc -c <book)" '0 11467'
+holds 'nothing else' book
+cp book empty
+
+input <<'LINES'
+(add (1 (1) (1)))
+(ask (1 (1) (1)))
+(drop (1 (1) (2)))
+(ask (2))
+LINES
+run 'the sample' 6 '1 done 2 2
+2 approved
+3 refused 15
+4 not
+end 4 2 2' book
+told 'the sample' 'line 3: the tree is not approved'
+cp book sample
+run 'again' 6 '1 refused 14
+2 approved
+3 refused 15
+4 not
+end 4 2 2' --new book
+same 'a refused change leaves the file' book sample
+printf '(ask (2))\n' | input
+run 'lines that are only answered' 0 '1 not
+end 1 2 2' book
+
+# One command: its status is the answer.
+input </dev/null
+run 'no lines' 0 'end 0 2 2' book
+run 'approved' 0 '1 approved
+end 1 2 2' book '(ask (1 (1) (1)))'
+run 'not approved' 1 '1 not
+end 1 2 2' book '(ask (1 (1) (2)))'
+run 'done' 0 '1 done 2 3
+end 1 2 3' book '(add (7))'
+run 'refused' 6 '1 refused 14
+end 1 2 3' book '(add (7))'
+run 'malformed' 6 '1 form 6
+end 1 2 3' book '(add 7)'
+told 'malformed' 'from column 6 on'
+run 'an end of line' 6 '1 form 10
+end 1 2 3' book '(ask (1))
+'
+run 'quiet: approved' 0 '' --quiet book '(ask (7))'
+run 'quiet: not approved' 1 '' -q book '(ask (8))'
+run 'quiet: done' 0 '' -q book '(drop (7))'
+same 'quiet: saved' book sample
+run 'quiet: refused' 6 '' -q book '(drop (7))'
+told 'quiet: refused' 'the tree is not approved'
+
+run 'a dry run' 0 '1 done 0 0
+end 1 0 0' --dry-run book '(drop (1 (1) (1)))'
+same 'a dry run leaves the file' book sample
+run 'a dry run of a new book' 0 '1 done 1 1
+end 1 1 1' --new --dry-run other '(add (1))'
+holds 'a dry run begins no file' book empty sample
+run 'back to nothing' 0 '1 done 0 0
+end 1 0 0' book '(drop (1 (1) (1)))'
+same 'the empty book again' book empty
+
+# Lines that are malformed, refused by a call, or at the limits; a NUL, a CR, no final end of line.
+{
+    printf '(ask (256))\n(ask (01))\n(add\n\n(ask (1)\n(ask (1)))\n(ask (1))\r\n(ask (1\0))\n(asc (1))\n(add  (1))\n'
+    printf '(ask (0))\n(ask (1 (1) (1) (1) (1) (1) (1) (1) (1) (1)))\n(ask %s)\n(ask %s)\n' "$(nodes 48)" "$(nodes 49)"
+    printf '(ask %s)\n%512s\n%513s\n%70000s\n(ask (1))' "$(nodes 120)" x x x
+} | input
+run 'lines' 6 '1 form 9
+2 form 8
+3 form 5
+4 form 1
+5 form 9
+6 form 10
+7 form 10
+8 form 8
+9 form 4
+10 form 6
+11 refused 2
+12 refused 3
+13 not
+14 refused 1
+15 refused 1
+16 form 1
+17 long
+18 long
+19 not
+end 19 0 0' book
+told 'malformed' 'line 1: not (add TREE)'
+told 'long' 'line 18: above 512 bytes'
+
+# Input and output that fail.
+"$host" book <. >"$folder/out" 2>"$folder/err"
+equal 'input that fails' "$? $(cat "$folder/out")" '5 end 0 0 0'
+told 'input that fails' 'cannot read the input'
+if [ -c /dev/full ]; then
+    printf '(add (5))\n(add (6))\n' | "$host" book >/dev/full 2>"$folder/err"
+    equal 'output that fails' $? 5
+    told 'output that fails' 'line 1: cannot write the output'
+    equal 'reported once' "$(wc -l <"$folder/err")" 1
+    run 'what was saved before' 0 '1 approved
+end 1 1 1' book '(ask (5))'
+    "$host" --help >/dev/full 2>"$folder/err"
+    equal 'help that cannot be printed' $? 5
+fi
+report

@@ -1,0 +1,54 @@
+/* See upkeep.h. */
+#define _XOPEN_SOURCE 700
+
+#include "upkeep.h"
+
+#include "message.h"
+#include "output.h"
+#include "save.h"
+
+#include <errno.h>
+#include <stdio.h>
+#include <string.h>
+#include <unistd.h>
+
+enum status check_book(struct book *book, const char *path, int quiet)
+{
+    unsigned refusal;
+    enum status status = book_look(book, path, &refusal);
+    if (status != STATUS_FINE)
+        return status;
+    if (refusal) {
+        output(quiet, "%s is damaged (%u): %s\n", shown(path), refusal, scalebench_reason(refusal));
+        return written() ? STATUS_BOOK : STATUS_FAILED;
+    }
+    uint64_t answer = scalebench_intake(book->table, sizeof book->table);
+    output(quiet, "%s is sound: %u states, %u transitions\n", shown(path), scalebench_states(answer),
+           scalebench_transitions(answer));
+    return written() ? STATUS_FINE : STATUS_FAILED;
+}
+
+/* Private whatever the book is: who may read the book is not known to be who may read the copy's folder. */
+enum status back_up(struct book *book, const char *path, const char *copy)
+{
+    struct place place;
+    struct stat existing;
+    enum status status = book_open(book, path, 0, 0);
+    if (status != STATUS_FINE)
+        return status;
+    if (lstat(copy, &existing) == 0) {
+        complain("cannot back up to", copy, "it exists already");
+        return STATUS_FAILED;
+    }
+    if (!place_find(&place, copy, 1))
+        return STATUS_FAILED;
+    int file = save_new(&place, 0600, book->table);
+    if (file < 0) {
+        complain("cannot back up to", copy, "%s", strerror(errno));
+    } else {
+        remove_strays(place.folder, file);
+        close(file);
+    }
+    place_leave(&place);
+    return file < 0 ? STATUS_FAILED : STATUS_FINE;
+}

@@ -1,0 +1,13 @@
+/* What is done with a book as a whole. */
+#ifndef UPKEEP_H
+#define UPKEEP_H
+
+#include "book.h"
+
+/* Prints whether the book is sound, and if not which condition it breaks. */
+enum status check_book(struct book *book, const char *path, int quiet);
+
+/* Copies the book, as it is at one moment, to a file that does not exist. */
+enum status back_up(struct book *book, const char *path, const char *copy);
+
+#endif
