@@ -23,11 +23,17 @@ use format::BYTE_VALUES;
 pub use marks::blank;
 use ordering::separate_in_order;
 use seeds::seed_all;
-pub use steps::stepped;
 use separating::sweep;
+pub use steps::stepped;
 
 // Marks the pairs of states that are separated.
-pub fn distinguish(classes: &[u8], transitions: &[u8], count: usize, n: usize, marks: &mut [u8; BYTE_PAIRS])
+pub fn distinguish(
+    classes: &[u8],
+    transitions: &[u8],
+    count: usize,
+    n: usize,
+    marks: &mut [u8; BYTE_PAIRS],
+)
     requires { ⌜ Viewed (now classes) (now transitions) n count ⌝ }
     requires { ⌜ rising (transitionsIn (now transitions) count) ≡ true ⌝ }
     requires { ⌜ now marks ≡ unmarked ⌝ }

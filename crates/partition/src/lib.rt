@@ -109,7 +109,13 @@ fn separated_by_parts(
 }
 
 // Marks the pairs of states that are separated.
-pub fn distinguish(classes: &[u8], transitions: &[u8], count: usize, n: usize, marks: &mut [u8; BYTE_PAIRS])
+pub fn distinguish(
+    classes: &[u8],
+    transitions: &[u8],
+    count: usize,
+    n: usize,
+    marks: &mut [u8; BYTE_PAIRS],
+)
     requires { ⌜ Viewed (now classes) (now transitions) n count ⌝ }
     requires { ⌜ rising (transitionsIn (now transitions) count) ≡ true ⌝ }
     requires { ⌜ now marks ≡ unmarked ⌝ }
@@ -134,7 +140,12 @@ fn numbers() -> [usize; BYTE_VALUES] {
 
 // Condition 12, where conditions 10 and 11 hold: no two different states are equivalent. Every state is useful, and
 // without loops one round from any fingerprints may show that all differ.
-pub fn all_distinguishable_useful(classes: &[u8], transitions: &[u8], count: usize, n: usize) -> bool
+pub fn all_distinguishable_useful(
+    classes: &[u8],
+    transitions: &[u8],
+    count: usize,
+    n: usize,
+) -> bool
     requires { ⌜ Viewed (now classes) (now transitions) n count ⌝ }
     requires { ⌜ rising (transitionsIn (now transitions) count) ≡ true ⌝ }
     requires { ⌜ allCoaccessible (viewed (now classes) (now transitions) n count) ≡ true ⌝ }

@@ -29,10 +29,16 @@ pub enum Produced {
 }
 
 // Writes the transitions of the product into the scratch, sorted.
-pub fn product(transitions: &[u8], count: usize, n: usize, s: Subtrees, scratch: &mut [u8]) -> Produced
+pub fn product(
+    transitions: &[u8],
+    count: usize,
+    n: usize,
+    s: Subtrees,
+    scratch: &mut [u8],
+) -> Produced
     requires { ⌜ HasTransitionsOver (now transitions) count n ⌝ }
     requires { ⌜ n ≤ maxStates ⌝ }
-    requires { ⌜ Nodes (s .count) (s .arities) (s .children) ⌝ }
+    requires { ⌜ Nodes (s .count) (s .labels) (s .arities) (s .children) ⌝ }
     requires { ⌜ length (now scratch) ≡ scratchBytes ⌝ }
     ensures { λ r. ⌜ ((A : Automaton) (t : Tree) → Holds A t (now (transitions .entry)) count n s →
         Answers A t n s (now (scratch .exit)) r) ⌝ }

@@ -15,7 +15,7 @@ use crate::marks::args_marked;
 use crate::ranks::depth_first;
 use crate::ranks::numbers;
 use crate::ranks::ranks_rise;
-use crate::transitions::out_of;
+use fields::out_of;
 use format::BYTE_VALUES;
 use format::TRANSITION_BYTES;
 
@@ -33,7 +33,12 @@ fn block(transitions: &[u8], i: usize, marks: &[u8; BYTE_VALUES], blocked: &mut 
     blocked[out] = 1;
 }
 
-fn block_all(transitions: &[u8], count: usize, marks: &[u8; BYTE_VALUES], blocked: &mut [u8; BYTE_VALUES])
+fn block_all(
+    transitions: &[u8],
+    count: usize,
+    marks: &[u8; BYTE_VALUES],
+    blocked: &mut [u8; BYTE_VALUES],
+)
     requires { ⌜ HasTransitions (now transitions) count ⌝ }
     requires { ⌜ Blocks (now transitions) (now marks) 0 (now blocked) ⌝ }
     ensures { λ _. ⌜ Blocks (now (transitions .entry)) (now (marks .entry)) count (now (blocked .exit)) ⌝ }
