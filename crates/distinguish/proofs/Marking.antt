@@ -7,25 +7,26 @@ use Prim.Native.Nat.{_*_, _+_, _-_, _<_, _≤_, suc, zero, ℕ}
 use native.Mathlib.Omega.{arith}
 use lib.Dec.{eqb}
 use lib.ListN.{getD, length, set}
-use lib.Seq.{getD-set-other, getD-set-same}
 use borrow.Author.Tests.{eq-eqb, ne-eqb, not-false, not-true}
 use Rattle.automata.specs.Automaton.{Automaton, accepting, lookup}
-use Rattle.distinguish.specs.Separating.{Copied, Seed, Separate, eitherWay, pairAt, slotAt, stepAt}
+use Rattle.distinguish.specs.Separating.{Seed, Separate, eitherWay, pairAt, slotAt, stepAt}
 use Rattle.distinguish.specs.Separating.{apart, unmarked}
+use Rattle.fields.specs.Entries.{HasFields, putAt}
 use Rattle.fields.specs.Fields.{HasTransitionsOver}
 use Rattle.fields.specs.View.{viewed}
-use Rattle.format.specs.Format.{argsAt, bytePairs, maxArity, transitionBytes}
+use Rattle.format.specs.Format.{bytePairs, maxArity, transitionBytes}
 use Rattle.lists.specs.Positions.{upFrom}
 use Rattle.lists.specs.Tests.{_∈_, any}
 use Rattle.marking.specs.Marks.{marked, nonzero}
 use Rattle.table.specs.Layout.{argOf, arityOf, labelOf, outOf, transitionAt, transitionsIn}
 use Rattle.marking.specs.Spread.{Covers, Has, Spread}
 use Rattle.automata.proofs.Steps.{step-zero}
-use Rattle.distinguish.proofs.Slots.{args-around}
+use Rattle.distinguish.proofs.Slots.{args-around, args-put}
 use Rattle.lists.proofs.Tests.{and-left, and-right, append-in, in-append-left, in-append-right, none-zero, or-cases}
 use Rattle.lists.proofs.Tests.{or-left, or-right}
 use Rattle.marking.proofs.Sweeps.{nonzero-false, nonzero-true, swept-closed, swept-then}
 use Rattle.marking.proofs.Spreading.{Growing, growing-none, spread-if, spread-mark, spread-none}
+use Rattle.fields.proofs.Entries.{fields-args}
 use Rattle.fields.proofs.Views.{viewed-arg}
 
 pub unequal-marked : (x : ℕ) → not (eqb x 0) ≡ nonzero x
@@ -110,68 +111,17 @@ pub growing-unmarked : {p : ℕ → Bool} (m : List ℕ) → m ≡ unmarked → 
 unfolding unmarked
 growing-unmarked {p} m e = subst (Growing bytePairs p) (sym e) growing-none
 
--- ---- a transition's bytes
+-- ---- a transition with another argument
 
--- an entry with the bytes of a transition and another argument k is that transition with the argument replaced
-module _ (s : List ℕ) (at k q : ℕ) (r : List ℕ) (c : Copied s at r) (h : k < arityOf s at)
-    (small : arityOf s at ≤ maxArity) where
-  abbrev e : List ℕ
-  e = set r (argsAt + k) q
-
-  field : (j : ℕ) → j < transitionBytes → j ≢ argsAt + k → getD (set r (argsAt + k) q) j 0 ≡ getD s (at + j) 0
-  field j l n = getD-set-other r (argsAt + k) j q 0 n ∙ c .bytes j l
-
-  pub replaced-label : transitionAt (set r (argsAt + k) q) 0 .label ≡ labelOf s at
-  replaced-label = let a : at + 0 ≡ at = omega arith in field 0 (omega arith) (λ z. omega arith) ∙ ap (λ (i : ℕ).
-      getD s i 0) a
-
-  replaced-arity : arityOf (set r (argsAt + k) q) 0 ≡ arityOf s at
-  replaced-arity = field 1 (omega arith) (λ z. omega arith)
-
-  replaced-arg : (j : ℕ) → j < maxArity → j ≢ k → argOf (set r (argsAt + k) q) 0 j ≡ argOf s at j
-  replaced-arg j l n =
-      let a : 0 + argsAt + j ≡ argsAt + j = omega arith in
-      let b : at + (argsAt + j) ≡ at + argsAt + j = omega arith in
-      ap (λ (i : ℕ). getD (set r (argsAt + k) q) i 0) a
-      ∙ field (argsAt + j) (omega arith) (λ z. n (omega arith)) ∙ ap (λ (i : ℕ). getD s i 0) b
-
-  replaced-here : argOf (set r (argsAt + k) q) 0 k ≡ q
-  replaced-here =
-      let a : 0 + argsAt + k ≡ argsAt + k = omega arith in
-      ap (λ (i : ℕ). getD (set r (argsAt + k) q) i 0) a ∙ getD-set-same r (argsAt + k) q 0 (omega (arith, c .size))
-
-  map-same : (j n : ℕ) → ((i : ℕ) → j ≤ i → i < j + n → argOf (set r (argsAt + k) q) 0 i ≡ argOf s at i) →
-      map (argOf (set r (argsAt + k) q) 0) (upFrom j n) ≡ map (argOf s at) (upFrom j n)
-  map-same j zero f = refl
-  map-same j (suc n) f = cc (
-    f j (omega arith) (omega arith),
-    map-same (suc j) n (λ i a b. f i (omega arith)
-        (omega arith)),
-  )
-
-  pub replaced-args : transitionAt (set r (argsAt + k) q) 0 .args ≡ slotAt s at k .before ++ (q ∷ slotAt s at k
-      .after)
-  replaced-args =
-      args-around (set r (argsAt + k) q) 0 k (omega (arith, replaced-arity))
-      ∙ (λ i. before i ++ (replaced-here i ∷ after i))
-    where
-      before : map (argOf (set r (argsAt + k) q) 0) (upFrom 0 k) ≡ map (argOf s at) (upFrom 0 k)
-      before = map-same 0 k (λ i a b. replaced-arg i (omega arith) (λ z. omega arith))
-
-      after : map (argOf (set r (argsAt + k) q) 0) (upFrom (k + 1) (arityOf (set r (argsAt + k) q) 0 - (k + 1))) ≡
-          map (argOf s at) (upFrom (k + 1) (arityOf s at - (k + 1)))
-      after =
-          ap (λ (a : ℕ). map (argOf (set r (argsAt + k) q) 0) (upFrom (k + 1) (a - (k + 1)))) replaced-arity
-          ∙ map-same (k + 1) (arityOf s at - (k + 1)) (λ i a b. replaced-arg i (omega arith) (λ z. omega arith))
-
-pub replaced-output : (s : List ℕ) (c at k q : ℕ) (r : List ℕ) → Copied s at r → k < arityOf s at → arityOf s at ≤
-    maxArity →
-    {x : ℕ} → x ≡ lookup (transitionAt (set r (argsAt + k) q) 0 .label) (transitionAt (set r (argsAt + k) q) 0
-    .args) (transitionsIn s c) →
+-- an entry with the fields of a transition but for argument k is that transition with the argument replaced
+pub replaced-output : (s : List ℕ) (c at k q : ℕ) {e : List ℕ} {o : ℕ} →
+    HasFields e (labelOf s at) (arityOf s at) (putAt (argOf s at) k q) o → k < arityOf s at →
+    arityOf s at ≤ maxArity →
+    {x : ℕ} → x ≡ lookup (transitionAt e 0 .label) (transitionAt e 0 .args) (transitionsIn s c) →
     x ≡ lookup (labelOf s at) (slotAt s at k .before ++ (q ∷ slotAt s at k .after)) (transitionsIn s c)
-replaced-output s c at k q r copied h small x =
-    x ∙ ap₂ (λ (a : ℕ) (qs : List ℕ). lookup a qs (transitionsIn s c)) (replaced-label s at k q r copied h small)
-    (replaced-args s at k q r copied h small)
+replaced-output s c at k q is h small x =
+    x ∙ ap₂ (λ (a : ℕ) (qs : List ℕ). lookup a qs (transitionsIn s c)) (is .label)
+    (fields-args is small ∙ args-put (argOf s at) k (arityOf s at) q h)
 
 -- ---- steps
 

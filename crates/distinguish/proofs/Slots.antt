@@ -6,8 +6,10 @@ use native.Mathlib.Omega.{arith}
 use lib.ListN.{length, length-append}
 use Rattle.automata.specs.Distinguishable.{Slot}
 use Rattle.distinguish.specs.Separating.{slotAt}
+use Rattle.fields.specs.Entries.{putAt}
 use Rattle.lists.specs.Positions.{upFrom}
 use Rattle.table.specs.Layout.{argOf, arityOf, labelOf, transitionAt}
+use Rattle.fields.proofs.Entries.{map-upFrom, put-other, put-same}
 use Rattle.fields.proofs.Transitions.{args-length}
 use Rattle.lists.proofs.Intervals.{length-tabulated}
 
@@ -31,6 +33,16 @@ args-around s at k h =
     let a : 0 + k ≡ k = omega arith in
     let e = split-upFrom (argOf s at) 0 k (arityOf s at) h in
     rw a at e
+
+-- with q for the argument there
+pub args-put : (f : ℕ → ℕ) (k n q : ℕ) → k < n →
+    map (putAt f k q) (upFrom 0 n) ≡ map f (upFrom 0 k) ++ (q ∷ map f (upFrom (k + 1) (n - (k + 1))))
+args-put f k n q h =
+    let a : 0 + k ≡ k = omega arith in
+    let around = split-upFrom (putAt f k q) 0 k n h in
+    let before = map-upFrom (putAt f k q) f 0 k (λ i l m. put-other f k q i (λ z. omega arith)) in
+    let after = map-upFrom (putAt f k q) f (k + 1) (n - (k + 1)) (λ i l m. put-other f k q i (λ z. omega arith)) in
+    (rw a at around) ∙ (λ i. before i ++ (put-same f k q i ∷ after i))
 
 -- lists of one length in front of others
 cancel : (xs ys us vs : List ℕ) → length xs ≡ length ys → xs ++ us ≡ ys ++ vs → (xs ≡ ys) × (us ≡ vs)

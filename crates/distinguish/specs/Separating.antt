@@ -78,8 +78,3 @@ allApart m n = every (λ p. every (apart m p) (upFrom 1 n)) (upFrom 1 n)
 -- p against the states 0 to n
 abbrev pub SeedRow : Automaton → ℕ → ℕ → Rule
 SeedRow A n p = UpTo (Seed A p) (n + 1)
-
--- r has the bytes of the transition that starts at a byte
-pub record Copied (s : List ℕ) (at : ℕ) (r : List ℕ) : Type 0 where
-  pub size : length r ≡ transitionBytes
-  pub bytes : (j : ℕ) → j < transitionBytes → getD r j 0 ≡ getD s (at + j) 0

@@ -9,10 +9,11 @@ ghost use Rattle.marking.specs.Spread.{Led, UpTo};
 ghost use Rattle.distinguish.specs.Separating.{nthSeparate};
 ghost use Rattle.format.specs.Format.{bytePairs, byteValues};
 use crate::separating::separate_at;
-use format::ARGS_AT;
+use fields::arg_of;
+use fields::arity_of;
+use fields::out_of;
 use format::BYTE_PAIRS;
 use format::BYTE_VALUES;
-use format::OUT_AT;
 use format::TRANSITION_BYTES;
 use format::wide;
 
@@ -48,12 +49,12 @@ fn deepen(
     requires { ⌜ length (now depths) ≡ byteValues ⌝ }
     ensures { λ _. ⌜ length (now (depths .exit)) ≡ byteValues ⌝ }
 {
-    let arity = wide(transitions[TRANSITION_BYTES * i + ARGS_AT - 1]);
-    let out = wide(transitions[TRANSITION_BYTES * i + OUT_AT]);
+    let arity = arity_of(transitions, TRANSITION_BYTES * i);
+    let out = out_of(transitions, TRANSITION_BYTES * i);
     let mut changed = false;
     let mut k = 0;
     while k < arity {
-        let a = wide(transitions[TRANSITION_BYTES * i + ARGS_AT + k]);
+        let a = arg_of(transitions, TRANSITION_BYTES * i, k);
         let r = put_below(depths, a, out);
         changed = changed | r;
         k += 1;
@@ -94,7 +95,7 @@ fn separate_there(
     requires { ⌜ length (now marks) ≡ bytePairs ⌝ }
     ensures { λ _. ⌜ Led (nthSeparate (now (transitions .entry)) count n i) (now (marks .entry)) (now (marks .exit)) ⌝ }
 {
-    let out = wide(transitions[TRANSITION_BYTES * i + OUT_AT]);
+    let out = out_of(transitions, TRANSITION_BYTES * i);
     if wide(depths[out]) != depth {
         return;
     }

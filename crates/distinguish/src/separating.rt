@@ -12,10 +12,11 @@ use crate::marks::both_marked;
 use crate::marks::either_marked;
 use crate::marks::mark;
 use crate::steps::stepped;
-use format::ARGS_AT;
+use fields::arg_of;
+use fields::arity_of;
+use fields::out_of;
 use format::BYTE_PAIRS;
 use format::BYTE_VALUES;
-use format::OUT_AT;
 use format::TRANSITION_BYTES;
 use format::wide;
 
@@ -38,12 +39,12 @@ fn separate(
     ensures { λ r. ⌜ Spread (Separate (now (transitions .entry)) count (transitionBytes * i) k q) (now (marks .entry)) (now
         (marks .exit)) r ⌝ }
 {
-    let a = wide(transitions[TRANSITION_BYTES * i + ARGS_AT + k]);
+    let a = arg_of(transitions, TRANSITION_BYTES * i, k);
     let b = wide(q);
     if both_marked(marks, a, b) {
         return false;
     }
-    let out = wide(transitions[TRANSITION_BYTES * i + OUT_AT]);
+    let out = out_of(transitions, TRANSITION_BYTES * i);
     let to = wide(stepped(transitions, count, n, i, k, q));
     if !either_marked(marks, out, to) {
         return false;
@@ -94,7 +95,7 @@ pub fn separate_at(
     requires { ⌜ length (now marks) ≡ bytePairs ⌝ }
     ensures { λ r. ⌜ Spread (nthSeparate (now (transitions .entry)) count n i) (now (marks .entry)) (now (marks .exit)) r ⌝ }
 {
-    let arity = wide(transitions[TRANSITION_BYTES * i + ARGS_AT - 1]);
+    let arity = arity_of(transitions, TRANSITION_BYTES * i);
     let mut changed = false;
     let mut k = 0;
     while k < arity {

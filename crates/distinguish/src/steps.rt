@@ -4,27 +4,14 @@ ghost use mathlib.Core.Path.{_≡_};
 ghost use Prim.Native.Nat.{_*_, _<_, _≤_};
 ghost use Rattle.automata.specs.Automaton.{lookup};
 ghost use Rattle.fields.specs.Fields.{Readable, HasTransitionsOver};
-ghost use Rattle.format.specs.Format.{maxArity, transitionBytes};
+ghost use Rattle.format.specs.Format.{transitionBytes};
 ghost use Rattle.sorted.specs.Sorted.{Sorted};
 ghost use Rattle.table.specs.Layout.{arityOf, labelOf, transitionsIn};
-ghost use Rattle.distinguish.specs.Separating.{Copied, slotAt, stepAt};
-use format::ARGS_AT;
+ghost use Rattle.distinguish.specs.Separating.{slotAt, stepAt};
+use fields::entry_at;
+use fields::put_arg;
 use format::TRANSITION_BYTES;
 use sorted::output;
-
-// The bytes of a transition.
-fn copied(transitions: &[u8], at: usize) -> [u8; TRANSITION_BYTES]
-    requires { ⌜ Readable (now transitions) at ⌝ }
-    ensures { λ r. ⌜ Copied (now (transitions .entry)) at r ⌝ }
-{
-    let mut entry = [0u8; TRANSITION_BYTES];
-    let mut j = 0;
-    while j < TRANSITION_BYTES {
-        entry[j] = transitions[at + j];
-        j += 1;
-    }
-    entry
-}
 
 // The output of the transition that is like the one at a byte, with q for its argument k; 0 for none.
 fn replaced(transitions: &[u8], count: usize, at: usize, k: usize, q: u8) -> u8
@@ -34,8 +21,8 @@ fn replaced(transitions: &[u8], count: usize, at: usize, k: usize, q: u8) -> u8
     ensures { λ r. ⌜ r ≡ lookup (labelOf (now (transitions .entry)) at) (slotAt (now (transitions .entry)) at k .before ++ (q ∷
         slotAt (now (transitions .entry)) at k .after)) (transitionsIn (now (transitions .entry)) count) ⌝ }
 {
-    let mut entry = copied(transitions, at);
-    entry[ARGS_AT + k] = q;
+    let mut entry = entry_at(transitions, at);
+    put_arg(&mut entry, k, q);
     output(transitions, count, entry)
 }
 

@@ -1,4 +1,5 @@
 pub mod Transitions
+pub mod Entries
 pub mod Views
 pub mod Searching
 pub mod LayoutChecks

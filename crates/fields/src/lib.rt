@@ -1,5 +1,7 @@
-// Fields of a table and of its transitions. `transitions` is a transitions of transitions, transition i at byte 11 i: the part
-// `&table[203..]` of a table, or a scratch. Layout and order are conditions 7 and 8.
+// Fields of a table and of its transitions. `transitions` has transition i at byte 11 i: the part `&table[203..]` of a
+// table, or a scratch. Layout and order are conditions 7 and 8.
+mod transition; // fields of one transition
+
 ghost use mathlib.Core.Path.{_≡_};
 ghost use Prim.Native.Nat.{_*_, _+_, _-_, _<_, _≤_};
 ghost use lib.ListN.{length, take};
@@ -12,16 +14,23 @@ ghost use Rattle.lists.specs.Tests.{any, every};
 ghost use Rattle.table.specs.Layout.{argFits, classFits, layoutFits, nthFits, transitionAt, transitionCount};
 ghost use Rattle.table.specs.Layout.{stateCount, transitionFits, transitionsIn, zeroAt};
 ghost use Rattle.fields.specs.Fields.{Readable, HasTransitions, atMost, firstArgs, foundState, isFound};
-use format::ARGS_AT;
-use format::ARITY_AT;
 use format::COUNT_AT;
 use format::HEAD_BYTES;
 use format::MAX_ARITY;
 use format::MAX_STATES;
 use format::MAX_TRANSITIONS;
-use format::OUT_AT;
 use format::TRANSITION_BYTES;
 use format::wide;
+pub use transition::arg_of;
+pub use transition::arity_of;
+pub use transition::blank_entry;
+pub use transition::entry_at;
+pub use transition::label_of;
+pub use transition::out_of;
+pub use transition::put_arg;
+pub use transition::put_arity;
+pub use transition::put_label;
+pub use transition::put_out;
 
 // What a search answers: the output of the transition that it found, if any.
 pub enum Found {
@@ -85,8 +94,8 @@ fn arg_fits(transitions: &[u8], states: usize, at: usize, k: usize) -> bool
     requires { ⌜ k < maxArity ⌝ }
     ensures { λ r. ⌜ r ≡ argFits (now (transitions .entry)) states at k ⌝ }
 {
-    let q = wide(transitions[at + ARGS_AT + k]);
-    if k < wide(transitions[at + ARITY_AT]) {
+    let q = arg_of(transitions, at, k);
+    if k < arity_of(transitions, at) {
         return in_range(states, q);
     }
     q == 0
@@ -111,16 +120,16 @@ fn transition_fits(transitions: &[u8], states: usize, at: usize) -> bool
     requires { ⌜ at + transitionBytes ≤ length (now transitions) ⌝ }
     ensures { λ r. ⌜ r ≡ transitionFits (now (transitions .entry)) states at ⌝ }
 {
-    if transitions[at] < 1 {
+    if label_of(transitions, at) < 1 {
         return false;
     }
-    if wide(transitions[at + ARITY_AT]) > MAX_ARITY {
+    if arity_of(transitions, at) > MAX_ARITY {
         return false;
     }
     if !args_fit(transitions, states, at) {
         return false;
     }
-    let out = wide(transitions[at + OUT_AT]);
+    let out = out_of(transitions, at);
     in_range(states, out)
 }
 
@@ -176,8 +185,8 @@ fn args_precede(transitions: &[u8], a: usize, b: usize, n: usize) -> bool
 {
     let mut k = 0;
     while k < n {
-        let x = transitions[a + ARGS_AT + k];
-        let y = transitions[b + ARGS_AT + k];
+        let x = arg_of(transitions, a, k);
+        let y = arg_of(transitions, b, k);
         if x != y {
             return x < y;
         }
@@ -193,10 +202,10 @@ fn precedes_at(transitions: &[u8], a: usize, b: usize) -> bool
     requires { ⌜ Readable (now transitions) b ⌝ }
     ensures { λ r. ⌜ r ≡ precedes (transitionAt (now (transitions .entry)) a) (transitionAt (now (transitions .entry)) b) ⌝ }
 {
-    let n = wide(transitions[a + ARITY_AT]);
-    let m = wide(transitions[b + ARITY_AT]);
-    let first = wide(transitions[a]);
-    let second = wide(transitions[b]);
+    let n = arity_of(transitions, a);
+    let m = arity_of(transitions, b);
+    let first = label_of(transitions, a);
+    let second = label_of(transitions, b);
     if n != m {
         return n < m;
     }
@@ -229,7 +238,7 @@ pub fn rises(transitions: &[u8], count: usize) -> bool
 pub fn find(
     transitions: &[u8],
     count: usize,
-    label: u8,
+    label: u16,
     arity: usize,
     args: [u8; MAX_ARITY],
 ) -> Found
@@ -245,20 +254,20 @@ pub fn find(
         }
         let at = TRANSITION_BYTES * i;
         i += 1;
-        if transitions[at] != label {
+        if label_of(transitions, at) != label {
             continue 'search;
         }
-        if wide(transitions[at + ARITY_AT]) != arity {
+        if arity_of(transitions, at) != arity {
             continue 'search;
         }
         let mut k = 0;
         'args: while k < arity {
-            if transitions[at + ARGS_AT + k] != args[k] {
+            if arg_of(transitions, at, k) != wide(args[k]) {
                 continue 'search;
             }
             k += 1;
         }
-        break 'search Found::State(transitions[at + OUT_AT]);
+        break 'search Found::State(out_of(transitions, at) as u8);
     };
     answer
 }

@@ -1,5 +1,5 @@
-// Fingerprints of states: equivalent states have the same, so states whose fingerprints differ are separated. `run`
-// has `count` sorted transitions over the states 1 to n; `classes` has the class of state q at byte q. 0, "no state",
+// Fingerprints of states: equivalent states have the same, so states whose fingerprints differ are separated.
+// `transitions` has `count` sorted transitions over the states 1 to n; `classes` has the class of state q at byte q. 0, "no state",
 // takes part.
 mod values; // what a use adds
 mod rounds; // the fingerprints of all states, from those before

@@ -14,11 +14,13 @@ use crate::values::fold;
 use crate::values::packed_args;
 use crate::values::salt;
 use crate::values::value;
-use format::ARGS_AT;
+use fields::arg_of;
+use fields::arity_of;
+use fields::label_of;
+use fields::out_of;
 use format::BYTE_VALUES;
-use format::OUT_AT;
 use format::TRANSITION_BYTES;
-use format::wide;
+use format::widened;
 
 // State q gains v.
 fn add(prints: &mut [usize; BYTE_VALUES], q: usize, v: usize)
@@ -45,13 +47,13 @@ fn add_uses(
     requires { ⌜ Prints (now prints) ⌝ }
     ensures { λ _. ⌜ Gained (gain (nthTransition (now (transitions .entry)) i) x) (now (prints .entry)) (now (prints .exit)) ⌝ }
 {
-    let arity = wide(transitions[TRANSITION_BYTES * i + ARGS_AT - 1]);
-    let s = salt(wide(transitions[TRANSITION_BYTES * i]), x);
+    let arity = arity_of(transitions, TRANSITION_BYTES * i);
+    let s = salt(widened(label_of(transitions, TRANSITION_BYTES * i)), x);
     let mut before = 1;
     let mut after = packed_args(transitions, TRANSITION_BYTES * i);
     let mut k = 0;
     while k < arity {
-        let q = wide(transitions[TRANSITION_BYTES * i + ARGS_AT + k]);
+        let q = arg_of(transitions, TRANSITION_BYTES * i, k);
         after = after / 256;
         add(prints, q, value(before, after, s));
         before = fold(before, q);
@@ -76,7 +78,7 @@ fn add_useful(
     ensures { λ _. ⌜ Gained (usefulGain (nthTransition (now (transitions .entry)) i) (marked (now (useful .entry)))
         (printOf (now (seen .entry)))) (now (prints .entry)) (now (prints .exit)) ⌝ }
 {
-    let out = wide(transitions[TRANSITION_BYTES * i + OUT_AT]);
+    let out = out_of(transitions, TRANSITION_BYTES * i);
     if useful[out] == 0 {
         return;
     }

@@ -5,8 +5,8 @@ ghost use Prim.Native.Nat.{_%_, _*_, _+_, _<_, _≤_};
 ghost use Rattle.fields.specs.Fields.{Readable};
 ghost use Rattle.table.specs.Layout.{transitionAt};
 ghost use Rattle.fingerprints.specs.Fingerprints.{cubed, folded, mixed, base256, prime, salted};
-use format::ARGS_AT;
-use format::wide;
+use fields::arg_of;
+use fields::arity_of;
 
 pub const PRIME: usize = 2147483629;
 
@@ -15,11 +15,11 @@ pub fn packed_args(transitions: &[u8], at: usize) -> usize
     requires { ⌜ Readable (now transitions) at ⌝ }
     ensures { λ r. ⌜ r ≡ base256 (transitionAt (now (transitions .entry)) at .args) ⌝ }
 {
-    let mut k = wide(transitions[at + ARGS_AT - 1]);
+    let mut k = arity_of(transitions, at);
     let mut sum = 0;
     while k > 0 {
         k -= 1;
-        sum = wide(transitions[at + ARGS_AT + k]) + 256 * sum;
+        sum = arg_of(transitions, at, k) + 256 * sum;
     }
     sum
 }

@@ -7,41 +7,57 @@ pub const MAX_ARITY: usize = 8;
 
 pub const LABEL_BYTES: usize = 1;
 
-pub const NODE_BYTES: usize = 2;
+pub const NODE_BYTES: usize = LABEL_BYTES + 1;
 
 pub const MAX_NODES: usize = 48;
 
-pub const MAX_LISTING: usize = 96;
+pub const MAX_LISTING: usize = NODE_BYTES * MAX_NODES;
 
 pub const MAX_STATES: usize = 200;
 
 pub const MAX_TRANSITIONS: usize = 1024;
 
-pub const COUNT_AT: usize = 201;
+pub const COUNT_AT: usize = MAX_STATES + 1;
 
-pub const HEAD_BYTES: usize = 203;
+pub const HEAD_BYTES: usize = MAX_STATES + 3;
 
-pub const ARITY_AT: usize = 1;
+pub const ARITY_AT: usize = LABEL_BYTES;
 
-pub const ARGS_AT: usize = 2;
+pub const ARGS_AT: usize = ARITY_AT + 1;
 
-pub const OUT_AT: usize = 10;
+pub const OUT_AT: usize = ARGS_AT + MAX_ARITY;
 
-pub const TRANSITION_BYTES: usize = 11;
+pub const TRANSITION_BYTES: usize = OUT_AT + 1;
 
-pub const TABLE_BYTES: usize = 11467;
+pub const TABLE_BYTES: usize = HEAD_BYTES + TRANSITION_BYTES * MAX_TRANSITIONS;
 
 pub const MAX_PRODUCT: usize = 3072;
 
-pub const SCRATCH_BYTES: usize = 33792;
+pub const SCRATCH_BYTES: usize = TRANSITION_BYTES * MAX_PRODUCT;
 
 pub const MAX_LINE: usize = 512;
 
-pub const LISTING_BYTES: usize = 252;
+pub const MAX_LINE_NODES: usize = 126;
+
+pub const LISTING_BYTES: usize = NODE_BYTES * MAX_LINE_NODES;
 
 pub const BYTE_VALUES: usize = 256;
 
-pub const BYTE_PAIRS: usize = 65536;
+pub const BYTE_PAIRS: usize = BYTE_VALUES * BYTE_VALUES;
+
+// A byte of a label as a number.
+pub fn label_byte(x: u8) -> u16
+    ensures { λ r. ⌜ r ≡ x ⌝ }
+{
+    x as u16
+}
+
+// A number of 16 bits as an index or a count.
+pub fn widened(x: u16) -> usize
+    ensures { λ r. ⌜ r ≡ x ⌝ }
+{
+    x as usize
+}
 
 // A byte as an index or a count.
 pub fn wide(x: u8) -> usize

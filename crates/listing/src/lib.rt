@@ -1,13 +1,33 @@
-// Listings of trees in bytes: the tree reader, and document 01's refusals 1 to 4. No function has a `requires`:
-// each answers for every slice of any length.
+// Listings of trees in bytes: the tree reader, and document 01's refusals 1 to 4. No reader has a `requires`:
+// each returns for every slice of any length.
 ghost use mathlib.Core.Path.{_≡_};
-ghost use Rattle.trees.specs.Listing.{wholeNodes, allLabelled, allNarrow, oneTree, listingRefusal};
+ghost use Prim.Native.Nat.{_*_, _+_, _≤_};
+ghost use lib.ListN.{length};
+ghost use Rattle.format.specs.Format.{maxLabel, nodeBytes};
+ghost use Rattle.trees.specs.Listing.{childrenAt, labelAt, wholeNodes, allLabelled, allNarrow, oneTree, listingRefusal};
 ghost use Rattle.listing.specs.Measure.{measured};
 use format::LABEL_BYTES;
 use format::MAX_ARITY;
 use format::MAX_LISTING;
 use format::NODE_BYTES;
+use format::label_byte;
 use format::wide;
+
+// The label of node i, and the number of its children.
+pub fn label_at(s: &[u8], i: usize) -> u16
+    requires { ⌜ nodeBytes * i + nodeBytes ≤ length (now s) ⌝ }
+    ensures { λ r. ⌜ r ≡ labelAt (now (s .entry)) i ⌝ }
+    ensures { λ r. ⌜ r ≤ maxLabel ⌝ }
+{
+    label_byte(s[NODE_BYTES * i])
+}
+
+pub fn children_at(s: &[u8], i: usize) -> u8
+    requires { ⌜ nodeBytes * i + nodeBytes ≤ length (now s) ⌝ }
+    ensures { λ r. ⌜ r ≡ childrenAt (now (s .entry)) i ⌝ }
+{
+    s[NODE_BYTES * i + LABEL_BYTES]
+}
 
 // What a reader finds: the number of bytes that it read, or that the slice does not start with what it looks for.
 pub enum Read {
@@ -22,7 +42,7 @@ pub fn tree(s: &[u8]) -> Read
     if s.len() < NODE_BYTES {
         return Read::Bad;
     }
-    let count = wide(s[LABEL_BYTES]);
+    let count = wide(children_at(s, 0));
     let Read::Node { len } = children(&s[NODE_BYTES..], count) else {
         return Read::Bad;
     };
@@ -31,7 +51,7 @@ pub fn tree(s: &[u8]) -> Read
     }
 }
 
-// Reads the count trees, one behind the other, that s starts with.
+// Reads the count trees, one after the other, that s starts with.
 pub fn children(s: &[u8], count: usize) -> Read
     ensures { λ r. ⌜ r ≡ measured (now (s .entry)) count ⌝ }
 {
@@ -60,14 +80,14 @@ pub fn whole_nodes(s: &[u8]) -> bool
     s.len() % NODE_BYTES == 0
 }
 
-// Whether no label is 0, also behind the first tree (01, refusal 2).
+// Whether no label is 0, also after the first tree (01, refusal 2).
 pub fn all_labelled(s: &[u8]) -> bool
     ensures { λ r. ⌜ r ≡ allLabelled (now (s .entry)) ⌝ }
 {
     let nodes = s.len() / NODE_BYTES;
     let mut i = 0;
     while i < nodes {
-        if s[NODE_BYTES * i] == 0 {
+        if label_at(s, i) == 0 {
             return false;
         }
         i += 1;
@@ -75,14 +95,14 @@ pub fn all_labelled(s: &[u8]) -> bool
     true
 }
 
-// Whether no child count is above 8, also behind the first tree (01, refusal 3).
+// Whether no child count is above 8, also after the first tree (01, refusal 3).
 pub fn all_narrow(s: &[u8]) -> bool
     ensures { λ r. ⌜ r ≡ allNarrow (now (s .entry)) ⌝ }
 {
     let nodes = s.len() / NODE_BYTES;
     let mut i = 0;
     while i < nodes {
-        if wide(s[NODE_BYTES * i + LABEL_BYTES]) > MAX_ARITY {
+        if wide(children_at(s, i)) > MAX_ARITY {
             return false;
         }
         i += 1;

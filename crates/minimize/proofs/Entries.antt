@@ -1,18 +1,20 @@
 -- The bytes of one transition, and an entry with other names.
 use mathlib.Core.Bool.{Bool, false, true}
-use mathlib.Core.List.{List, [], _∷_}
+use mathlib.Core.List.{List}
 use mathlib.Core.Path.{_∙_, _≡_, ap, refl, sym}
-use Prim.Native.Nat.{_+_, _-_, _<_, _≤_, suc, zero, ℕ}
+use Prim.Native.Nat.{_+_, _-_, _<_, _≤_, ℕ}
 use native.Mathlib.Omega.{arith}
-use lib.Dec.{eqb, ltb}
-use lib.ListN.{List·getD-eq-default, getD, length, length-map, length-set, set}
-use lib.Seq.{getD-set-other, getD-set-same}
-use borrow.Author.Tests.{eqb-false, eqb-true, ltb-false, ltb-true}
+use lib.Dec.{ltb}
+use lib.ListN.{List·getD-eq-default, getD, length, length-map}
+use borrow.Author.Count.{below-more}
+use borrow.Author.Tests.{ltb-false, ltb-true}
 use Rattle.automata.specs.Automaton.{Transition}
 use Rattle.automata.specs.Renumber.{renumberBy}
+use Rattle.fields.specs.Entries.{HasFields, noArg, putAt}
 use Rattle.format.specs.Format.{argsAt, labelBytes, maxArity, outAt, transitionBytes}
 use Rattle.minimize.specs.Merged.{entryOf, nameIn}
 use Rattle.table.specs.Layout.{argOf, arityOf, labelOf, outOf, transitionAt, transitionByte}
+use Rattle.fields.proofs.Entries.{put-other, put-same}
 use Rattle.fields.proofs.Transitions.{arg-at, args-length}
 use Rattle.lists.proofs.Intervals.{getD-map, getD-tabulated, tabulated}
 use Rattle.table.proofs.Bytes.{cond-is, transitionByte-arg}
@@ -21,66 +23,44 @@ use Rattle.table.proofs.Bytes.{cond-is, transitionByte-arg}
 pub record Renaming (run : List ℕ) (at : ℕ) (names entry : List ℕ) (k : ℕ) : Type 0 where
   pub size : length entry ≡ transitionBytes
   pub within : k ≤ arityOf run at
-  pub label : getD entry 0 0 ≡ labelOf run at
-  pub arity : getD entry labelBytes 0 ≡ arityOf run at
-  pub out : getD entry outAt 0 ≡ nameIn names (outOf run at)
-  pub args : (j : ℕ) → j < k → getD entry (argsAt + j) 0 ≡ nameIn names (argOf run at j)
-  pub rest : (j : ℕ) → k ≤ j → j < maxArity → getD entry (argsAt + j) 0 ≡ 0
+  pub label : labelOf entry 0 ≡ labelOf run at
+  pub arity : arityOf entry 0 ≡ arityOf run at
+  pub out : outOf entry 0 ≡ nameIn names (outOf run at)
+  pub args : (j : ℕ) → j < k → argOf entry 0 j ≡ nameIn names (argOf run at j)
+  pub rest : (j : ℕ) → k ≤ j → j < maxArity → argOf entry 0 j ≡ 0
 
-zero-args : (x y z : ℕ) (j : ℕ) → j < maxArity →
-    getD (x ∷ y ∷ 0 ∷ 0 ∷ 0 ∷ 0 ∷ 0 ∷ 0 ∷ 0 ∷ 0 ∷ z ∷ []) (argsAt + j) 0 ≡ 0
-zero-args x y z j h =
-    let e : argsAt + j ≡ suc (suc j) = omega arith in
-    ap (λ i. getD (x ∷ y ∷ 0 ∷ 0 ∷ 0 ∷ 0 ∷ 0 ∷ 0 ∷ 0 ∷ 0 ∷ z ∷ []) i 0) e ∙ go j h
-  where
-    go : (i : ℕ) → i < maxArity → getD (0 ∷ 0 ∷ 0 ∷ 0 ∷ 0 ∷ 0 ∷ 0 ∷ 0 ∷ z ∷ []) i 0 ≡ 0
-    go zero h = refl
-    go (suc zero) h = refl
-    go (suc (suc zero)) h = refl
-    go (suc (suc (suc zero))) h = refl
-    go (suc (suc (suc (suc zero)))) h = refl
-    go (suc (suc (suc (suc (suc zero))))) h = refl
-    go (suc (suc (suc (suc (suc (suc zero)))))) h = refl
-    go (suc (suc (suc (suc (suc (suc (suc zero))))))) h = refl
-    go (suc (suc (suc (suc (suc (suc (suc (suc i)))))))) h = absurd (omega arith)
-
-pub renaming-start : (run : List ℕ) (at : ℕ) (names : List ℕ) {x : ℕ} → x ≡ nameIn names (outOf run at) →
-    Renaming run at names (labelOf run at ∷ arityOf run at ∷ 0 ∷ 0 ∷ 0 ∷ 0 ∷ 0 ∷ 0 ∷ 0 ∷ 0 ∷ x ∷ []) 0
-renaming-start run at names {x} e = record {
-  size = refl;
+pub renaming-start : (run : List ℕ) (at : ℕ) (names : List ℕ) {entry : List ℕ} {x : ℕ} →
+    HasFields entry (labelOf run at) (arityOf run at) noArg x → x ≡ nameIn names (outOf run at) →
+    Renaming run at names entry 0
+renaming-start run at names is e = record {
+  size = is .size;
   within = omega arith;
-  label = refl;
-  arity = refl;
-  out = e;
+  label = is .label;
+  arity = is .arity;
+  out = is .out ∙ e;
   args = λ j h. absurd (omega arith);
-  rest = λ j h l. zero-args (labelOf run at) (arityOf run at) x j l;
+  rest = λ j h l. is .arg j l;
 }
 
 module _ {run : List ℕ} {at : ℕ} {names entry : List ℕ} {k : ℕ} (inv : Renaming run at names entry k)
     (narrow : arityOf run at ≤ maxArity) where
-  pub renaming-next : k < arityOf run at → {x : ℕ} → x ≡ nameIn names (argOf run at k) →
-      Renaming run at names (set entry (argsAt + k) x) (k + 1)
-  renaming-next h {x} e = record {
-    size = length-set entry (argsAt + k) x ∙ inv .size;
+  pub renaming-next : k < arityOf run at → {x : ℕ} → x ≡ nameIn names (argOf run at k) → {put : List ℕ} →
+      HasFields put (labelOf entry 0) (arityOf entry 0) (putAt (argOf entry 0) k x) (outOf entry 0) →
+      Renaming run at names put (k + 1)
+  renaming-next h {x} e {put} is = record {
+    size = is .size;
     within = omega arith;
-    label = getD-set-other entry (argsAt + k) 0 x 0 (λ z. omega arith) ∙ inv .label;
-    arity = getD-set-other entry (argsAt + k) labelBytes x 0 (λ z. omega arith) ∙ inv .arity;
-    out = getD-set-other entry (argsAt + k) outAt x 0 (λ z. omega arith) ∙ inv .out;
-    args = λ j l. go j l (eqb j k) refl;
-    rest = λ j l m. getD-set-other entry (argsAt + k) (argsAt + j) x 0 (λ z. omega arith)
-        ∙ inv .rest j (omega arith) m;
+    label = is .label ∙ inv .label;
+    arity = is .arity ∙ inv .arity;
+    out = is .out ∙ inv .out;
+    args = below-more (λ j. argOf put 0 j ≡ nameIn names (argOf run at j)) k
+        (λ j l. kept j (omega arith) (λ z. omega arith) ∙ inv .args j l)
+        (is .arg k (omega arith) ∙ put-same (argOf entry 0) k x ∙ e);
+    rest = λ j l m. kept j m (λ z. omega arith) ∙ inv .rest j (omega arith) m;
   }
     where
-      go : (j : ℕ) → j < k + 1 → (b : Bool) → eqb j k ≡ b →
-          getD (set entry (argsAt + k) x) (argsAt + j) 0 ≡ nameIn names (argOf run at j)
-      go j l true t =
-          let d = eqb-true j k t in
-          ap (λ i. getD (set entry (argsAt + k) x) (argsAt + i) 0) d
-          ∙ getD-set-same entry (argsAt + k) x 0 (omega (arith, inv .size)) ∙ e
-          ∙ ap (λ i. nameIn names (argOf run at i)) (sym d)
-      go j l false t =
-          let d = eqb-false j k t in
-          getD-set-other entry (argsAt + k) (argsAt + j) x 0 (λ z. d (omega arith)) ∙ inv .args j (omega arith)
+      kept : (j : ℕ) → j < maxArity → (j ≡ k → ⊥) → argOf put 0 j ≡ argOf entry 0 j
+      kept j l d = is .arg j l ∙ put-other (argOf entry 0) k x j d
 
   pub renaming-end : arityOf run at ≤ k → entry ≡ entryOf (renumberBy (nameIn names) (transitionAt run at))
   unfolding entryOf

@@ -9,13 +9,19 @@ ghost use Rattle.format.specs.Format.{byteValues, transitionBytes};
 ghost use Rattle.sorted.specs.Sorted.{Written};
 ghost use Rattle.table.specs.Layout.{transitionAt, transitionsIn};
 ghost use Rattle.minimize.specs.Merged.{Named, chosen, entryOf, mergedBy, nameIn, zeros};
-use format::ARGS_AT;
-use format::ARITY_AT;
+use fields::arg_of;
+use fields::arity_of;
+use fields::blank_entry;
+use fields::label_of;
+use fields::out_of;
+use fields::put_arg;
+use fields::put_arity;
+use fields::put_label;
+use fields::put_out;
 use format::BYTE_PAIRS;
 use format::BYTE_VALUES;
-use format::OUT_AT;
 use format::TRANSITION_BYTES;
-use format::wide;
+use sorted::write;
 
 // No names. A function of its own, so that no other proof computes with so many bytes.
 pub fn no_names() -> [u8; BYTE_VALUES]
@@ -58,31 +64,19 @@ pub fn renamed(transitions: &[u8], at: usize, names: &[u8; BYTE_VALUES]) -> [u8;
     requires { ⌜ Readable (now transitions) at ⌝ }
     ensures { λ r. ⌜ r ≡ entryOf (renumberBy (nameIn (now (names .entry))) (transitionAt (now (transitions .entry)) at)) ⌝ }
 {
-    let mut entry = [0u8; TRANSITION_BYTES];
-    entry[0] = transitions[at];
-    entry[ARITY_AT] = transitions[at + ARITY_AT];
-    let out = wide(transitions[at + OUT_AT]);
-    entry[OUT_AT] = names[out];
-    let n = wide(transitions[at + ARITY_AT]);
+    let n = arity_of(transitions, at);
+    let out = out_of(transitions, at);
+    let mut entry = blank_entry();
+    put_label(&mut entry, label_of(transitions, at));
+    put_arity(&mut entry, n);
+    put_out(&mut entry, names[out]);
     let mut k = 0;
     while k < n {
-        let q = wide(transitions[at + ARGS_AT + k]);
-        entry[ARGS_AT + k] = names[q];
+        let q = arg_of(transitions, at, k);
+        put_arg(&mut entry, k, names[q]);
         k += 1;
     }
     entry
-}
-
-// Writes an entry over the bytes of a transitions from one on.
-pub fn put(transitions: &mut [u8], at: usize, entry: [u8; TRANSITION_BYTES])
-    requires { ⌜ at + transitionBytes ≤ length (now transitions) ⌝ }
-    ensures { λ _. ⌜ Written (now (transitions .entry)) (now (transitions .exit)) at entry ⌝ }
-{
-    let mut j = 0;
-    while j < TRANSITION_BYTES {
-        transitions[at + j] = entry[j];
-        j += 1;
-    }
 }
 
 // Renames the states of a transitions, and leaves out the transitions whose output is then 0: how many stay.
@@ -97,10 +91,10 @@ pub fn merge(transitions: &mut [u8], count: usize, names: &[u8; BYTE_VALUES]) ->
     while i < count {
         let entry = renamed(transitions, TRANSITION_BYTES * i, names);
         i += 1;
-        if entry[OUT_AT] == 0 {
+        if out_of(&entry, 0) == 0 {
             continue;
         }
-        put(transitions, TRANSITION_BYTES * kept, entry);
+        write(transitions, TRANSITION_BYTES * kept, entry);
         kept += 1;
     }
     kept

@@ -16,40 +16,24 @@ ghost use Rattle.table.specs.Layout.{transitionAt, transitionsIn};
 ghost use Rattle.minimize.specs.Merged.{nameIn};
 ghost use Rattle.minimize.specs.Numbering.{Grouped, NumberingHeld, NumbersOf, OtherGroup, Outputs, Settled};
 ghost use Rattle.minimize.specs.Numbering.{Unnumbered, improves, picked, readyBy};
-use format::ARGS_AT;
-use format::ARITY_AT;
+use fields::arg_of;
+use fields::arity_of;
+use fields::label_of;
+use fields::out_of;
 use format::BYTE_VALUES;
-use format::OUT_AT;
 use format::TRANSITION_BYTES;
-use format::wide;
-
-// Whether every argument of a transition has a number.
-fn args_numbered(transitions: &[u8], at: usize, numbers: &[u8; BYTE_VALUES]) -> bool
-    requires { ⌜ Readable (now transitions) at ⌝ }
-    ensures { λ r. ⌜ r ≡ every (marked (now (numbers .entry))) (transitionAt (now (transitions .entry)) at .args) ⌝ }
-{
-    let n = wide(transitions[at + ARITY_AT]);
-    let mut k = 0;
-    while k < n {
-        let q = wide(transitions[at + ARGS_AT + k]);
-        if numbers[q] == 0 {
-            return false;
-        }
-        k += 1;
-    }
-    true
-}
+use validity::args_marked;
 
 // Whether a transition's arguments have numbers and its output has none.
 fn ready(transitions: &[u8], at: usize, numbers: &[u8; BYTE_VALUES]) -> bool
     requires { ⌜ Readable (now transitions) at ⌝ }
     ensures { λ r. ⌜ r ≡ readyBy (now (numbers .entry)) (transitionAt (now (transitions .entry)) at) ⌝ }
 {
-    let out = wide(transitions[at + OUT_AT]);
+    let out = out_of(transitions, at);
     if numbers[out] != 0 {
         return false;
     }
-    args_numbered(transitions, at, numbers)
+    args_marked(transitions, at, numbers)
 }
 
 // Whether the first n arguments of one transition come before those of another, each as its number.
@@ -68,8 +52,8 @@ fn args_precede(
 {
     let mut k = 0;
     while k < n {
-        let p = wide(transitions[a + ARGS_AT + k]);
-        let q = wide(transitions[b + ARGS_AT + k]);
+        let p = arg_of(transitions, a, k);
+        let q = arg_of(transitions, b, k);
         let x = numbers[p];
         let y = numbers[q];
         if x != y {
@@ -87,10 +71,10 @@ fn precedes_by(transitions: &[u8], a: usize, b: usize, numbers: &[u8; BYTE_VALUE
     ensures { λ r. ⌜ r ≡ precedes (renumberBy (nameIn (now (numbers .entry))) (transitionAt (now (transitions .entry)) a))
         (renumberBy (nameIn (now (numbers .entry))) (transitionAt (now (transitions .entry)) b)) ⌝ }
 {
-    let n = wide(transitions[a + ARITY_AT]);
-    let m = wide(transitions[b + ARITY_AT]);
-    let first = wide(transitions[a]);
-    let second = wide(transitions[b]);
+    let n = arity_of(transitions, a);
+    let m = arity_of(transitions, b);
+    let first = label_of(transitions, a);
+    let second = label_of(transitions, b);
     if n != m {
         return n < m;
     }
@@ -138,12 +122,12 @@ fn other_group(transitions: &[u8], count: usize, best: usize, i: usize) -> bool
     if best == count {
         return false;
     }
-    if transitions[TRANSITION_BYTES * i + ARITY_AT]
-        != transitions[TRANSITION_BYTES * best + ARITY_AT]
+    if arity_of(transitions, TRANSITION_BYTES * i)
+        != arity_of(transitions, TRANSITION_BYTES * best)
     {
         return true;
     }
-    transitions[TRANSITION_BYTES * i] != transitions[TRANSITION_BYTES * best]
+    label_of(transitions, TRANSITION_BYTES * i) != label_of(transitions, TRANSITION_BYTES * best)
 }
 
 // The first ready transition; `count` where none is ready. Those before `start` are not.
@@ -187,7 +171,7 @@ fn first_unsettled(
 {
     let mut i = start;
     while i < count {
-        let out = wide(transitions[TRANSITION_BYTES * i + OUT_AT]);
+        let out = out_of(transitions, TRANSITION_BYTES * i);
         if numbers[out] == 0 {
             return i;
         }
@@ -215,10 +199,10 @@ pub fn number(
     let mut start = 0;
     let mut best = first_ready(transitions, start, count, numbers);
     while best < count {
-        let q = transitions[TRANSITION_BYTES * best + OUT_AT];
-        order[k] = q;
+        let q = out_of(transitions, TRANSITION_BYTES * best);
+        order[k] = q as u8;
         k += 1;
-        numbers[wide(q)] = k as u8;
+        numbers[q] = k as u8;
         start = first_unsettled(transitions, start, count, numbers);
         best = first_ready(transitions, start, count, numbers);
     }

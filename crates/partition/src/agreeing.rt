@@ -8,9 +8,10 @@ ghost use Rattle.sorted.specs.Sorted.{Sorted};
 ghost use Rattle.table.specs.Layout.{arityOf};
 ghost use Rattle.partition.specs.Parts.{SharedMarks, agreesAt, agreesPlace, agreesTransition, allAgree};
 use distinguish::stepped;
-use format::ARGS_AT;
+use fields::arg_of;
+use fields::arity_of;
+use fields::out_of;
 use format::BYTE_VALUES;
-use format::OUT_AT;
 use format::TRANSITION_BYTES;
 use format::wide;
 
@@ -31,11 +32,11 @@ fn agrees(
     requires { ⌜ q ≤ 255 ⌝ }
     ensures { λ r. ⌜ r ≡ agreesAt (now (transitions .entry)) count (printOf (now (prints .entry))) i k q ⌝ }
 {
-    let a = wide(transitions[TRANSITION_BYTES * i + ARGS_AT + k]);
+    let a = arg_of(transitions, TRANSITION_BYTES * i, k);
     if prints[q] != prints[a] {
         return true;
     }
-    let out = wide(transitions[TRANSITION_BYTES * i + OUT_AT]);
+    let out = out_of(transitions, TRANSITION_BYTES * i);
     let to = wide(stepped(transitions, count, n, i, k, (q % BYTE_VALUES) as u8));
     prints[to] == prints[out]
 }
@@ -84,7 +85,7 @@ fn place_agrees(
     requires { ⌜ SharedMarks (now prints) n (now shared) ⌝ }
     ensures { λ r. ⌜ r ≡ agreesPlace (now (transitions .entry)) count n (printOf (now (prints .entry))) i k ⌝ }
 {
-    let a = wide(transitions[TRANSITION_BYTES * i + ARGS_AT + k]);
+    let a = arg_of(transitions, TRANSITION_BYTES * i, k);
     if shared[a] == 0 {
         return true;
     }
@@ -107,7 +108,7 @@ fn transition_agrees(
     requires { ⌜ SharedMarks (now prints) n (now shared) ⌝ }
     ensures { λ r. ⌜ r ≡ agreesTransition (now (transitions .entry)) count n (printOf (now (prints .entry))) i ⌝ }
 {
-    let arity = wide(transitions[TRANSITION_BYTES * i + ARGS_AT - 1]);
+    let arity = arity_of(transitions, TRANSITION_BYTES * i);
     let mut k = 0;
     while k < arity {
         if !place_agrees(transitions, count, n, i, k, prints, shared) {

@@ -6,13 +6,12 @@ use Prim.Native.Nat.{_+_, _<_, _≤_, suc, zero, ℕ}
 use native.Mathlib.Nat.{sub-zero}
 use native.Mathlib.Omega.{arith}
 use lib.Dec.{eqb}
-use lib.ListN.{length, set}
-use lib.Seq.{getD-set-other, getD-set-same}
 use borrow.Author.Count.{below-more}
 use borrow.Author.Tests.{eqb-false, eqb-true, ne-eqb}
 use Rattle.automata.specs.Automaton.{Transition, lookup}
+use Rattle.fields.specs.Entries.{HasFields, putAt}
 use Rattle.fields.specs.Fields.{firstArgs}
-use Rattle.format.specs.Format.{maxArity, outAt, transitionBytes}
+use Rattle.format.specs.Format.{maxArity}
 use Rattle.lists.specs.Positions.{upFrom}
 use Rattle.lists.specs.Tests.{any, every}
 use Rattle.products.specs.Choices.{Chosen, ChosenFrom, ChosenWith, Entry, Escapes, Expands, Over, argsFrom}
@@ -21,11 +20,12 @@ use Rattle.products.specs.Growth.{Added, Is, Live, Outcome, Overflow, So
 use Rattle.products.specs.declared.Produced.{Produced}
 use Rattle.products.specs.declared.Produced.the-variants.{Transitions}
 use Rattle.table.specs.Layout.{argOf, arityOf, labelOf, outOf, transitionAt}
+use Rattle.fields.proofs.Entries.{fields-transition}
 use Rattle.lists.proofs.Loops.{upFrom-next, upFrom-none}
 use Rattle.lists.proofs.Positions.{in-upFrom}
 use Rattle.lists.proofs.Tests.{and-both, in-any}
 use Rattle.marking.proofs.Sweeps.{nonzero-true}
-use Rattle.products.proofs.Entries.{out-args, put-first, put-label, put-later, put-out}
+use Rattle.products.proofs.Entries.{put-first, put-later}
 use Rattle.products.proofs.Growing.{added-none, added-same, outcome-same, overflow-more, returned}
 
 module _ (cand : ℕ → ℕ → ℕ) (m : ℕ) where
@@ -74,28 +74,26 @@ module _ (cand : ℕ → ℕ → ℕ) (m : ℕ) where
             (x, l, (omega arith, (ps, h, q ∙ ap (λ i. firstArgs e 0 k ++ (i ∷ ps)) (sym c))))
 
     -- candidate x put into its place
-    module _ (narrow : arityOf e 0 ≤ maxArity) (size : length e ≡ transitionBytes) (x p : ℕ)
-        (is : p ≡ cand (argOf e 0 k) x) (some : p ≡ 0 → ⊥) where
-      abbrev next : List ℕ
-      next = set e (2 + k) p
-
+    module _ (narrow : arityOf e 0 ≤ maxArity) (x p : ℕ) (is : p ≡ cand (argOf e 0 k) x) (some : p ≡ 0 → ⊥)
+        {next : List ℕ}
+        (put : HasFields next (labelOf e 0) (arityOf e 0) (putAt (argOf e 0) k p) (outOf e 0)) where
       place : k < maxArity
       place = omega arith
 
       first : (ps : List ℕ) → firstArgs next 0 (k + 1) ++ ps ≡ firstArgs e 0 k ++ (cand (argOf e 0 k) x ∷ ps)
       first ps =
-          ap (λ l. l ++ ps) (put-first e k p place size) ∙ append-assoc (firstArgs e 0 k) (p ∷ []) ps ∙
+          ap (λ l. l ++ ps) (put-first e k p put place) ∙ append-assoc (firstArgs e 0 k) (p ∷ []) ps ∙
           ap (λ i. firstArgs e 0 k ++ (i ∷ ps)) is
 
       pub next-with : (qs : List ℕ) → ChosenFrom cand m next (k + 1) qs → ChosenWith cand m e k x qs
       next-with qs (ps, h, q) = (
         omega arith,
-        (ps, subst (λ (bs : List ℕ). Chosen cand m bs ps) (put-later e k p place) h, q ∙ first ps),
+        (ps, subst (λ (bs : List ℕ). Chosen cand m bs ps) (put-later e k p put narrow) h, q ∙ first ps),
       )
 
       pub with-next : (qs : List ℕ) → ChosenWith cand m e k x qs → ChosenFrom cand m next (k + 1) qs
       with-next qs (g, (ps, h, q)) =
-          (ps, subst (λ (bs : List ℕ). Chosen cand m bs ps) (sym (put-later e k p place)) h, q ∙ sym (first ps))
+          (ps, subst (λ (bs : List ℕ). Chosen cand m bs ps) (sym (put-later e k p put narrow)) h, q ∙ sym (first ps))
 
   -- ---- the first place
 
@@ -214,17 +212,18 @@ module _ (cand : ℕ → ℕ → ℕ) (m : ℕ) where
           Overflow (Over (ChosenFrom cand m e k) T e) s n
       over-many = overflow-more over-with
 
-      pub over-next : (narrow : arityOf e 0 ≤ maxArity) (size : length e ≡ transitionBytes) (x p : ℕ)
-          (is : p ≡ cand (argOf e 0 k) x) (some : p ≡ 0 → ⊥) → {s t : List ℕ} {n : ℕ} {r : Produced} →
-          Outcome (Over (ChosenFrom cand m (set e (2 + k) p) (k + 1)) T (set e (2 + k) p)) s t n r →
+      pub over-next : (narrow : arityOf e 0 ≤ maxArity) (x p : ℕ) (is : p ≡ cand (argOf e 0 k) x)
+          (some : p ≡ 0 → ⊥) → {next : List ℕ} →
+          HasFields next (labelOf e 0) (arityOf e 0) (putAt (argOf e 0) k p) (outOf e 0) →
+          {s t : List ℕ} {n : ℕ} {r : Produced} → Outcome (Over (ChosenFrom cand m next (k + 1)) T next) s t n r →
           Outcome (Over (ChosenWith cand m e k x) T e) s t n r
-      over-next narrow size x p is some =
+      over-next narrow x p is some {next} put =
           outcome-same
-          (λ τ (qs, c, q). (qs, next-with e k before narrow size x p is some qs c, q ∙ same qs))
-          (λ τ (qs, c, q). (qs, with-next e k before narrow size x p is some qs c, q ∙ sym (same qs)))
+          (λ τ (qs, c, q). (qs, next-with e k before narrow x p is some put qs c, q ∙ same qs))
+          (λ τ (qs, c, q). (qs, with-next e k before narrow x p is some put qs c, q ∙ sym (same qs)))
         where
-          same : (qs : List ℕ) → over T (transitionAt (set e (2 + k) p) 0) qs ≡ over T (transitionAt e 0) qs
-          same qs = let a = put-label e k p (omega arith) in let o = put-out e k p (omega arith) in
+          same : (qs : List ℕ) → over T (transitionAt next 0) qs ≡ over T (transitionAt e 0) qs
+          same qs = let a = put .label in let o = put .out in
               λ i. record { label = a i; args = qs; out = outOver T (a i) qs (o i) }
 
     pub over-first : (σ : Transition) → transitionAt e 0 ≡ σ → {s t : List ℕ} {n : ℕ} {r : Produced} →
@@ -240,19 +239,12 @@ module _ (T : List Transition) (e : List ℕ) (v : ℕ)
   pub finish-state : v ≡ 0 → over T (transitionAt e 0) (transitionAt e 0 .args) ≡ transitionAt e 0
   finish-state z = rw (sym is ∙ z)
 
-  pub finish-node : arityOf e 0 ≤ maxArity → length e ≡ transitionBytes → (v ≡ 0 → ⊥) →
-      transitionAt (set e outAt v) 0 ≡ over T (transitionAt e 0) (transitionAt e 0 .args)
-  finish-node narrow size h =
-      λ i. record { label = label i; args = out-args e v narrow i; out = out i }
-    where
-      label : labelOf (set e outAt v) 0 ≡ labelOf e 0
-      label = getD-set-other e outAt 0 v 0 (λ d. omega arith)
+  module _ (h : v ≡ 0 → ⊥) {node : List ℕ} (put : HasFields node (labelOf e 0) (arityOf e 0) (argOf e 0) v) where
+    pub finish-node : arityOf e 0 ≤ maxArity → transitionAt node 0 ≡ over T (transitionAt e 0) (transitionAt e 0 .args)
+    finish-node narrow =
+        let out : v ≡ outOver T (labelOf e 0) (transitionAt e 0 .args) (outOf e 0) = rw (← is) (rw (ne-eqb v 0 h)) in
+        fields-transition put narrow (over T (transitionAt e 0) (transitionAt e 0 .args)) refl refl (sym out)
 
-      out : outOf (set e outAt v) 0 ≡ outOver T (labelOf e 0) (transitionAt e 0 .args) (outOf e 0)
-      out = getD-set-same e outAt v 0 (omega arith) ∙ rw (← is) (rw (ne-eqb v 0 h))
-
-  pub finish-entry : length e ≡ transitionBytes → (v ≡ 0 → ⊥) → Entry e → Entry (set e outAt v)
-  finish-entry size h fits = record {
-    narrow = omega (arith, getD-set-other e outAt 1 v 0 (λ d. absurd (omega arith)), fits .narrow);
-    some = omega (arith, getD-set-same e outAt v 0 (omega arith));
-  }
+    pub finish-entry : Entry e → Entry node
+    finish-entry fits =
+        record { narrow = omega (arith, put .arity, fits .narrow); some = omega (arith, put .out, h) }

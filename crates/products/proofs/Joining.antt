@@ -77,9 +77,10 @@ Wanted run count n s T k τ =
 
 -- what code needs of the arrays
 pub lists-nodes : {A : Automaton} {t : Tree} {ts : List Tree} {s : Subtrees} → Lists A t ts s →
-    Nodes (s .count) (s .arities) (s .children)
+    Nodes (s .count) (s .labels) (s .arities) (s .children)
 lists-nodes h = record {
   few = h .few;
+  label = h .stored .label;
   narrow = h .stored .narrow;
   known = λ j k a b. omega (arith, h .few, h .stored .child-before j k a b);
 }

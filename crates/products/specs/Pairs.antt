@@ -9,7 +9,7 @@ use lib.ListN.{getD}
 use Rattle.automata.specs.Automaton.{Automaton, Transition}
 use Rattle.automata.specs.Change.{subtreeAutomaton, subtreeNumber, subtrees}
 use Rattle.automata.specs.Product.{accessiblePairs}
-use Rattle.format.specs.Format.{maxArity, maxNodes}
+use Rattle.format.specs.Format.{maxArity, maxLabel, maxNodes}
 use Rattle.lists.specs.Closure.{elem}
 use Rattle.lists.specs.Positions.{Pair, eqPair, upFrom}
 use Rattle.subtrees.specs.Store.{childAt, treeNumbered}
@@ -36,9 +36,10 @@ inUse A t ts n m q p =
 
 -- ---- subtrees as transitions
 
--- arrays of numbers of children and of child numbers hold m subtrees
-pub record Nodes (m : ℕ) (r c : List ℕ) : Type 0 where
+-- arrays of labels, numbers of children and child numbers hold m subtrees
+pub record Nodes (m : ℕ) (l r c : List ℕ) : Type 0 where
   pub few : m ≤ maxNodes
+  pub label : (j : ℕ) → j < m → getD l j 0 ≤ maxLabel
   pub narrow : (j : ℕ) → j < m → getD r j 0 ≤ maxArity
   pub known : (j k : ℕ) → j < m → k < getD r j 0 → childAt c j k ≤ maxNodes
 

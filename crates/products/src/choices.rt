@@ -9,8 +9,9 @@ ghost use Rattle.marking.specs.Marks.{marked};
 ghost use Rattle.sorted.specs.Sorted.{Sorted};
 ghost use Rattle.table.specs.Layout.{arityOf, labelOf, transitionsIn};
 ghost use Rattle.products.specs.Choices.{ChosenFrom, ChosenWith, Escapes, candidate, offered, offers};
-use format::ARGS_AT;
-use format::ARITY_AT;
+use fields::arg_of;
+use fields::arity_of;
+use fields::put_arg;
 use format::BYTE_VALUES;
 use format::MAX_NODES;
 use format::TRANSITION_BYTES;
@@ -79,10 +80,10 @@ pub fn all_offered(
     ensures { λ r. ⌜ r ≡ every (offered (candidate (marked (now (marks .entry))) (now (states .entry)) n) m entry)
         (upFrom 0 (arityOf entry 0)) ⌝ }
 {
-    let arity = wide(entry[ARITY_AT]);
+    let arity = arity_of(&entry, 0);
     let mut k = 0;
     while k < arity {
-        if !has_candidate(n, m, states, marks, entry[ARGS_AT + k]) {
+        if !has_candidate(n, m, states, marks, arg_of(&entry, 0, k) as u8) {
             return false;
         }
         k += 1;
@@ -110,7 +111,7 @@ pub fn escapes(
         (ChosenFrom (candidate (marked (now (marks .entry))) (now (states .entry)) n) m entry k)
         (transitionsIn (now (nodes .entry)) found) (labelOf entry 0) r ⌝ }
 {
-    if k == wide(entry[ARITY_AT]) {
+    if k == arity_of(&entry, 0) {
         return output(nodes, found, entry) == 0;
     }
     let mut x = 0;
@@ -145,11 +146,11 @@ fn escapes_with(
         (ChosenWith (candidate (marked (now (marks .entry))) (now (states .entry)) n) m entry k x)
         (transitionsIn (now (nodes .entry)) found) (labelOf entry 0) r ⌝ }
 {
-    let p = candidate(n, states, marks, entry[ARGS_AT + k], x);
+    let p = candidate(n, states, marks, arg_of(&entry, 0, k) as u8, x);
     if p == 0 {
         return false;
     }
     let mut next = entry;
-    next[ARGS_AT + k] = p;
+    put_arg(&mut next, k, p);
     escapes(n, m, states, nodes, found, marks, next, k + 1)
 }

@@ -1,5 +1,5 @@
-// The transitions of the product: those of the transitions over all choices for their arguments, and those of the subtrees
-// that transitions to no state.
+// The transitions of the product: those of the table over all choices for their arguments, and those of the subtrees
+// that run to no state.
 ghost use mathlib.Core.Path.{_≡_};
 ghost use Prim.Native.Nat.{_<_, _≤_};
 ghost use lib.ListN.{length};
@@ -16,15 +16,15 @@ use crate::choices::candidate;
 use crate::nodes::CHILD_NUMBERS;
 use crate::nodes::node_entry;
 use crate::nodes::put;
-use crate::reaching::transition;
-use format::ARGS_AT;
-use format::ARITY_AT;
+use fields::arg_of;
+use fields::arity_of;
+use fields::entry_at;
+use fields::put_arg;
+use fields::put_out;
 use format::BYTE_VALUES;
 use format::MAX_NODES;
 use format::MAX_PRODUCT;
-use format::OUT_AT;
 use format::TRANSITION_BYTES;
-use format::wide;
 use sorted::output;
 
 // Adds an entry to the scratch, where it has room for it.
@@ -65,7 +65,7 @@ fn finish(
         return emit(scratch, count, entry);
     }
     let mut node = entry;
-    node[OUT_AT] = number;
+    put_out(&mut node, number);
     emit(scratch, count, node)
 }
 
@@ -93,7 +93,7 @@ fn expand(
         (Over (ChosenFrom (candidate (marked (now (marks .entry))) (now (states .entry)) n) m entry k)
         (transitionsIn (now (nodes .entry)) found) entry) (now (scratch .entry)) (now (scratch .exit)) count r ⌝ }
 {
-    if k == wide(entry[ARITY_AT]) {
+    if k == arity_of(&entry, 0) {
         return finish(nodes, found, entry, scratch, count);
     }
     let mut made = count;
@@ -146,12 +146,12 @@ fn expand_with(
         (Over (ChosenWith (candidate (marked (now (marks .entry))) (now (states .entry)) n) m entry k x)
         (transitionsIn (now (nodes .entry)) found) entry) (now (scratch .entry)) (now (scratch .exit)) count r ⌝ }
 {
-    let p = candidate(n, states, marks, entry[ARGS_AT + k], x);
+    let p = candidate(n, states, marks, arg_of(&entry, 0, k) as u8, x);
     if p == 0 {
         return Produced::Transitions { count };
     }
     let mut next = entry;
-    next[ARGS_AT + k] = p;
+    put_arg(&mut next, k, p);
     expand(
         n,
         m,
@@ -166,7 +166,7 @@ fn expand_with(
     )
 }
 
-// Adds the transitions of a transitions over all choices for their arguments to an empty scratch.
+// Adds the transitions of the table over all choices for their arguments to an empty scratch.
 pub fn expand_all(
     transitions: &[u8],
     count: usize,
@@ -190,7 +190,7 @@ pub fn expand_all(
     let mut made = 0;
     let mut i = 0;
     while i < count {
-        let entry = transition(transitions, TRANSITION_BYTES * i);
+        let entry = entry_at(transitions, TRANSITION_BYTES * i);
         let Produced::Transitions { count: more } = expand(
             n,
             m,
@@ -215,7 +215,7 @@ pub fn expand_all(
 fn expand_node(
     n: usize,
     m: usize,
-    labels: &[u8; MAX_NODES],
+    labels: &[u16; MAX_NODES],
     arities: &[u8; MAX_NODES],
     children: &[u8; CHILD_NUMBERS],
     states: &[u8; MAX_NODES],
@@ -224,7 +224,7 @@ fn expand_node(
     count: usize,
 ) -> Produced
     requires { ⌜ n ≤ maxStates ⌝ }
-    requires { ⌜ Nodes m (now arities) (now children) ⌝ }
+    requires { ⌜ Nodes m (now labels) (now arities) (now children) ⌝ }
     requires { ⌜ j < m ⌝ }
     requires { ⌜ Live (now scratch) count ⌝ }
     requires { ⌜ length (now scratch) ≡ scratchBytes ⌝ }
@@ -239,11 +239,11 @@ fn expand_node(
     emit(scratch, count, entry)
 }
 
-// Adds the transitions of all subtrees that transitions to no state.
+// Adds the transitions of all subtrees that run to no state.
 pub fn expand_lost(
     n: usize,
     m: usize,
-    labels: &[u8; MAX_NODES],
+    labels: &[u16; MAX_NODES],
     arities: &[u8; MAX_NODES],
     children: &[u8; CHILD_NUMBERS],
     states: &[u8; MAX_NODES],
@@ -251,7 +251,7 @@ pub fn expand_lost(
     count: usize,
 ) -> Produced
     requires { ⌜ n ≤ maxStates ⌝ }
-    requires { ⌜ Nodes m (now arities) (now children) ⌝ }
+    requires { ⌜ Nodes m (now labels) (now arities) (now children) ⌝ }
     requires { ⌜ Live (now scratch) count ⌝ }
     requires { ⌜ length (now scratch) ≡ scratchBytes ⌝ }
     ensures { λ r. ⌜ Outcome

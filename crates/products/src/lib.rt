@@ -38,7 +38,7 @@ pub fn product(
 ) -> Produced
     requires { ⌜ HasTransitionsOver (now transitions) count n ⌝ }
     requires { ⌜ n ≤ maxStates ⌝ }
-    requires { ⌜ Nodes (s .count) (s .arities) (s .children) ⌝ }
+    requires { ⌜ Nodes (s .count) (s .labels) (s .arities) (s .children) ⌝ }
     requires { ⌜ length (now scratch) ≡ scratchBytes ⌝ }
     ensures { λ r. ⌜ ((A : Automaton) (t : Tree) → Holds A t (now (transitions .entry)) count n s →
         Answers A t n s (now (scratch .exit)) r) ⌝ }

@@ -7,18 +7,20 @@ ghost use Rattle.table.specs.Layout.{transitionAt};
 ghost use Rattle.products.specs.Choices.{Entry};
 ghost use Rattle.products.specs.Growth.{Added, Is, Live, SomeBelow};
 ghost use Rattle.products.specs.Pairs.{NodeAt, Nodes, nodeTransition};
-use format::ARGS_AT;
-use format::ARITY_AT;
+use fields::blank_entry;
+use fields::put_arg;
+use fields::put_arity;
+use fields::put_label;
+use fields::put_out;
 use format::MAX_ARITY;
 use format::MAX_NODES;
-use format::OUT_AT;
 use format::TRANSITION_BYTES;
 use format::wide;
 use sorted::insert;
 
 pub const CHILD_NUMBERS: usize = MAX_NODES * MAX_ARITY;
 
-// A transitions with room for each subtree.
+// Room for the transition of each subtree.
 pub const NODE_RUN: usize = TRANSITION_BYTES * MAX_NODES;
 
 // Inserts an entry unless its key is there already. Answers the number of transitions.
@@ -40,27 +42,27 @@ pub fn put(transitions: &mut [u8], count: usize, entry: [u8; TRANSITION_BYTES]) 
 pub fn node_entry(
     n: usize,
     m: usize,
-    labels: &[u8; MAX_NODES],
+    labels: &[u16; MAX_NODES],
     arities: &[u8; MAX_NODES],
     children: &[u8; CHILD_NUMBERS],
     j: usize,
 ) -> [u8; TRANSITION_BYTES]
     requires { ⌜ n ≤ maxStates ⌝ }
-    requires { ⌜ Nodes m (now arities) (now children) ⌝ }
+    requires { ⌜ Nodes m (now labels) (now arities) (now children) ⌝ }
     requires { ⌜ j < m ⌝ }
     ensures { λ r. ⌜ transitionAt r 0 ≡
         nodeTransition n (now (labels .entry)) (now (arities .entry)) (now (children .entry)) j ⌝ }
     ensures { λ r. ⌜ Entry r ⌝ }
 {
-    let mut entry = [0u8; TRANSITION_BYTES];
-    entry[0] = labels[j];
-    entry[ARITY_AT] = arities[j];
-    entry[OUT_AT] = (n + j + 1) as u8;
     let arity = wide(arities[j]);
+    let mut entry = blank_entry();
+    put_label(&mut entry, labels[j]);
+    put_arity(&mut entry, arity);
+    put_out(&mut entry, (n + j + 1) as u8);
     let mut k = 0;
     while k < arity {
         let child = wide(children[MAX_ARITY * j + k]);
-        entry[ARGS_AT + k] = (n + child) as u8;
+        put_arg(&mut entry, k, (n + child) as u8);
         k += 1;
     }
     entry
@@ -70,13 +72,13 @@ pub fn node_entry(
 pub fn list_nodes(
     n: usize,
     m: usize,
-    labels: &[u8; MAX_NODES],
+    labels: &[u16; MAX_NODES],
     arities: &[u8; MAX_NODES],
     children: &[u8; CHILD_NUMBERS],
     transitions: &mut [u8],
 ) -> usize
     requires { ⌜ n ≤ maxStates ⌝ }
-    requires { ⌜ Nodes m (now arities) (now children) ⌝ }
+    requires { ⌜ Nodes m (now labels) (now arities) (now children) ⌝ }
     requires { ⌜ length (now transitions) ≡ transitionBytes * maxNodes ⌝ }
     ensures { λ r. ⌜ Added (SomeBelow (NodeAt n (now (labels .entry)) (now (arities .entry)) (now (children .entry))) m)
         (now (transitions .entry)) (now (transitions .exit)) 0 r ⌝ }

@@ -6,30 +6,16 @@ ghost use lib.ListN.{length};
 ghost use Rattle.fields.specs.Fields.{Readable, HasTransitions};
 ghost use Rattle.format.specs.Format.{byteValues, maxNodes, maxStates, transitionBytes};
 ghost use Rattle.sorted.specs.Sorted.{Sorted};
-ghost use Rattle.table.specs.Layout.{transitionAt, transitionsIn};
+ghost use Rattle.table.specs.Layout.{transitionsIn};
 ghost use Rattle.marking.specs.Spread.{Spread, UpTo};
 ghost use Rattle.products.specs.Reached.{Reached, nthReaches};
 use crate::choices::all_offered;
 use crate::choices::escapes;
+use fields::entry_at;
+use fields::out_of;
 use format::BYTE_VALUES;
 use format::MAX_NODES;
-use format::OUT_AT;
 use format::TRANSITION_BYTES;
-use format::wide;
-
-// The bytes of a transition.
-pub fn transition(transitions: &[u8], at: usize) -> [u8; TRANSITION_BYTES]
-    requires { ⌜ Readable (now transitions) at ⌝ }
-    ensures { λ r. ⌜ transitionAt r 0 ≡ transitionAt (now (transitions .entry)) at ⌝ }
-{
-    let mut entry = [0u8; TRANSITION_BYTES];
-    let mut k = 0;
-    while k < TRANSITION_BYTES {
-        entry[k] = transitions[at + k];
-        k += 1;
-    }
-    entry
-}
 
 // Marks the output of transition i where choices for its arguments make no subtree. Answers whether the mark is new.
 fn mark(
@@ -51,8 +37,8 @@ fn mark(
         (nthReaches (now (transitions .entry)) (now (states .entry)) n m (transitionsIn (now (nodes .entry)) found) i)
         (now (marks .entry)) (now (marks .exit)) r ⌝ }
 {
-    let entry = transition(transitions, TRANSITION_BYTES * i);
-    let q = wide(entry[OUT_AT]);
+    let entry = entry_at(transitions, TRANSITION_BYTES * i);
+    let q = out_of(&entry, 0);
     if marks[q] != 0 {
         return false;
     }

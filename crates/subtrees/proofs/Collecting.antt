@@ -54,6 +54,7 @@ nothing-stored A l r c q = record {
   child-some = λ j k h. absurd (omega arith);
   child-before = λ j k h. absurd (omega arith);
   child-beyond = λ j k h. absurd (omega arith);
+  label = λ j h. absurd (omega arith);
   state = λ j h. absurd (omega arith);
 }
 

@@ -13,7 +13,7 @@ use lib.Seq.{getD-at, getD-set-other, getD-set-same, getD-take, length-take-le}
 use borrow.Author.Count.{below-more}
 use borrow.Author.Tests.{eq-eqb, eqb-true}
 use Rattle.automata.specs.Automaton.{Automaton, Transition, run, runs}
-use Rattle.format.specs.Format.{maxArity, maxNodes}
+use Rattle.format.specs.Format.{maxArity, maxLabel, maxNodes}
 use Rattle.lists.specs.Positions.{upFrom}
 use Rattle.lists.specs.Tests.{_∈_, every}
 use Rattle.subtrees.specs.Steps.{Children, ChildrenStored, Entered, Filled, First, Sized, addLast, childState}
@@ -169,7 +169,7 @@ module _ {A : Automaton} {ts : List Tree} {n : ℕ} {l r c q : List ℕ} (st : S
             sym (getD-map (stateNumbered q) (take k ns) i 0 0 (omega (arith, children-length ch eight)))) ∙
             numbered-runs A ts q (λ j h. st .state j (omega (arith, st .size))) (take k ns) known-among
 
-    module _ (sz : Sized l r c q) (room : n < maxNodes) {c' : List ℕ} (cs : ChildrenStored c n ns c') {v : ℕ}
+    module _ (sz : Sized l r c q) (room : n < maxNodes) (small : a ≤ maxLabel) {c' : List ℕ} (cs : ChildrenStored c n ns c') {v : ℕ}
         (right : v ≡ run A entrant) (missing : entrant ∈ ts → ⊥) where
       kept : (s : List ℕ) (w j : ℕ) → j < n → getD (set s n w) j 0 ≡ getD s j 0
       kept s w j h = getD-set-other s n j w 0 (λ e. omega arith)
@@ -211,6 +211,8 @@ module _ {A : Automaton} {ts : List Tree} {n : ℕ} {l r c q : List ℕ} (st : S
         distinct = append-distinct ts (entrant ∷ []) (st .distinct) (λ i. i, tt) apart;
         tree = below-more (λ j. getD more j noTree ≡ node (getD (set l n a) j 0)
             (treesNumbered more (childNumbers (set r n k) c' j))) n tree-old tree-new;
+        label = below-more (λ j. getD (set l n a) j 0 ≤ maxLabel) n (λ j h. rw (kept l a j h) (st .label j h))
+            (rw (getD-set-same l n a 0 (omega (arith, sz .labels))) small);
         narrow = below-more (λ j. getD (set r n k) j 0 ≤ maxArity) n
             (λ j h. rw (kept r k j h) (st .narrow j h)) (rw new-arity (ch .narrow));
         child-some = λ j i h. below-more (λ j. i < getD (set r n k) j 0 → 1 ≤ childAt c' j i) n

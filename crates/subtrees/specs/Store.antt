@@ -7,7 +7,7 @@ use Prim.Native.Nat.{_*_, _+_, _-_, _<_, _≤_, ℕ}
 use lib.ListN.{getD, length}
 use Rattle.automata.specs.Automaton.{Automaton, run}
 use Rattle.automata.specs.Change.{subtrees}
-use Rattle.format.specs.Format.{maxArity, maxNodes}
+use Rattle.format.specs.Format.{maxArity, maxLabel, maxNodes}
 use Rattle.lists.specs.Positions.{upFrom}
 use Rattle.lists.specs.Tests.{Distinct, _∈_}
 use Rattle.subtrees.specs.declared.Subtrees.{Subtrees}
@@ -47,6 +47,7 @@ pub record Stored (A : Automaton) (ts : List Tree) (n : ℕ) (l r c q : List ℕ
   pub size : length ts ≡ n
   pub distinct : Distinct ts
   pub tree : (j : ℕ) → j < n → getD ts j noTree ≡ node (getD l j 0) (treesNumbered ts (childNumbers r c j))
+  pub label : (j : ℕ) → j < n → getD l j 0 ≤ maxLabel
   pub narrow : (j : ℕ) → j < n → getD r j 0 ≤ maxArity
   pub child-some : (j k : ℕ) → j < n → k < getD r j 0 → 1 ≤ childAt c j k
   pub child-before : (j k : ℕ) → j < n → k < getD r j 0 → childAt c j k ≤ j

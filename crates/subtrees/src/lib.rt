@@ -7,7 +7,7 @@ ghost use lib.Dec.{eqb};
 ghost use lib.ListN.{length, take};
 ghost use Rattle.automata.specs.Automaton.{Automaton, lookup};
 ghost use Rattle.fields.specs.Fields.{HasTransitions};
-ghost use Rattle.format.specs.Format.{maxArity, maxNodes};
+ghost use Rattle.format.specs.Format.{maxArity, maxLabel, maxNodes};
 ghost use Rattle.lists.specs.Positions.{byteFrom, upFrom};
 ghost use Rattle.lists.specs.Tests.{any, every};
 ghost use Rattle.table.specs.Layout.{transitionsIn};
@@ -18,11 +18,12 @@ ghost use Rattle.subtrees.specs.Steps.{childState, sameChild, sameNode, 
 ghost use Rattle.subtrees.specs.Store.{Lists, Stored, bottomUp, treesNumbered};
 use fields::Found;
 use fields::find;
-use format::LABEL_BYTES;
 use format::MAX_ARITY;
 use format::MAX_NODES;
 use format::NODE_BYTES;
 use format::wide;
+use listing::children_at;
+use listing::label_at;
 
 const CHILD_NUMBERS: usize = MAX_NODES * MAX_ARITY;
 
@@ -30,7 +31,7 @@ const CHILD_NUMBERS: usize = MAX_NODES * MAX_ARITY;
 pub struct Subtrees {
     pub count: usize,
     pub root: u8,
-    pub labels: [u8; MAX_NODES],
+    pub labels: [u16; MAX_NODES],
     pub arities: [u8; MAX_NODES],
     pub children: [u8; CHILD_NUMBERS],
     pub states: [u8; MAX_NODES],
@@ -80,11 +81,11 @@ fn same_children(
 
 // Whether the subtree at index j has this label and these children.
 fn same_node(
-    labels: &[u8; MAX_NODES],
+    labels: &[u16; MAX_NODES],
     arities: &[u8; MAX_NODES],
     children: &[u8; CHILD_NUMBERS],
     j: usize,
-    label: u8,
+    label: u16,
     arity: u8,
     numbers: [u8; MAX_ARITY],
 ) -> bool
@@ -104,11 +105,11 @@ fn same_node(
 
 // The index of the subtree with this label and these children; found where there is none.
 fn search(
-    labels: &[u8; MAX_NODES],
+    labels: &[u16; MAX_NODES],
     arities: &[u8; MAX_NODES],
     children: &[u8; CHILD_NUMBERS],
     found: usize,
-    label: u8,
+    label: u16,
     arity: u8,
     numbers: [u8; MAX_ARITY],
 ) -> usize
@@ -158,7 +159,7 @@ fn some_none(arity: usize, args: [u8; MAX_ARITY]) -> bool
 }
 
 // The output of the first transition with this label and these arguments; 0 where there is none.
-fn output(transitions: &[u8], count: usize, label: u8, arity: usize, args: [u8; MAX_ARITY]) -> u8
+fn output(transitions: &[u8], count: usize, label: u16, arity: usize, args: [u8; MAX_ARITY]) -> u8
     requires { ⌜ HasTransitions (now transitions) count ⌝ }
     requires { ⌜ arity ≤ maxArity ⌝ }
     ensures { λ r. ⌜ r ≡ lookup label (take arity args) (transitionsIn (now (transitions .entry)) count) ⌝ }
@@ -170,7 +171,7 @@ fn output(transitions: &[u8], count: usize, label: u8, arity: usize, args: [u8; 
 }
 
 // The state of a node with this label whose children have these states.
-fn state(transitions: &[u8], count: usize, label: u8, arity: usize, args: [u8; MAX_ARITY]) -> u8
+fn state(transitions: &[u8], count: usize, label: u16, arity: usize, args: [u8; MAX_ARITY]) -> u8
     requires { ⌜ HasTransitions (now transitions) count ⌝ }
     requires { ⌜ arity ≤ maxArity ⌝ }
     ensures { λ r. ⌜ r ≡ stateFrom (transitionsIn (now (transitions .entry)) count) label (take arity args) ⌝ }
@@ -197,18 +198,19 @@ fn store_children(children: &mut [u8; CHILD_NUMBERS], j: usize, numbers: [u8; MA
 fn enter(
     transitions: &[u8],
     count: usize,
-    labels: &mut [u8; MAX_NODES],
+    labels: &mut [u16; MAX_NODES],
     arities: &mut [u8; MAX_NODES],
     children: &mut [u8; CHILD_NUMBERS],
     states: &mut [u8; MAX_NODES],
     found: usize,
-    label: u8,
+    label: u16,
     arity: u8,
     numbers: [u8; MAX_ARITY],
 ) -> Place
     requires { ⌜ HasTransitions (now transitions) count ⌝ }
     requires { ⌜ Sized (now labels) (now arities) (now children) (now states) ⌝ }
     requires { ⌜ found < maxNodes ⌝ }
+    requires { ⌜ label ≤ maxLabel ⌝ }
     requires { ⌜ Children numbers arity found ⌝ }
     ensures { λ r. ⌜ Sized (now (labels .exit)) (now (arities .exit)) (now (children .exit)) (now (states .exit)) ⌝ }
     ensures { λ r. ⌜ NumberGiven found (r .found) (r .number) ⌝ }
@@ -246,7 +248,7 @@ pub fn collect(tree: &[u8], transitions: &[u8], count: usize) -> Subtrees
     ensures { λ r. ⌜ ((A : Automaton) → A .transitions ≡ transitionsIn (now (transitions .entry)) count →
         Lists A (readTree (now (tree .entry))) (bottomUp (readTree (now (tree .entry)))) r) ⌝ }
 {
-    let mut labels = [0u8; MAX_NODES];
+    let mut labels = [0u16; MAX_NODES];
     let mut arities = [0u8; MAX_NODES];
     let mut children = [0u8; CHILD_NUMBERS];
     let mut states = [0u8; MAX_NODES];
@@ -256,8 +258,8 @@ pub fn collect(tree: &[u8], transitions: &[u8], count: usize) -> Subtrees
     let mut i = tree.len() / NODE_BYTES;
     while i > 0 {
         i -= 1;
-        let label = tree[NODE_BYTES * i];
-        let arity = tree[NODE_BYTES * i + LABEL_BYTES];
+        let label = label_at(tree, i);
+        let arity = children_at(tree, i);
         let width = wide(arity);
         let numbers = popped(&stack, top, width);
         let place = enter(

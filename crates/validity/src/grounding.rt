@@ -15,7 +15,7 @@ use crate::marks::args_marked;
 use crate::ranks::depth_first;
 use crate::ranks::numbers;
 use crate::ranks::ranks_rise;
-use crate::transitions::out_of;
+use fields::out_of;
 use format::BYTE_VALUES;
 use format::TRANSITION_BYTES;
 

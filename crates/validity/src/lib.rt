@@ -1,6 +1,5 @@
-// Conditions 9 to 11 and 13 of a table, each an equation with its definition. A run holds `count` transitions over
-// the states 1 to n; it stands in a table or in a scratch. `classes` has the class of state q at byte q.
-mod transitions; // fields of one transition as numbers
+// Conditions 9 to 11 and 13 of a table, each an equation with its definition. `transitions` holds `count` transitions
+// over the states 1 to n, and stands in a table or in a scratch. `classes` has the class of state q at byte q.
 mod marks; // a mark for each state
 mod numbering; // condition 13
 mod reaching; // condition 9
@@ -9,6 +8,7 @@ mod ranks; // numbers that rise from arguments to outputs
 mod grounding; // condition 11
 
 pub use grounding::acyclic;
+pub use marks::args_marked;
 pub use numbering::numbered;
 pub use reaching::all_accessible;
 pub use usefulness::all_coaccessible;

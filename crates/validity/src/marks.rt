@@ -9,8 +9,8 @@ ghost use Rattle.table.specs.Layout.{transitionAt};
 ghost use Rattle.fields.specs.Fields.{Readable};
 ghost use Rattle.marking.specs.Spread.{Has, Spread};
 ghost use Rattle.format.specs.Format.{byteValues};
-use crate::transitions::arg_of;
-use crate::transitions::arity_of;
+use fields::arg_of;
+use fields::arity_of;
 use format::BYTE_VALUES;
 
 // Whether the states from one up to, not including, another are all marked.

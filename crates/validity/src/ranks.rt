@@ -9,13 +9,14 @@ ghost use Rattle.format.specs.Format.{byteValues, maxProduct};
 ghost use Rattle.lists.specs.Tests.{every};
 ghost use Rattle.table.specs.Layout.{transitionAt, transitionsIn};
 ghost use Rattle.validity.specs.Ranks.{rankOf, risesBy};
-use crate::transitions::arg_of;
-use crate::transitions::arity_of;
-use crate::transitions::out_of;
+use fields::arg_of;
+use fields::arity_of;
+use fields::out_of;
 use format::BYTE_VALUES;
 use format::MAX_PRODUCT;
 use format::TRANSITION_BYTES;
 use format::wide;
+use format::widened;
 
 // A state that is being ranked has this rank until its own is known.
 const SEEN: u8 = 255;
@@ -86,13 +87,6 @@ fn link(
         i += 1;
         first[out] = i as u16;
     }
-}
-
-// A number of 16 bits as an index.
-fn widened(x: u16) -> usize
-    ensures { λ r. ⌜ r ≡ x ⌝ }
-{
-    x as usize
 }
 
 // The first transition into q that is left, as its number from 1; 0 where there is none.

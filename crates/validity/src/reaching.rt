@@ -11,7 +11,7 @@ ghost use Rattle.marking.specs.Spread.{Spread, UpTo};
 ghost use Rattle.format.specs.Format.{byteValues};
 use crate::marks::all_marked;
 use crate::marks::args_marked;
-use crate::transitions::out_of;
+use fields::out_of;
 use format::BYTE_VALUES;
 use format::TRANSITION_BYTES;
 

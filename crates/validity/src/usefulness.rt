@@ -17,9 +17,9 @@ ghost use Rattle.validity.specs.Spread.{Exactly};
 ghost use Rattle.format.specs.Format.{byteValues};
 use crate::marks::all_marked;
 use crate::marks::mark;
-use crate::transitions::arg_of;
-use crate::transitions::arity_of;
-use crate::transitions::out_of;
+use fields::arg_of;
+use fields::arity_of;
+use fields::out_of;
 use format::BYTE_VALUES;
 use format::TRANSITION_BYTES;
 

@@ -1,11 +1,13 @@
+use mathlib.Core.Path.{ap₂, _∙_, sym}
+use lib.Dec.{ltb}
 -- `fields::args_precede` meets its contract: the answer is that of the arguments left.
-use Prim.Native.Nat.{_-_}
-use native.Mathlib.Omega.{arith}
-use borrow.Author.Needs.{needs}
-use Rattle.automata.specs.Order.{lex}
-use Rattle.fields.specs.Fields.{firstArgs}
-use Rattle.table.specs.Layout.{argOf}
 use Rattle.fields.proofs.Searching.{LexFrom, lex-decided, lex-end, lex-next, lex-start}
+use Rattle.table.specs.Layout.{argOf}
+use Rattle.fields.specs.Fields.{firstArgs}
+use Rattle.automata.specs.Order.{lex}
+use native.Mathlib.Omega.{arith}
+use Prim.Native.Nat.{_-_}
+use borrow.Author.Needs.{needs}
 use Rattle.fields.proofs.args_precede.Statement.{statement}
 use Rattle.fields.proofs.args_precede.Tie as tie
 
@@ -19,26 +21,17 @@ abbrev μ-loop : tie.MeasureT-loop
 loop-holds : tie.Need-loop-holds Inv-loop μ-loop
 loop-holds c = lex-start
 
-add-x : tie.Need-add-x Inv-loop μ-loop
-add-x c = search needs
+arg-of-requires : tie.Need-arg-of-requires Inv-loop μ-loop
+arg-of-requires c κs = search needs
 
-add-x-2 : tie.Need-add-x-2 Inv-loop μ-loop
-add-x-2 c = search needs
-
-shared-slice-read-x : tie.Need-shared-slice-read-x Inv-loop μ-loop
-shared-slice-read-x c = search needs
-
-add-y : tie.Need-add-y Inv-loop μ-loop
-add-y c = search needs
-
-add-y-2 : tie.Need-add-y-2 Inv-loop μ-loop
-add-y-2 c = search needs
-
-shared-slice-read-y : tie.Need-shared-slice-read-y Inv-loop μ-loop
-shared-slice-read-y c = search needs
+arg-of-requires-2 : tie.Need-arg-of-requires-2 Inv-loop μ-loop
+arg-of-requires-2 c κs = search needs
 
 returns : tie.Need-returns Inv-loop μ-loop
-returns c = lex-decided (c .before .before .before .before .loop .inv) (omega arith) (c .if1 .taken)
+returns c =
+    let x = c .before .before .arg-of .ensures .0 in
+    let y = c .before .arg-of2 .ensures .0 in
+    ap₂ ltb x y ∙ lex-decided (c .before .before .before .before .loop .inv) (omega arith) (λ e. (c .if1) .taken (x ∙ e ∙ sym y))
 
 add-k : tie.Need-add-k Inv-loop μ-loop
 add-k c = search needs
@@ -47,7 +40,8 @@ loop-less : tie.Need-loop-less Inv-loop μ-loop
 loop-less c = search needs
 
 loop-again : tie.Need-loop-again Inv-loop μ-loop
-loop-again c = lex-next (c .before .before .before .before .loop .inv) (omega arith) (c .if1 .left)
+loop-again c =
+    lex-next (c .before .before .before .before .loop .inv) (omega arith) (sym (c .before .before .arg-of .ensures .0) ∙ c .if1 .left ∙ c .before .arg-of2 .ensures .0)
 
 returns-2 : tie.Need-returns-2 Inv-loop μ-loop
 returns-2 c = lex-end (c .before .loop .inv) (omega arith)
@@ -59,12 +53,8 @@ args-precede-spec =
     Inv-loop
     μ-loop
     loop-holds
-    add-x
-    add-x-2
-    shared-slice-read-x
-    add-y
-    add-y-2
-    shared-slice-read-y
+    arg-of-requires
+    arg-of-requires-2
     returns
     add-k
     loop-less

@@ -1,14 +1,14 @@
+use Rattle.format.specs.Format.{transitionBytes}
 -- `fields::find` meets its contract: what the search finds is what it finds among the transitions left.
-use mathlib.Core.Path.{_∙_, sym}
-use Prim.Native.Nat.{_*_, _-_, _≤_}
-use native.Mathlib.Omega.{arith}
-use lib.ListN.{length, take}
-use borrow.Author.Needs.{needs}
-use Rattle.automata.specs.Automaton.{lookup, matches}
-use Rattle.lists.specs.Tests.{any}
+use Rattle.fields.proofs.Searching.{AgreeTo, SearchFrom, agree-next, agree-start, alike, search-end, search-hit, search-passed, search-start, unlike-arg, unlike-arity, unlike-label}
 use Rattle.table.specs.Layout.{transitionsIn}
-use Rattle.fields.proofs.Searching.{AgreeTo, SearchFrom, agree-next, agree-start, alike, search-end, search-hit}
-use Rattle.fields.proofs.Searching.{search-passed, search-start, unlike-arg, unlike-arity, unlike-label}
+use Rattle.lists.specs.Tests.{any}
+use Rattle.automata.specs.Automaton.{lookup, matches}
+use lib.ListN.{length, take}
+use native.Mathlib.Omega.{arith}
+use Prim.Native.Nat.{_*_, _-_, _≤_}
+use mathlib.Core.Path.{_∙_, sym}
+use borrow.Author.Needs.{needs}
 use Rattle.fields.proofs.find.Statement.{statement}
 use Rattle.fields.proofs.find.Tie as tie
 
@@ -38,8 +38,8 @@ mul-at c = search needs
 add-i : tie.Need-add-i Inv-args2 μ-args2 Inv-search μ-search
 add-i c = search needs
 
-shared-slice-read-if2 : tie.Need-shared-slice-read-if2 Inv-args2 μ-args2 Inv-search μ-search
-shared-slice-read-if2 c = search needs
+label-of-requires : tie.Need-label-of-requires Inv-args2 μ-args2 Inv-search μ-search
+label-of-requires c κs = search needs
 
 search-less : tie.Need-search-less Inv-args2 μ-args2 Inv-search μ-search
 search-less c = search needs
@@ -49,47 +49,38 @@ search-again c =
     let start = c .before .before .before .before .before in
     let enough : start .args .arity ≤ length (start .args .t5) = omega arith in
     search-passed (c .before .before .before .search .inv) (omega arith)
-    (unlike-label (start .args .transitions .now) (11 * c .before .before .before .search .i) (start .args .label)
-    (start .args .arity) (start .args .t5) enough (c .if2 .taken))
+    (unlike-label (start .args .transitions .now) (transitionBytes * (c .before .before .before .search) .i) (start .args .label)
+    (start .args .arity) (start .args .t5) enough (λ e. (c .if2) .taken (c .before .label-of .ensures .0 ∙ e)))
 
-add-wide : tie.Need-add-wide Inv-args2 μ-args2 Inv-search μ-search
-add-wide c = search needs
-
-shared-slice-read-wide : tie.Need-shared-slice-read-wide Inv-args2 μ-args2 Inv-search μ-search
-shared-slice-read-wide c = search needs
-
-wide-requires : tie.Need-wide-requires Inv-args2 μ-args2 Inv-search μ-search
-wide-requires c κs = search needs
+arity-of-requires : tie.Need-arity-of-requires Inv-args2 μ-args2 Inv-search μ-search
+arity-of-requires c κs = search needs
 
 search-less-2 : tie.Need-search-less-2 Inv-args2 μ-args2 Inv-search μ-search
 search-less-2 c = search needs
 
 search-again-2 : tie.Need-search-again-2 Inv-args2 μ-args2 Inv-search μ-search
 search-again-2 c =
-    let start = c .before .before .before .before .before .before .before .before in
+    let start = c .before .before .before .before .before .before .before in
     let enough : start .args .arity ≤ length (start .args .t5) = omega arith in
-    search-passed (c .before .before .before .before .before .before .search .inv) (omega arith)
-    (unlike-arity (start .args .transitions .now) (11 * c .before .before .before .before .before .before .search .i)
+    search-passed (c .before .before .before .before .before .search .inv) (omega arith)
+    (unlike-arity (start .args .transitions .now) (11 * c .before .before .before .before .before .search .i)
     (start .args .label) (start .args .arity) (start .args .t5) enough
-    (λ e. c .if3 .taken (c .before .wide .ensures ∙ e)))
+    (λ e. c .if3 .taken (c .before .arity-of .ensures ∙ e)))
 
 args2-holds : tie.Need-args2-holds Inv-args2 μ-args2 Inv-search μ-search
 args2-holds c =
-    let start = c .before .before .before .before .before .before .before .before in
-    agree-start (start .args .transitions .now) (11 * c .before .before .before .before .before .before .search .i)
+    let start = c .before .before .before .before .before .before .before in
+    agree-start (start .args .transitions .now) (11 * c .before .before .before .before .before .search .i)
     (start .args .arity) (start .args .t5)
 
-add-if4 : tie.Need-add-if4 Inv-args2 μ-args2 Inv-search μ-search
-add-if4 c = search needs
+arg-of-requires : tie.Need-arg-of-requires Inv-args2 μ-args2 Inv-search μ-search
+arg-of-requires c κs = search needs
 
-add-if4-2 : tie.Need-add-if4-2 Inv-args2 μ-args2 Inv-search μ-search
-add-if4-2 c = search needs
+array-read-wide : tie.Need-array-read-wide Inv-args2 μ-args2 Inv-search μ-search
+array-read-wide c = search needs
 
-shared-slice-read-if4 : tie.Need-shared-slice-read-if4 Inv-args2 μ-args2 Inv-search μ-search
-shared-slice-read-if4 c = search needs
-
-array-read-if4 : tie.Need-array-read-if4 Inv-args2 μ-args2 Inv-search μ-search
-array-read-if4 c = search needs
+wide-requires : tie.Need-wide-requires Inv-args2 μ-args2 Inv-search μ-search
+wide-requires c κs = search needs
 
 search-less-3 : tie.Need-search-less-3 Inv-args2 μ-args2 Inv-search μ-search
 search-less-3 c = search needs
@@ -98,13 +89,11 @@ search-again-3 : tie.Need-search-again-3 Inv-args2 μ-args2 Inv-search μ-search
 search-again-3 c =
     let start = c .before .before .before .before .before .before .before .before .before .before .before .before in
     let enough : start .args .arity ≤ length (start .args .t5) = omega arith in
-    search-passed (c .before .before .before .before .before .before .before .before .before .before .search .inv)
-    (omega arith)
-    (unlike-arg (start .args .transitions .now)
-    (11 * c .before .before .before .before .before .before .before .before .before .before .search .i)
-    (start .args .label) (start .args .arity) (start .args .t5) enough (c .before .before .before .args2 .k)
-    (sym (c .before .before .before .before .before .wide .ensures) ∙ c .before .before .before .before .if3 .left)
-    (omega arith) (c .if4 .taken))
+    search-passed (c .before .before .before .before .before .before .before .before .before .before .search .inv) (omega arith)
+    (unlike-arg (start .args .transitions .now) (transitionBytes * (c .before .before .before .before .before .before .before .before .before .before .search) .i)
+    (start .args .label) (start .args .arity) (start .args .t5) enough (c .before .before .before .before .args2 .k)
+    (sym (c .before .before .before .before .before .before .arity-of .ensures) ∙ c .before .before .before .before .before .if3 .left) (omega arith)
+    (λ e. (c .if4) .taken (c .before .before .arg-of .ensures .0 ∙ e ∙ sym (c .before .wide .ensures))))
 
 add-k : tie.Need-add-k Inv-args2 μ-args2 Inv-search μ-search
 add-k c = search needs
@@ -113,28 +102,29 @@ args2-less : tie.Need-args2-less Inv-args2 μ-args2 Inv-search μ-search
 args2-less c = search needs
 
 args2-again : tie.Need-args2-again Inv-args2 μ-args2 Inv-search μ-search
-args2-again c = agree-next (c .before .before .before .args2 .inv) (omega arith) (c .if4 .left)
+args2-again c =
+    agree-next (c .before .before .before .before .args2 .inv) (omega arith) (sym (c .before .before .arg-of .ensures .0) ∙ c .if4 .left ∙ c .before .wide .ensures)
 
-add-t15 : tie.Need-add-t15 Inv-args2 μ-args2 Inv-search μ-search
-add-t15 c = search needs
+out-of-requires : tie.Need-out-of-requires Inv-args2 μ-args2 Inv-search μ-search
+out-of-requires c κs = search needs
 
-shared-slice-read-t14 : tie.Need-shared-slice-read-t14 Inv-args2 μ-args2 Inv-search μ-search
-shared-slice-read-t14 c = search needs
+cast-t21 : tie.Need-cast-t21 Inv-args2 μ-args2 Inv-search μ-search
+cast-t21 c = search needs
 
 returns : tie.Need-returns Inv-args2 μ-args2 Inv-search μ-search
 returns c = search-end (c .before .search .inv) (omega arith)
 
 returns-2 : tie.Need-returns-2 Inv-args2 μ-args2 Inv-search μ-search
 returns-2 c =
-    let start = c .before .before .before .before .before .before .before .before .before .before .before in
+    let start = c .before .before .before .before .before .before .before .before .before .before in
     let enough : start .args .arity ≤ length (start .args .t5) = omega arith in
-    search-hit (c .before .before .before .before .before .before .before .before .before .search .inv)
-    (omega arith)
-    (alike (start .args .transitions .now)
-    (11 * c .before .before .before .before .before .before .before .before .before .search .i) (start .args .label)
-    (start .args .arity) (start .args .t5) enough (c .before .before .before .before .before .before .if2 .left)
-    (sym (c .before .before .before .before .wide .ensures) ∙ c .before .before .before .if3 .left)
-    (λ j h. c .before .before .args2 .inv .same j (omega arith)))
+    let hit =
+    search-hit (c .before .before .before .before .before .before .before .before .search .inv) (omega arith)
+    (alike (start .args .transitions .now) (transitionBytes * (c .before .before .before .before .before .before .before .before .search) .i) (start .args .label)
+    (start .args .arity) (start .args .t5) enough (sym (c .before .before .before .before .before .before .label-of .ensures .0) ∙ c .before .before .before .before .before .if2 .left)
+    (sym (c .before .before .before .before .arity-of .ensures) ∙ c .before .before .before .if3 .left)
+    (λ j h. (c .before .before .args2) .inv .same j (omega arith))) in
+    (c .out-of .ensures .0 ∙ hit .0, hit .1)
 
 pub find-spec : {M : Type 1} → statement M
 find-spec =
@@ -147,25 +137,22 @@ find-spec =
     search-holds
     mul-at
     add-i
-    shared-slice-read-if2
+    label-of-requires
     search-less
     search-again
-    add-wide
-    shared-slice-read-wide
-    wide-requires
+    arity-of-requires
     search-less-2
     search-again-2
     args2-holds
-    add-if4
-    add-if4-2
-    shared-slice-read-if4
-    array-read-if4
+    arg-of-requires
+    array-read-wide
+    wide-requires
     search-less-3
     search-again-3
     add-k
     args2-less
     args2-again
-    add-t15
-    shared-slice-read-t14
+    out-of-requires
+    cast-t21
     returns
     returns-2)

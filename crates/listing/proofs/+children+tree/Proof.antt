@@ -4,6 +4,7 @@ use borrow.Author.Needs.{needs}
 use borrow.Fn.Kinds.{In}
 use borrow.Fn.PlainCycle.{Measures, and, falls, is}
 use Prim.Native.Nat.{_*_, _+_, _<_, ℕ}
+use mathlib.Core.Path.{_∙_}
 use native.Mathlib.Omega.{arith}
 use lib.ListN.{length}
 use Rattle.listing.proofs.Reader.{children-bad, children-bad-later, children-good, children-none}
@@ -15,6 +16,7 @@ use Rattle.listing.proofs.+children+tree.Lts-children as children-lts
 use Rattle.listing.proofs.tree.Reads as tree
 use Rattle.listing.proofs.tree.Kinds as tree-kinds
 use Rattle.listing.proofs.+children+tree.Lts-tree as tree-lts
+use Rattle.listing.proofs.children_at.Reads as children-at-reads
 use Rattle.format.proofs.wide.Reads as wide-reads
 use Rattle.listing.proofs.+children+tree.{statement}
 use Rattle.listing.proofs.+children+tree.Tie.{close}
@@ -42,7 +44,8 @@ abbrev children-calls : ℕ → children-lts.Claims
 children-calls t = (tree-below t, tree.Post, children-below t, children.Post)
 
 abbrev tree-calls : ℕ → tree-lts.Claims
-tree-calls t = (wide-reads.Asked, wide-reads.Learnt, children-below t, children.Post)
+tree-calls t =
+    (children-at-reads.Asked, children-at-reads.Learnt, wide-reads.Asked, wide-reads.Learnt, children-below t, children.Post)
 
 children-returns : (t : ℕ) → children-lts.Need-returns (children-calls t) (children-at t) children.Post
 children-returns t c = search children-none
@@ -108,8 +111,8 @@ children-returns-4 t c = search children-good
 tree-returns : (t : ℕ) → tree-lts.Need-returns (tree-calls t) (tree-at t) tree.Post
 tree-returns t c = search tree-short
 
-tree-shared-slice-read-wide : (t : ℕ) → tree-lts.Need-shared-slice-read-wide (tree-calls t) (tree-at t) tree.Post
-tree-shared-slice-read-wide t c = search needs
+tree-children-at-requires : (t : ℕ) → tree-lts.Need-children-at-requires (tree-calls t) (tree-at t) tree.Post
+tree-children-at-requires t c κs = search needs
 
 tree-wide-requires : (t : ℕ) → tree-lts.Need-wide-requires (tree-calls t) (tree-at t) tree.Post
 tree-wide-requires t c κs = search needs
@@ -133,7 +136,11 @@ tree-enum-told : (t : ℕ) → tree-lts.Need-enum-told (tree-calls t) (tree-at t
 tree-enum-told t c = search needs
 
 tree-returns-2 : (t : ℕ) → tree-lts.Need-returns-2 (tree-calls t) (tree-at t) tree.Post
-tree-returns-2 t c = search tree-bad
+tree-returns-2 t c =
+    let read = c .before .before in
+    tree-bad _ _ (read .before .before .before .before .if1 .left)
+    (read .before .before .wide .ensures ∙ read .before .before .before .children-at .ensures) (read .children .ensures)
+    (c .enum-told .given .1)
 
 tree-add-t4 : (t : ℕ) → tree-lts.Need-add-t4 (tree-calls t) (tree-at t) tree.Post
 tree-add-t4 t c =
@@ -144,7 +151,11 @@ tree-add-t4 t c =
     omega (arith, start .good .0 .0)
 
 tree-returns-3 : (t : ℕ) → tree-lts.Need-returns-3 (tree-calls t) (tree-at t) tree.Post
-tree-returns-3 t c = search tree-good
+tree-returns-3 t c =
+    let read = c .before .before .before in
+    tree-good _ _ (read .before .before .before .before .if1 .left)
+    (read .before .before .wide .ensures ∙ read .before .before .before .children-at .ensures) (read .children .ensures)
+    (c .before .len .given .1)
 
 pub +children+tree-spec : {M : Type 1} → statement M
 +children+tree-spec = close μ-children μ-tree (λ t. children-lts.spec (children-calls t)
@@ -170,7 +181,7 @@ pub +children+tree-spec : {M : Type 1} → statement M
     (tree-at t)
     tree.Post
     (tree-returns t)
-    (tree-shared-slice-read-wide t)
+    (tree-children-at-requires t)
     (tree-wide-requires t)
     (tree-sub-children t)
     (tree-part-children-start t)

@@ -1,12 +1,12 @@
 -- The loop's answer for all nodes is its answer for those that it has not yet looked at.
-use borrow.Author.Needs.{needs}
-use borrow.Author.Tests.{eq-eqb, ne-eqb}
-use mathlib.Core.Bool.{not}
-use mathlib.Core.Path.{ap}
-use Prim.Native.Nat.{_-_}
-use native.Mathlib.Nat.{zero-add}
-use Rattle.trees.specs.Listing.{allLabelled, labelled, nodesIn}
 use Rattle.lists.proofs.Loops.{EveryFrom, every-broken, every-end, every-next, every-start}
+use Rattle.trees.specs.Listing.{allLabelled, labelled, nodesIn}
+use native.Mathlib.Nat.{zero-add}
+use Prim.Native.Nat.{_-_}
+use mathlib.Core.Path.{ap, _∙_, sym}
+use mathlib.Core.Bool.{not}
+use borrow.Author.Tests.{eq-eqb, ne-eqb}
+use borrow.Author.Needs.{needs}
 use Rattle.listing.proofs.all_labelled.Statement.{statement}
 use Rattle.listing.proofs.all_labelled.Tie as tie
 
@@ -20,16 +20,13 @@ loop-holds : tie.Need-loop-holds Inv-loop μ-loop
 unfolding allLabelled
 loop-holds c = every-start _ (zero-add _)
 
-mul-if1 : tie.Need-mul-if1 Inv-loop μ-loop
-mul-if1 c = search needs
-
-shared-slice-read-if1 : tie.Need-shared-slice-read-if1 Inv-loop μ-loop
-shared-slice-read-if1 c = search needs
+label-at-requires : tie.Need-label-at-requires Inv-loop μ-loop
+label-at-requires c κs = search needs
 
 returns : tie.Need-returns Inv-loop μ-loop
 returns c =
     let turn = c .before .before .before .loop in
-    every-broken (turn .inv) (c .before .before .loop-test .taken) (ap not (eq-eqb _ 0 (c .if1 .taken)))
+    every-broken (turn .inv) (c .before .before .loop-test .taken) (ap not (eq-eqb _ 0 (sym (c .before .label-at .ensures .0) ∙ c .if1 .taken)))
 
 add-i : tie.Need-add-i Inv-loop μ-loop
 add-i c = search needs
@@ -40,7 +37,7 @@ loop-less c = search needs
 loop-again : tie.Need-loop-again Inv-loop μ-loop
 loop-again c =
     let turn = c .before .before .before .loop in
-    every-next (turn .inv) (c .before .before .loop-test .taken) (ap not (ne-eqb _ 0 (c .if1 .left)))
+    every-next (turn .inv) (c .before .before .loop-test .taken) (ap not (ne-eqb _ 0 (λ e. (c .if1) .left (c .before .label-at .ensures .0 ∙ e))))
 
 returns-2 : tie.Need-returns-2 Inv-loop μ-loop
 returns-2 c = every-end (c .before .loop .inv) (c .loop-test .left)
@@ -52,8 +49,7 @@ all-labelled-spec =
     Inv-loop
     μ-loop
     loop-holds
-    mul-if1
-    shared-slice-read-if1
+    label-at-requires
     returns
     add-i
     loop-less

@@ -1,12 +1,12 @@
 -- The loop's answer for all nodes is its answer for those that it has not yet looked at.
-use borrow.Author.Needs.{needs}
-use borrow.Author.Tests.{le-leb, lt-leb}
-use Prim.Native.Nat.{_-_}
-use native.Mathlib.Nat.{zero-add}
-use native.Mathlib.Omega.{arith}
-use Rattle.format.specs.Format.{maxArity}
-use Rattle.trees.specs.Listing.{allNarrow, childrenAt, narrow, nodesIn}
 use Rattle.lists.proofs.Loops.{EveryFrom, every-broken, every-end, every-next, every-start}
+use Rattle.trees.specs.Listing.{allNarrow, childrenAt, narrow, nodesIn}
+use Rattle.format.specs.Format.{maxArity}
+use native.Mathlib.Omega.{arith}
+use native.Mathlib.Nat.{zero-add}
+use Prim.Native.Nat.{_-_}
+use borrow.Author.Tests.{le-leb, lt-leb}
+use borrow.Author.Needs.{needs}
 use Rattle.listing.proofs.all_narrow.Statement.{statement}
 use Rattle.listing.proofs.all_narrow.Tie as tie
 
@@ -20,24 +20,17 @@ loop-holds : tie.Need-loop-holds Inv-loop μ-loop
 unfolding allNarrow
 loop-holds c = every-start _ (zero-add _)
 
-mul-wide : tie.Need-mul-wide Inv-loop μ-loop
-mul-wide c = search needs
-
-add-wide : tie.Need-add-wide Inv-loop μ-loop
-add-wide c = search needs
-
-shared-slice-read-wide : tie.Need-shared-slice-read-wide Inv-loop μ-loop
-shared-slice-read-wide c = search needs
+children-at-requires : tie.Need-children-at-requires Inv-loop μ-loop
+children-at-requires c κs = search needs
 
 wide-requires : tie.Need-wide-requires Inv-loop μ-loop
 wide-requires c κs = search needs
 
 returns : tie.Need-returns Inv-loop μ-loop
 returns c =
-    let turn = c .before .before .before .before in
-    let k = childrenAt (turn .before .before .args .s .now) (turn .loop .i) in
+    let k = childrenAt (c .before .before .before .before .before .before .args .s .now) (c .before .before .before .before .loop .i) in
     let more = c .before .before .before .loop-test .taken in
-    every-broken (turn .loop .inv) more (lt-leb k maxArity (omega arith))
+    every-broken (c .before .before .before .before .loop .inv) more (lt-leb k maxArity (omega arith))
 
 add-i : tie.Need-add-i Inv-loop μ-loop
 add-i c = search needs
@@ -47,10 +40,9 @@ loop-less c = search needs
 
 loop-again : tie.Need-loop-again Inv-loop μ-loop
 loop-again c =
-    let turn = c .before .before .before .before in
-    let k = childrenAt (turn .before .before .args .s .now) (turn .loop .i) in
+    let k = childrenAt (c .before .before .before .before .before .before .args .s .now) (c .before .before .before .before .loop .i) in
     let more = c .before .before .before .loop-test .taken in
-    every-next (turn .loop .inv) more (le-leb k maxArity (omega arith))
+    every-next (c .before .before .before .before .loop .inv) more (le-leb k maxArity (omega arith))
 
 returns-2 : tie.Need-returns-2 Inv-loop μ-loop
 returns-2 c = every-end (c .before .loop .inv) (c .loop-test .left)
@@ -62,9 +54,7 @@ all-narrow-spec =
     Inv-loop
     μ-loop
     loop-holds
-    mul-wide
-    add-wide
-    shared-slice-read-wide
+    children-at-requires
     wide-requires
     returns
     add-i

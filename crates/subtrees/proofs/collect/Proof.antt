@@ -1,11 +1,10 @@
 -- The loop at i has gone through the nodes from i on: their trees are on the stack, their subtrees in the arrays.
-use borrow.Author.Needs.{needs}
-use mathlib.Core.Path.{refl}
-use native.Mathlib.Omega.{arith}
-use Rattle.subtrees.proofs.Arrays.{filled-at}
-use Rattle.subtrees.proofs.Collecting.{Collecting, collecting-at, collecting-end, collecting-next}
-use Rattle.subtrees.proofs.Collecting.{collecting-start, end-top, pop-children, pop-narrow, pop-room}
 use Rattle.subtrees.proofs.Suffixes.{passed}
+use Rattle.subtrees.proofs.Collecting.{Collecting, collecting-at, collecting-end, collecting-next, collecting-start, end-top, pop-children, pop-narrow, pop-room}
+use Rattle.subtrees.proofs.Arrays.{filled-at}
+use native.Mathlib.Omega.{arith}
+use mathlib.Core.Path.{refl, _∙_}
+use borrow.Author.Needs.{needs}
 use Rattle.subtrees.proofs.collect.Statement.{statement}
 use Rattle.subtrees.proofs.collect.Tie as tie
 
@@ -14,7 +13,8 @@ Inv-loop tree run count l₀ r₀ c₀ q₀ stack₀ top₀ found₀ i₀ labels
     Collecting tree run count i top found stack labels arities children states
 
 abbrev μ-loop : tie.MeasureT-loop
-μ-loop tree run count l₀ r₀ c₀ q₀ stack₀ top₀ found₀ i₀ labels arities children states stack top found i = i
+μ-loop tree run count l₀ r₀ c₀ q₀ stack₀ top₀ found₀ i₀ labels arities children states stack top found i =
+    i
 
 loop-holds : tie.Need-loop-holds Inv-loop μ-loop
 loop-holds c =
@@ -25,85 +25,75 @@ loop-holds c =
 sub-i : tie.Need-sub-i Inv-loop μ-loop
 sub-i c = search needs
 
-mul-label : tie.Need-mul-label Inv-loop μ-loop
-mul-label c = search needs
+label-at-requires : tie.Need-label-at-requires Inv-loop μ-loop
+label-at-requires c κs = search needs
 
-shared-slice-read-label : tie.Need-shared-slice-read-label Inv-loop μ-loop
-shared-slice-read-label c = search needs
-
-mul-arity : tie.Need-mul-arity Inv-loop μ-loop
-mul-arity c = search needs
-
-add-arity : tie.Need-add-arity Inv-loop μ-loop
-add-arity c = search needs
-
-shared-slice-read-arity : tie.Need-shared-slice-read-arity Inv-loop μ-loop
-shared-slice-read-arity c = search needs
+children-at-requires : tie.Need-children-at-requires Inv-loop μ-loop
+children-at-requires c κs = search needs
 
 wide-requires : tie.Need-wide-requires Inv-loop μ-loop
 wide-requires c κs = search needs
 
 popped-requires : tie.Need-popped-requires Inv-loop μ-loop
 popped-requires c κs =
-    let turn = c .before .before .before .before in
-    let start = turn .before .before .before .before in
+    let start = c .before .before .before .before .before .before .before .before in
     let ok = passed (start .args .tree .now) (start .pre .0) in
-    let inv = turn .before .loop .inv in
-    let more = turn .loop-test .taken in
+    let inv = c .before .before .before .before .before .loop .inv in
+    let more = c .before .before .before .before .loop-test .taken in
     omega (arith, pop-room ok inv more, pop-narrow ok inv more, c .before .wide .ensures)
 
 enter-requires : tie.Need-enter-requires Inv-loop μ-loop
 enter-requires c κs =
-    let turn = c .before .before .before .before .before .before .before .before .before in
-    let start = turn .before .before .before .before in
-    let head = turn .before .loop in
-    let width = c .before .before .before .before .before .before .wide .ensures in
-    let filled = filled-at (c .before .before .before .before .popped .ensures) width in
+    let start = c .before .before .before .before .before .before .before .before .before .before .before .before .before in
+    let head = c .before .before .before .before .before .before .before .before .before .before .loop in
+    let arity = c .before .before .before .before .before .before .before .children-at .ensures in
+    let filled = filled-at (c .before .before .before .before .popped .ensures) (c .before .before .before .before .before .before .wide .ensures ∙ arity) in
     let ok = passed (start .args .tree .now) (start .pre .0) in (
       start .pre .1,
       (
         head .inv .sized,
-        (omega (arith, head .inv .room), pop-children ok (head .inv) (turn .loop-test .taken) filled),
+        (
+          omega (arith, head .inv .room),
+          (c .before .before .before .before .before .before .before .before .label-at .ensures .1, rw arity (pop-children ok (head .inv) (c .before .before .before .before .before .before .before .before .before .loop-test .taken) filled)),
+        ),
       ),
     )
 
 add-top : tie.Need-add-top Inv-loop μ-loop
 add-top c =
-    let turn = c .before .before .before .before .before .before .before .before .before .before in
-    let start = turn .before .before .before .before in
+    let start = c .before .before .before .before .before .before .before .before .before .before .before .before .before .before in
     let ok = passed (start .args .tree .now) (start .pre .0) in
     let width = c .before .before .before .before .before .before .before .wide .ensures in
-    omega (arith, pop-room ok (turn .before .loop .inv) (turn .loop-test .taken), width)
+    omega (arith, pop-room ok (c .before .before .before .before .before .before .before .before .before .before .before .loop .inv) (c .before .before .before .before .before .before .before .before .before .before .loop-test .taken), width)
 
 sub-top : tie.Need-sub-top Inv-loop μ-loop
 sub-top c = search needs
 
 array-write-stack : tie.Need-array-write-stack Inv-loop μ-loop
 array-write-stack c =
-    let turn = c .before .before .before .before .before .before .before .before .before .before in
-    let start = turn .before .before .before .before in
+    let start = c .before .before .before .before .before .before .before .before .before .before .before .before .before .before in
     let ok = passed (start .args .tree .now) (start .pre .0) in
-    let inv = turn .before .loop .inv in
+    let inv = c .before .before .before .before .before .before .before .before .before .before .before .loop .inv in
     let width = c .before .before .before .before .before .before .before .wide .ensures in
-    omega (arith, pop-room ok inv (turn .loop-test .taken), inv .below, width)
+    omega (arith, pop-room ok inv (c .before .before .before .before .before .before .before .before .before .before .loop-test .taken), inv .below, width)
 
 loop-less : tie.Need-loop-less Inv-loop μ-loop
 loop-less c = search needs
 
 loop-again : tie.Need-loop-again Inv-loop μ-loop
 loop-again c =
-    let turn = c .before .before .before .before .before .before .before .before .before .before in
-    let start = turn .before .before .before .before in
-    let head = turn .before .loop in
-    let width = c .before .before .before .before .before .before .before .wide .ensures in
+    let start = c .before .before .before .before .before .before .before .before .before .before .before .before .before .before in
+    let head = c .before .before .before .before .before .before .before .before .before .before .before .loop in
+    let arity = c .before .before .before .before .before .before .before .before .children-at .ensures in
+    let width = c .before .before .before .before .before .before .before .wide .ensures ∙ arity in
     let filled = filled-at (c .before .before .before .before .before .popped .ensures) width in
     let ok = passed (start .args .tree .now) (start .pre .0) in
     rw width
-    (collecting-next ok (head .inv) (turn .loop-test .taken) filled (c .enter .ensures .1 .0) (c .enter .ensures .0)
-    (c .enter .ensures .1 .1))
+    (collecting-next ok (head .inv) (c .before .before .before .before .before .before .before .before .before .before .loop-test .taken) filled (c .enter .ensures .1 .0) (c .enter .ensures .0)
+    (rw (c .before .before .before .before .before .before .before .before .before .label-at .ensures .0, arity) at (c .enter .ensures .1 .1)))
 
-array-read-t33 : tie.Need-array-read-t33 Inv-loop μ-loop
-array-read-t33 c =
+array-read-t29 : tie.Need-array-read-t29 Inv-loop μ-loop
+array-read-t29 c =
     let start = c .before .before .before .before in
     let ok = passed (start .args .tree .now) (start .pre .0) in
     end-top ok (collecting-at (c .before .loop .inv) 0 (omega arith))
@@ -122,11 +112,8 @@ collect-spec =
     μ-loop
     loop-holds
     sub-i
-    mul-label
-    shared-slice-read-label
-    mul-arity
-    add-arity
-    shared-slice-read-arity
+    label-at-requires
+    children-at-requires
     wide-requires
     popped-requires
     enter-requires
@@ -135,5 +122,5 @@ collect-spec =
     array-write-stack
     loop-less
     loop-again
-    array-read-t33
+    array-read-t29
     returns)

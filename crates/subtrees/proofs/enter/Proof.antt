@@ -1,14 +1,13 @@
 -- The node was found before, or the arrays hold it behind the others.
-use borrow.Author.Needs.{needs}
-use mathlib.Core.Path.{_∙_, _≡_, ap}
-use native.Mathlib.Omega.{arith}
-use lib.ListN.{length, take}
-use Rattle.format.specs.Format.{maxArity}
-use Rattle.subtrees.specs.Steps.{stateFrom}
-use Rattle.table.specs.Layout.{transitionsIn}
+use Rattle.subtrees.proofs.Entering.{children-more, enter-missing, enter-new, enter-old, entrant-state, sized-new}
 use Rattle.subtrees.proofs.Arrays.{filled-at}
-use Rattle.subtrees.proofs.Entering.{children-more, enter-missing, enter-new, enter-old, entrant-state}
-use Rattle.subtrees.proofs.Entering.{sized-new}
+use Rattle.table.specs.Layout.{transitionsIn}
+use Rattle.subtrees.specs.Steps.{stateFrom}
+use Rattle.format.specs.Format.{maxArity}
+use lib.ListN.{length, take}
+use native.Mathlib.Omega.{arith}
+use mathlib.Core.Path.{_∙_, _≡_, ap}
+use borrow.Author.Needs.{needs}
 use Rattle.subtrees.proofs.enter.Statement.{statement}
 use Rattle.subtrees.proofs.enter.Tie as tie
 
@@ -29,7 +28,7 @@ returns c =
       start .pre .1 .0,
       (
         omega (arith, sought .ensures .within),
-        λ A ts e st. enter-old st (start .args .label) (start .pre .1 .1 .1) eight (sought .ensures) (c .if1 .taken),
+        λ A ts e st. enter-old st (start .args .label) (start .pre .1 .1 .1 .1) eight (sought .ensures) (c .if1 .taken),
       ),
     )
 
@@ -39,10 +38,13 @@ wide-requires c κs = search needs
 child-states-requires : tie.Need-child-states-requires
 child-states-requires c κs =
     let start = c .before .before .before .before .before .before .before .before in
-    children-more (start .pre .1 .1 .1) _ _ (c .before .wide .ensures) (omega arith)
+    children-more (start .pre .1 .1 .1 .1) _ _ (c .before .wide .ensures) (omega arith)
 
 state-requires : tie.Need-state-requires
 state-requires c κs = search needs
+
+mul-labels : tie.Need-mul-labels
+mul-labels c = search needs
 
 element-write-labels : tie.Need-element-write-labels
 element-write-labels c = search needs
@@ -62,28 +64,27 @@ add-new c = search needs
 cast-new : tie.Need-cast-new
 cast-new c = search needs
 
-add-t31 : tie.Need-add-t31
-add-t31 c = search needs
+add-t23 : tie.Need-add-t23
+add-t23 c = search needs
 
 returns-2 : tie.Need-returns-2
 returns-2 c =
-    let test = c .before .before .before .before .before .before in
-    let start = test .before .before .before .before .before .before in
+    let start = c .before .before .before .before .before .before .before .before .before .before .before .before in
     let a = start .args in
     let eight : length (a .numbers) ≡ maxArity = omega (arith, start .good) in
     let τs = transitionsIn (a .transitions .now) (a .count) in
     let args = c .before .before .before .child-states .result in
     let width = c .before .before .before .before .before .wide .ensures in
     let filled = filled-at (c .before .before .before .child-states .ensures) width in
-    let ch = start .pre .1 .1 .1 in
+    let ch = start .pre .1 .1 .1 .1 in
     let q = c .before .before .state in
     let state = q .ensures ∙ ap (λ k. stateFrom τs (a .label) (take k args)) width in (
       sized-new (start .pre .1 .0) (a .found) (a .label) (a .arity) (q .result) (c .store-children .ensures),
       (
         omega arith,
-        λ A ts e st. enter-new st (a .label) ch eight (start .pre .1 .0) (start .pre .1 .1 .0)
+        λ A ts e st. enter-new st (a .label) ch eight (start .pre .1 .0) (start .pre .1 .1 .0) (start .pre .1 .1 .1 .0)
             (c .store-children .ensures) (state ∙ entrant-state st (a .label) ch eight τs filled e)
-            (enter-missing st (a .label) ch eight (test .before .search .ensures) (test .if1 .left)),
+            (enter-missing st (a .label) ch eight (c .before .before .before .before .before .before .before .search .ensures) (c .before .before .before .before .before .before .if1 .left)),
       ),
     )
 
@@ -98,11 +99,12 @@ enter-spec =
     wide-requires
     child-states-requires
     state-requires
+    mul-labels
     element-write-labels
     element-write-arities
     store-children-requires
     element-write-states
     add-new
     cast-new
-    add-t31
+    add-t23
     returns-2)

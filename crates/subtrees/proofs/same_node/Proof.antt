@@ -1,8 +1,11 @@
 -- A node differs in its label, in its number of children, or where its children do.
-use borrow.Author.Needs.{needs}
 use Rattle.subtrees.proofs.Arrays.{by-children, other-arity, other-label}
+use borrow.Author.Needs.{needs}
 use Rattle.subtrees.proofs.same_node.Statement.{statement}
 use Rattle.subtrees.proofs.same_node.Tie as tie
+
+mul-if1 : tie.Need-mul-if1
+mul-if1 c = search needs
 
 element-copy-out-if1 : tie.Need-element-copy-out-if1
 element-copy-out-if1 c = search needs
@@ -39,6 +42,7 @@ pub same-node-spec : {M : Type 1} → statement M
 same-node-spec =
     tie.close
     (tie.spec
+    mul-if1
     element-copy-out-if1
     returns
     element-copy-out-if2

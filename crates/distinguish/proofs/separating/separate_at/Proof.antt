@@ -1,11 +1,11 @@
-use lib.ListN.{getD}
-use native.Mathlib.Omega.{arith}
-use mathlib.Core.Path.{_≡_, _∙_, ap}
-use Prim.Native.Nat.{_*_, _+_, _-_, _≤_, ℕ}
-use Rattle.distinguish.specs.Separating.{SeparateArg}
-use Rattle.table.specs.Layout.{arityOf}
-use Rattle.marking.specs.Spread.{Spread, UpTo}
 use Rattle.marking.proofs.Spreading.{spread-begin, spread-next}
+use Rattle.marking.specs.Spread.{Spread, UpTo}
+use Rattle.table.specs.Layout.{arityOf}
+use Rattle.distinguish.specs.Separating.{SeparateArg}
+use Prim.Native.Nat.{_*_, _+_, _-_, _≤_, ℕ}
+use mathlib.Core.Path.{_≡_, _∙_, ap}
+use native.Mathlib.Omega.{arith}
+use lib.ListN.{getD}
 use borrow.Author.Needs.{needs}
 use Rattle.distinguish.proofs.separating.separate_at.Statement.{statement}
 use Rattle.distinguish.proofs.separating.separate_at.Tie as tie
@@ -17,35 +17,24 @@ Inv-loop run count n i marks₀ arity changed₀ k₀ marks changed k =
 abbrev μ-loop : tie.MeasureT-loop
 μ-loop run count n i marks₀ arity changed₀ k₀ marks changed k = arity - k
 
-mul-wide : tie.Need-mul-wide Inv-loop μ-loop
-mul-wide c = search needs
+mul-arity-of : tie.Need-mul-arity-of Inv-loop μ-loop
+mul-arity-of c = search needs
 
-add-wide : tie.Need-add-wide Inv-loop μ-loop
-add-wide c = search needs
-
-sub-wide : tie.Need-sub-wide Inv-loop μ-loop
-sub-wide c = search needs
-
-shared-slice-read-wide : tie.Need-shared-slice-read-wide Inv-loop μ-loop
-shared-slice-read-wide c = search needs
-
-wide-requires : tie.Need-wide-requires Inv-loop μ-loop
-wide-requires c κs = search needs
+arity-of-requires : tie.Need-arity-of-requires Inv-loop μ-loop
+arity-of-requires c κs = search needs
 
 loop-holds : tie.Need-loop-holds Inv-loop μ-loop
 loop-holds c =
-    let start = c .before .before .before in
-    let e : 11 * (start .args) .i + 2 - 1 ≡ 11 * (start .args) .i + 1 = omega arith in (
+    let start = c .before .before in (
       omega arith,
-      c .wide .ensures ∙ ap (λ (x : ℕ). getD (start .args .transitions .now) x 0) e,
+      c .arity-of .ensures,
       spread-begin (SeparateArg
           (start .args .transitions .now) (start .args .count) (start .args .n) ((11 * (start .args) .i))),
     )
 
 separate-arg-requires : tie.Need-separate-arg-requires Inv-loop μ-loop
 separate-arg-requires c κs =
-    let at-loop = c .before .before in
-    let start = at-loop .before .before .before .before in (
+    let start = c .before .before .before .before .before in (
       start .pre .0,
       (
         start .pre .1 .0,
@@ -56,10 +45,9 @@ separate-arg-requires c κs =
             (
               omega (
                 arith,
-                at-loop
-                    .loop .inv .1,
+                c .before .before .loop .inv .1,
               ),
-              at-loop .loop .inv .2 .swept .size ∙ start .pre .1 .1 .1 .1,
+              c .before .before .loop .inv .2 .swept .size ∙ start .pre .1 .1 .1 .1,
             ),
           ),
         ),
@@ -74,22 +62,19 @@ loop-less c = search needs
 
 loop-again : tie.Need-loop-again Inv-loop μ-loop
 loop-again c =
-    let at-loop = c .before .before .before in
-    let start = at-loop .before .before .before .before in (
+    let start = c .before .before .before .before .before .before in (
       omega arith,
-      at-loop .loop .inv .1,
+      c .before .before .before .loop .inv .1,
       spread-next (SeparateArg (start .args .transitions .now) (start .args .count)
-          (start .args .n) ((11 * (start .args) .i))) (at-loop .loop .k) (at-loop .loop .inv .2) (c .separate-arg
-          .ensures),
+          (start .args .n) ((11 * (start .args) .i))) (c .before .before .before .loop .k) (c .before .before .before .loop .inv .2) (c .separate-arg .ensures),
     )
 
 returns : tie.Need-returns Inv-loop μ-loop
 returns c =
-    let start = c .before .before .before .before .before in
+    let start = c .before .before .before .before in
     let e : c .before .loop .k ≡ arityOf (start .args .transitions .now) ((11 * (start .args) .i)) = omega (
       arith,
-      c
-          .before .loop .inv .1,
+      c .before .loop .inv .1,
       c .before .loop .inv .0,
     ) in
     rw e at (c .before .loop .inv .2)
@@ -100,11 +85,8 @@ separate-at-spec =
     (tie.spec
     Inv-loop
     μ-loop
-    mul-wide
-    add-wide
-    sub-wide
-    shared-slice-read-wide
-    wide-requires
+    mul-arity-of
+    arity-of-requires
     loop-holds
     separate-arg-requires
     add-k

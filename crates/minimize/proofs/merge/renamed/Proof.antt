@@ -1,91 +1,65 @@
--- `merge::renamed` meets its contract: k arguments have their names, the others are still 0.
 use mathlib.Core.Path.{_≡_, ap}
-use Prim.Native.Nat.{_+_, _-_}
+use Prim.Native.Nat.{_-_}
 use native.Mathlib.Omega.{arith}
-use borrow.Author.Needs.{needs}
+use Rattle.fields.proofs.Entries.{then-arity, then-label, then-out}
 use Rattle.table.specs.Layout.{arityOf}
 use Rattle.minimize.specs.Merged.{nameIn}
 use Rattle.minimize.proofs.Entries.{Renaming, renaming-end, renaming-next, renaming-start}
+-- `minimize::merge::renamed` meets its contract: k arguments have their names, the others are still 0.
+use borrow.Author.Needs.{needs}
 use Rattle.minimize.proofs.merge.renamed.Statement.{statement}
 use Rattle.minimize.proofs.merge.renamed.Tie as tie
 
 abbrev Inv-loop : tie.InvT-loop
-Inv-loop run at names entry₀ out n k₀ entry k = (n ≡ arityOf run at) × Renaming run at names entry k
+Inv-loop transitions at names n out entry₀ k₀ entry k =
+    (n ≡ arityOf transitions at) × Renaming transitions at names entry k
 
 abbrev μ-loop : tie.MeasureT-loop
-μ-loop run at names entry₀ out n k₀ entry k = n - k
+μ-loop transitions at names n out entry₀ k₀ entry k = n - k
 
-shared-slice-read-entry : tie.Need-shared-slice-read-entry Inv-loop μ-loop
-shared-slice-read-entry c = search needs
+arity-of-requires : tie.Need-arity-of-requires Inv-loop μ-loop
+arity-of-requires c κs = search needs
 
-array-write-entry : tie.Need-array-write-entry Inv-loop μ-loop
-array-write-entry c = search needs
+out-of-requires : tie.Need-out-of-requires Inv-loop μ-loop
+out-of-requires c κs = search needs
 
-add-entry : tie.Need-add-entry Inv-loop μ-loop
-add-entry c = search needs
+blank-entry-requires : tie.Need-blank-entry-requires Inv-loop μ-loop
+blank-entry-requires c κs = search needs
 
-shared-slice-read-entry-2 : tie.Need-shared-slice-read-entry-2 Inv-loop μ-loop
-shared-slice-read-entry-2 c = search needs
+label-of-requires : tie.Need-label-of-requires Inv-loop μ-loop
+label-of-requires c κs = search needs
 
-array-write-entry-2 : tie.Need-array-write-entry-2 Inv-loop μ-loop
-array-write-entry-2 c = search needs
+put-label-requires : tie.Need-put-label-requires Inv-loop μ-loop
+put-label-requires c κs = search needs
 
-add-wide : tie.Need-add-wide Inv-loop μ-loop
-add-wide c = search needs
+put-arity-requires : tie.Need-put-arity-requires Inv-loop μ-loop
+put-arity-requires c κs = search needs
 
-shared-slice-read-wide : tie.Need-shared-slice-read-wide Inv-loop μ-loop
-shared-slice-read-wide c = search needs
+element-copy-out-put-out : tie.Need-element-copy-out-put-out Inv-loop μ-loop
+element-copy-out-put-out c = search needs
 
-wide-requires : tie.Need-wide-requires Inv-loop μ-loop
-wide-requires c κs = search needs
-
-element-copy-out-entry : tie.Need-element-copy-out-entry Inv-loop μ-loop
-element-copy-out-entry c =
-    let start = c .before .before .before .before .before in
-    omega (arith, c .before .shared-slice-known4 .given (start .args .at + 10))
-
-array-write-entry-3 : tie.Need-array-write-entry-3 Inv-loop μ-loop
-array-write-entry-3 c = search needs
-
-add-wide-2 : tie.Need-add-wide-2 Inv-loop μ-loop
-add-wide-2 c = search needs
-
-shared-slice-read-wide-2 : tie.Need-shared-slice-read-wide-2 Inv-loop μ-loop
-shared-slice-read-wide-2 c = search needs
-
-wide-requires-2 : tie.Need-wide-requires-2 Inv-loop μ-loop
-wide-requires-2 c κs = search needs
+put-out-requires : tie.Need-put-out-requires Inv-loop μ-loop
+put-out-requires c κs = search needs
 
 loop-holds : tie.Need-loop-holds Inv-loop μ-loop
 loop-holds c =
-    let start = c .before .before .before .before .before .before .before .before in (
-      c .wide2 .ensures,
-      renaming-start (start .args .transitions .now) (start .args .at) (start .args .names .now) (ap
-          (nameIn (start .args .names .now)) (c .before .before .before .wide .ensures)),
+    let start = c .before .before .before .before .before .before .before .before .before .before .before .before in
+    let arity = c .before .before .before .before .before .before .before .before .before .before .arity-of .ensures in
+    let label = c .before .before .before .before .before .before .label-of .ensures .0 in
+    let made = then-out (then-arity (then-label (c .before .before .before .before .before .before .before .before .blank-entry .ensures) (c .before .before .before .before .before .put-label .ensures)) (c .before .before .before .put-arity .ensures)) (c .put-out .ensures) in (
+      arity,
+      renaming-start (start .args .transitions .now) (start .args .at) (start .args .names .now) (rw (label, arity) at made)
+          (ap (nameIn (start .args .names .now)) (c .before .before .before .before .before .before .before .before .before .out-of .ensures .0)),
     )
 
-add-wide-3 : tie.Need-add-wide-3 Inv-loop μ-loop
-add-wide-3 c = search needs
+arg-of-requires : tie.Need-arg-of-requires Inv-loop μ-loop
+arg-of-requires c κs = search needs
 
-add-wide-4 : tie.Need-add-wide-4 Inv-loop μ-loop
-add-wide-4 c = search needs
+element-copy-out-put-arg : tie.Need-element-copy-out-put-arg Inv-loop μ-loop
+element-copy-out-put-arg c = search needs
 
-shared-slice-read-wide-3 : tie.Need-shared-slice-read-wide-3 Inv-loop μ-loop
-shared-slice-read-wide-3 c = search needs
-
-wide-requires-3 : tie.Need-wide-requires-3 Inv-loop μ-loop
-wide-requires-3 c κs = search needs
-
-element-copy-out-entry-2 : tie.Need-element-copy-out-entry-2 Inv-loop μ-loop
-element-copy-out-entry-2 c =
-    let start = c .before .before .before .before .before .before .before .before .before .before .before .before in
-    omega (arith, c .before .shared-slice-known6 .given (start .args .at + 2 + c .before .before .before .loop .k))
-
-add-entry-2 : tie.Need-add-entry-2 Inv-loop μ-loop
-add-entry-2 c = search needs
-
-array-write-entry-4 : tie.Need-array-write-entry-4 Inv-loop μ-loop
-array-write-entry-4 c = search needs
+put-arg-requires : tie.Need-put-arg-requires Inv-loop μ-loop
+put-arg-requires c κs = (c .before .before .before .before .loop .inv .1 .size, omega arith)
 
 add-k : tie.Need-add-k Inv-loop μ-loop
 add-k c = search needs
@@ -95,17 +69,15 @@ loop-less c = search needs
 
 loop-again : tie.Need-loop-again Inv-loop μ-loop
 loop-again c =
-    let at-loop = c .before .before .before .before in
-    let start = at-loop .before .before .before .before .before .before .before .before .before in (
-      at-loop .loop .inv .0,
-      renaming-next (at-loop .loop .inv .1) (start .pre .narrow) (omega arith) (ap (nameIn
-          (start .args .names .now)) (c .before .wide3 .ensures)),
+    let start = c .before .before .before .before .before .before .before .before .before .before .before .before .before .before .before .before .before .before in (
+      c .before .before .before .before .before .loop .inv .0,
+      renaming-next (c .before .before .before .before .before .loop .inv .1) (start .pre .narrow) (omega arith)
+          (ap (nameIn (start .args .names .now)) (c .before .before .before .arg-of .ensures .0)) (c .put-arg .ensures),
     )
 
 returns : tie.Need-returns Inv-loop μ-loop
 returns c =
-    let start = c .before .before .before .before .before .before .before .before .before .before in
-    renaming-end (c .before .loop .inv .1) (start .pre .narrow) (omega arith)
+    renaming-end (c .before .loop .inv .1) (c .before .before .before .before .before .before .before .before .before .before .before .before .before .before .pre .narrow) (omega arith)
 
 pub renamed-spec : {M : Type 1} → statement M
 renamed-spec =
@@ -113,27 +85,18 @@ renamed-spec =
     (tie.spec
     Inv-loop
     μ-loop
-    shared-slice-read-entry
-    array-write-entry
-    add-entry
-    shared-slice-read-entry-2
-    array-write-entry-2
-    add-wide
-    shared-slice-read-wide
-    wide-requires
-    element-copy-out-entry
-    array-write-entry-3
-    add-wide-2
-    shared-slice-read-wide-2
-    wide-requires-2
+    arity-of-requires
+    out-of-requires
+    blank-entry-requires
+    label-of-requires
+    put-label-requires
+    put-arity-requires
+    element-copy-out-put-out
+    put-out-requires
     loop-holds
-    add-wide-3
-    add-wide-4
-    shared-slice-read-wide-3
-    wide-requires-3
-    element-copy-out-entry-2
-    add-entry-2
-    array-write-entry-4
+    arg-of-requires
+    element-copy-out-put-arg
+    put-arg-requires
     add-k
     loop-less
     loop-again

@@ -1,15 +1,15 @@
 -- `number::args_precede` meets its contract: the answer is that of the arguments left.
-use mathlib.Core.List.{map}
-use mathlib.Core.Path.{_∙_, ap, ap₂, sym}
-use Prim.Native.Nat.{_+_, _-_}
-use native.Mathlib.Omega.{arith}
-use lib.Dec.{ltb}
-use borrow.Author.Needs.{needs}
-use Rattle.automata.specs.Order.{lex}
-use Rattle.fields.specs.Fields.{firstArgs}
-use Rattle.minimize.specs.Merged.{nameIn}
-use Rattle.fields.proofs.Searching.{LexFrom, lex-decided, lex-end, lex-next}
 use Rattle.minimize.proofs.Arguments.{argName, names-start}
+use Rattle.fields.proofs.Searching.{LexFrom, lex-decided, lex-end, lex-next}
+use Rattle.minimize.specs.Merged.{nameIn}
+use Rattle.fields.specs.Fields.{firstArgs}
+use Rattle.automata.specs.Order.{lex}
+use lib.Dec.{ltb}
+use native.Mathlib.Omega.{arith}
+use Prim.Native.Nat.{_+_, _-_}
+use mathlib.Core.Path.{_∙_, ap, ap₂, sym}
+use mathlib.Core.List.{map}
+use borrow.Author.Needs.{needs}
 use Rattle.minimize.proofs.number.args_precede.Statement.{statement}
 use Rattle.minimize.proofs.number.args_precede.Tie as tie
 
@@ -23,54 +23,31 @@ abbrev μ-loop : tie.MeasureT-loop
 
 loop-holds : tie.Need-loop-holds Inv-loop μ-loop
 loop-holds c =
-    names-start (c .before .args .numbers .now) (c .before .args .transitions .now) (c .before .args .a) (c .before .args
-    .b) (c .before .args .n)
+    names-start (c .before .args .numbers .now) (c .before .args .transitions .now) (c .before .args .a) (c .before .args .b) (c .before .args .n)
 
-add-wide : tie.Need-add-wide Inv-loop μ-loop
-add-wide c = search needs
+arg-of-requires : tie.Need-arg-of-requires Inv-loop μ-loop
+arg-of-requires c κs = search needs
 
-add-wide-2 : tie.Need-add-wide-2 Inv-loop μ-loop
-add-wide-2 c = search needs
-
-shared-slice-read-wide : tie.Need-shared-slice-read-wide Inv-loop μ-loop
-shared-slice-read-wide c = search needs
-
-wide-requires : tie.Need-wide-requires Inv-loop μ-loop
-wide-requires c κs = search needs
-
-add-wide-3 : tie.Need-add-wide-3 Inv-loop μ-loop
-add-wide-3 c = search needs
-
-add-wide-4 : tie.Need-add-wide-4 Inv-loop μ-loop
-add-wide-4 c = search needs
-
-shared-slice-read-wide-2 : tie.Need-shared-slice-read-wide-2 Inv-loop μ-loop
-shared-slice-read-wide-2 c = search needs
-
-wide-requires-2 : tie.Need-wide-requires-2 Inv-loop μ-loop
-wide-requires-2 c κs = search needs
+arg-of-requires-2 : tie.Need-arg-of-requires-2 Inv-loop μ-loop
+arg-of-requires-2 c κs = search needs
 
 element-copy-out-x : tie.Need-element-copy-out-x Inv-loop μ-loop
 element-copy-out-x c =
-    let at-loop = c .before .before .before .before .before in
-    let start = at-loop .before .before in
-    omega (arith, c .before .before .before .shared-slice-known2 .given (start .args .a + 2 + at-loop .loop .k))
+    let start = c .before .before .before .before .before in
+    omega arith
 
 element-copy-out-y : tie.Need-element-copy-out-y Inv-loop μ-loop
 element-copy-out-y c =
-    let at-loop = c .before .before .before .before .before .before in
-    let start = at-loop .before .before in
-    omega (arith, c .before .before .shared-slice-known3 .given (start .args .b + 2 + at-loop .loop .k))
+    let start = c .before .before .before .before .before .before in
+    omega arith
 
 returns : tie.Need-returns Inv-loop μ-loop
 returns c =
-    let at-wide = c .before .before .before .before .before in
-    let at-loop = at-wide .before .before .before in
-    let start = at-loop .before .before in
+    let start = c .before .before .before .before .before .before .before .before in
     let numbers = start .args .numbers .now in
-    let x = ap (nameIn numbers) (at-wide .wide .ensures) in
-    let y = ap (nameIn numbers) (c .before .before .before .wide2 .ensures) in
-    ap₂ ltb x y ∙ lex-decided (at-loop .loop .inv) (omega arith) (λ e. c .if1 .taken (x ∙ e ∙ sym y))
+    let x = ap (nameIn numbers) (c .before .before .before .before .arg-of .ensures .0) in
+    let y = ap (nameIn numbers) (c .before .before .before .arg-of2 .ensures .0) in
+    ap₂ ltb x y ∙ lex-decided (c .before .before .before .before .before .before .loop .inv) (omega arith) (λ e. c .if1 .taken (x ∙ e ∙ sym y))
 
 add-k : tie.Need-add-k Inv-loop μ-loop
 add-k c = search needs
@@ -80,12 +57,10 @@ loop-less c = search needs
 
 loop-again : tie.Need-loop-again Inv-loop μ-loop
 loop-again c =
-    let at-wide = c .before .before .before .before .before in
-    let at-loop = at-wide .before .before .before in
-    let start = at-loop .before .before in
+    let start = c .before .before .before .before .before .before .before .before in
     let numbers = start .args .numbers .now in
-    lex-next (at-loop .loop .inv) (omega arith) (sym (ap (nameIn numbers) (at-wide .wide .ensures)) ∙ c .if1 .left ∙
-    ap (nameIn numbers) (c .before .before .before .wide2 .ensures))
+    lex-next (c .before .before .before .before .before .before .loop .inv) (omega arith) (sym (ap (nameIn numbers) (c .before .before .before .before .arg-of .ensures .0)) ∙ c .if1 .left ∙
+    ap (nameIn numbers) (c .before .before .before .arg-of2 .ensures .0))
 
 returns-2 : tie.Need-returns-2 Inv-loop μ-loop
 returns-2 c = lex-end (c .before .loop .inv) (omega arith)
@@ -97,14 +72,8 @@ args-precede-spec =
     Inv-loop
     μ-loop
     loop-holds
-    add-wide
-    add-wide-2
-    shared-slice-read-wide
-    wide-requires
-    add-wide-3
-    add-wide-4
-    shared-slice-read-wide-2
-    wide-requires-2
+    arg-of-requires
+    arg-of-requires-2
     element-copy-out-x
     element-copy-out-y
     returns

@@ -1,12 +1,12 @@
 -- `number::first_unsettled` meets its contract: the outputs that were passed have numbers.
-use mathlib.Core.Path.{_∙_, ap, sym}
-use Prim.Native.Nat.{_*_, _+_, _-_, _≤_}
-use native.Mathlib.Omega.{arith}
-use borrow.Author.Needs.{needs}
-use Rattle.marking.specs.Marks.{marked}
-use Rattle.minimize.specs.Numbering.{Settled}
-use Rattle.marking.proofs.Sweeps.{nonzero-true}
 use Rattle.minimize.proofs.Ready.{settled-next}
+use Rattle.marking.proofs.Sweeps.{nonzero-true}
+use Rattle.minimize.specs.Numbering.{Settled}
+use Rattle.marking.specs.Marks.{marked}
+use native.Mathlib.Omega.{arith}
+use Prim.Native.Nat.{_*_, _+_, _-_, _≤_}
+use mathlib.Core.Path.{_∙_, ap, sym}
+use borrow.Author.Needs.{needs}
 use Rattle.minimize.proofs.number.first_unsettled.Statement.{statement}
 use Rattle.minimize.proofs.number.first_unsettled.Tie as tie
 
@@ -19,21 +19,14 @@ abbrev μ-loop : tie.MeasureT-loop
 loop-holds : tie.Need-loop-holds Inv-loop μ-loop
 loop-holds c = search needs
 
-mul-wide : tie.Need-mul-wide Inv-loop μ-loop
-mul-wide c = search needs
+mul-out-of : tie.Need-mul-out-of Inv-loop μ-loop
+mul-out-of c = search needs
 
-add-wide : tie.Need-add-wide Inv-loop μ-loop
-add-wide c = search needs
-
-shared-slice-read-wide : tie.Need-shared-slice-read-wide Inv-loop μ-loop
-shared-slice-read-wide c = search needs
-
-wide-requires : tie.Need-wide-requires Inv-loop μ-loop
-wide-requires c κs = search needs
+out-of-requires : tie.Need-out-of-requires Inv-loop μ-loop
+out-of-requires c κs = search needs
 
 element-copy-out-if1 : tie.Need-element-copy-out-if1 Inv-loop μ-loop
-element-copy-out-if1 c =
-    omega (arith, c .before .shared-slice-known2 .given (11 * (c .before .before .before .loop) .i + 10))
+element-copy-out-if1 c = omega arith
 
 returns : tie.Need-returns Inv-loop μ-loop
 returns c = search needs
@@ -45,12 +38,11 @@ loop-less : tie.Need-loop-less Inv-loop μ-loop
 loop-less c = search needs
 
 loop-again : tie.Need-loop-again Inv-loop μ-loop
-loop-again c =
-    let at-loop = c .before .before .before .before .before in (
-      omega arith,
-      settled-next (at-loop .loop .inv .1) (ap (marked (at-loop .before .before .args .numbers .now))
-          (sym (c .before .before .wide .ensures)) ∙ nonzero-true _ (c .if1 .left)),
-    )
+loop-again c = (
+  omega arith,
+  settled-next (c .before .before .before .before .loop .inv .1) (ap (marked (c .before .before .before .before .before .before .args .numbers .now))
+      (sym (c .before .before .out-of .ensures .0)) ∙ nonzero-true _ (c .if1 .left)),
+)
 
 returns-2 : tie.Need-returns-2 Inv-loop μ-loop
 returns-2 c = search needs
@@ -62,10 +54,8 @@ first-unsettled-spec =
     Inv-loop
     μ-loop
     loop-holds
-    mul-wide
-    add-wide
-    shared-slice-read-wide
-    wide-requires
+    mul-out-of
+    out-of-requires
     element-copy-out-if1
     returns
     add-i

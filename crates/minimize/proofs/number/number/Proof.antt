@@ -1,11 +1,11 @@
 -- `number::number` meets its contract: what is left to number goes on from the order so far.
-use mathlib.Core.Path.{refl}
-use Prim.Native.Nat.{_*_, _+_, _-_, _≤_}
-use native.Mathlib.Omega.{arith}
-use borrow.Author.Needs.{needs}
-use Rattle.minimize.specs.Numbering.{Settled}
-use Rattle.minimize.proofs.Ordering.{Ordering, ordering-end, ordering-few, ordering-next, ordering-start}
 use Rattle.minimize.proofs.Ready.{settled-more, settled-none}
+use Rattle.minimize.proofs.Ordering.{Ordering, ordering-end, ordering-few, ordering-next, ordering-start}
+use Rattle.minimize.specs.Numbering.{Settled}
+use native.Mathlib.Omega.{arith}
+use Prim.Native.Nat.{_*_, _+_, _-_, _≤_}
+use mathlib.Core.Path.{refl}
+use borrow.Author.Needs.{needs}
 use Rattle.minimize.proofs.number.number.Statement.{statement}
 use Rattle.minimize.proofs.number.number.Tie as tie
 
@@ -30,14 +30,14 @@ loop-holds c =
           (start .pre .1 .1 .1 .1 .1) _ (c .first-ready .ensures .1),
     )
 
-mul-q : tie.Need-mul-q Inv-loop μ-loop
-mul-q c = search needs
+mul-out-of : tie.Need-mul-out-of Inv-loop μ-loop
+mul-out-of c = search needs
 
-add-q : tie.Need-add-q Inv-loop μ-loop
-add-q c = search needs
+out-of-requires : tie.Need-out-of-requires Inv-loop μ-loop
+out-of-requires c κs = search needs
 
-shared-slice-read-q : tie.Need-shared-slice-read-q Inv-loop μ-loop
-shared-slice-read-q c = search needs
+cast-order : tie.Need-cast-order Inv-loop μ-loop
+cast-order c = search needs
 
 element-write-order : tie.Need-element-write-order Inv-loop μ-loop
 element-write-order c =
@@ -48,56 +48,38 @@ add-k c = omega (arith, c .before .before .loop .inv .3 .few)
 
 cast-numbers : tie.Need-cast-numbers Inv-loop μ-loop
 cast-numbers c =
-    let at-loop = c .before .before in
-    let byte = c .shared-slice-known2 .given (11 * at-loop .loop .best + 10) in
     omega (
       arith,
-      ordering-few (at-loop .loop .inv .3) (c .before .loop-test .taken) refl
-          (at-loop .before .before .before .before .pre .1 .1 .0) (omega (arith, byte)),
+      ordering-few (c .before .before .loop .inv .3) (c .before .loop-test .taken) (c .out-of .ensures .0) (c .before .before .before .before .before .before .pre .1 .1 .0) (omega (arith, c .out-of .ensures .1)),
     )
-
-wide-requires : tie.Need-wide-requires Inv-loop μ-loop
-wide-requires c κs = search needs
 
 element-write-numbers : tie.Need-element-write-numbers Inv-loop μ-loop
 element-write-numbers c =
-    let at-loop = c .before .before .before in
     omega (
       arith,
-      at-loop .loop .inv .3 .room′,
-      c .before .shared-slice-known2 .given (11 * at-loop .loop .best + 10),
+      c .before .before .loop .inv .3 .room′,
     )
 
 first-unsettled-requires : tie.Need-first-unsettled-requires Inv-loop μ-loop
-first-unsettled-requires c κs =
-    let at-loop = c .before .before .before .before in
-    let byte = c .before .before .shared-slice-known2 .given (11 * at-loop .loop .best + 10) in (
-      at-loop .before .before .before .before .pre .0,
-      (
-        at-loop .loop .inv .1,
-        settled-more (at-loop .loop .inv .2) _ _
-            (omega (arith, c .before .wide .ensures, at-loop .loop .inv .3 .room′, byte)),
-      ),
-    )
+first-unsettled-requires c κs = (
+  c .before .before .before .before .before .before .before .pre .0,
+  (c .before .before .before .loop .inv .1, settled-more (c .before .before .before .loop .inv .2) _ _ (omega (arith, c .before .before .before .loop .inv .3 .room′, c .before .out-of .ensures .1))),
+)
 
 first-ready-requires-2 : tie.Need-first-ready-requires-2 Inv-loop μ-loop
 first-ready-requires-2 c κs = search needs
 
 loop-less : tie.Need-loop-less Inv-loop μ-loop
-loop-less c = omega (arith, c .before .before .before .before .before .before .before .loop .inv .3 .few)
+loop-less c = omega (arith, c .before .before .before .before .before .before .loop .inv .3 .few)
 
 loop-again : tie.Need-loop-again Inv-loop μ-loop
-loop-again c =
-    let at-wide = c .before .before .before .before in
-    let at-loop = at-wide .before .before .before in
-    let byte = at-wide .before .shared-slice-known2 .given (11 * at-loop .loop .best + 10) in (
-      c .first-ready2 .ensures .0,
-      c .before .before .first-unsettled .ensures .0,
-      c .before .before .first-unsettled .ensures .1,
-      ordering-next (at-loop .loop .inv .3) (at-wide .before .before .loop-test .taken) refl
-          (at-loop .before .before .before .before .pre .1 .1 .0) (omega (arith, byte)) (at-wide .wide .ensures)
-          (c .first-ready2 .ensures .1),
-    )
+loop-again c = (
+  c .first-ready2 .ensures .0,
+  c .before .before .first-unsettled .ensures .0,
+  c .before .before .first-unsettled .ensures .1,
+  ordering-next (c .before .before .before .before .before .before .loop .inv .3) (c .before .before .before .before .before .loop-test .taken) (c .before .before .before .before .out-of .ensures .0) (c .before .before .before .before .before .before .before .before .before .before .pre .1 .1 .0)
+      (omega (arith, c .before .before .before .before .out-of .ensures .1)) refl (c .first-ready2 .ensures .1),
+)
 
 returns : tie.Need-returns Inv-loop μ-loop
 returns c = ordering-end (c .before .loop .inv .3) (omega arith)
@@ -110,13 +92,12 @@ number-spec =
     μ-loop
     first-ready-requires
     loop-holds
-    mul-q
-    add-q
-    shared-slice-read-q
+    mul-out-of
+    out-of-requires
+    cast-order
     element-write-order
     add-k
     cast-numbers
-    wide-requires
     element-write-numbers
     first-unsettled-requires
     first-ready-requires-2

@@ -1,12 +1,12 @@
-use borrow.Author.Tests.{not-false, not-true}
-use native.Mathlib.Omega.{arith}
-use lib.ListN.{getD}
-use mathlib.Core.Path.{_≡_, _∙_, ap, sym}
-use Prim.Native.Nat.{_*_, _+_, _-_, ℕ}
-use Rattle.lists.proofs.Loops.{EveryFrom, every-broken, every-end, every-next, every-start}
-use Rattle.fingerprints.specs.Fingerprints.{printOf}
-use Rattle.partition.specs.Parts.{agreesPlace, agreesTransition}
 use Rattle.table.specs.Layout.{arityOf}
+use Rattle.partition.specs.Parts.{agreesPlace, agreesTransition}
+use Rattle.fingerprints.specs.Fingerprints.{printOf}
+use Rattle.lists.proofs.Loops.{EveryFrom, every-broken, every-end, every-next, every-start}
+use Prim.Native.Nat.{_*_, _+_, _-_, ℕ}
+use mathlib.Core.Path.{_≡_, _∙_, ap, sym}
+use lib.ListN.{getD}
+use native.Mathlib.Omega.{arith}
+use borrow.Author.Tests.{not-false, not-true}
 use borrow.Author.Needs.{needs}
 use Rattle.partition.proofs.agreeing.transition_agrees.Statement.{statement}
 use Rattle.partition.proofs.agreeing.transition_agrees.Tie as tie
@@ -19,33 +19,20 @@ Inv-loop run count n i prints shared arity k₀ k =
 abbrev μ-loop : tie.MeasureT-loop
 μ-loop run count n i prints shared arity k₀ k = arity - k
 
-mul-wide : tie.Need-mul-wide Inv-loop μ-loop
-mul-wide c = search needs
+mul-arity-of : tie.Need-mul-arity-of Inv-loop μ-loop
+mul-arity-of c = search needs
 
-add-wide : tie.Need-add-wide Inv-loop μ-loop
-add-wide c = search needs
-
-sub-wide : tie.Need-sub-wide Inv-loop μ-loop
-sub-wide c = search needs
-
-shared-slice-read-wide : tie.Need-shared-slice-read-wide Inv-loop μ-loop
-shared-slice-read-wide c = search needs
-
-wide-requires : tie.Need-wide-requires Inv-loop μ-loop
-wide-requires c κs = search needs
+arity-of-requires : tie.Need-arity-of-requires Inv-loop μ-loop
+arity-of-requires c κs = search needs
 
 loop-holds : tie.Need-loop-holds Inv-loop μ-loop
 loop-holds c =
-    let start = c .before .before .before in
-    let e : 11 * (start .args) .i + 2 - 1 ≡ 11 * (start .args) .i + 1 = omega arith in (
-      c .wide .ensures ∙ ap (λ (j : ℕ). getD (start .args .transitions .now) j 0) e,
-      every-start (arityOf (start .args
-          .transitions .now) (11 * (start .args) .i)) (omega arith),
-    )
+    let start = c .before .before in
+    (c .arity-of .ensures, every-start (arityOf (start .args .transitions .now) (11 * (start .args) .i)) (omega arith))
 
 place-agrees-requires : tie.Need-place-agrees-requires Inv-loop μ-loop
 place-agrees-requires c κs =
-    let start = c .before .before .before .before .before in (
+    let start = c .before .before .before .before in (
       start .pre .0,
       (
         start .pre .1 .0,
@@ -56,8 +43,7 @@ place-agrees-requires c κs =
             (
               omega (
                 arith,
-                c .before
-                    .loop .inv .0,
+                c .before .loop .inv .0,
               ),
               start .pre .1 .1 .1 .1,
             ),
@@ -68,9 +54,7 @@ place-agrees-requires c κs =
 
 returns : tie.Need-returns Inv-loop μ-loop
 returns c =
-    let at-loop = c .before .before .before in
-    every-broken (at-loop .loop .inv .1) (omega (arith, at-loop .loop .inv .0)) (sym (c .before .place-agrees
-    .ensures) ∙ not-true _ (c .if1 .taken))
+    every-broken (c .before .before .before .loop .inv .1) (omega (arith, c .before .before .before .loop .inv .0)) (sym (c .before .place-agrees .ensures) ∙ not-true _ (c .if1 .taken))
 
 add-k : tie.Need-add-k Inv-loop μ-loop
 add-k c = search needs
@@ -79,12 +63,10 @@ loop-less : tie.Need-loop-less Inv-loop μ-loop
 loop-less c = search needs
 
 loop-again : tie.Need-loop-again Inv-loop μ-loop
-loop-again c =
-    let at-loop = c .before .before .before in (
-      at-loop .loop .inv .0,
-      every-next (at-loop .loop .inv .1) (omega (arith, at-loop .loop .inv .0)) (sym (c
-          .before .place-agrees .ensures) ∙ not-false _ (c .if1 .left)),
-    )
+loop-again c = (
+  c .before .before .before .loop .inv .0,
+  every-next (c .before .before .before .loop .inv .1) (omega (arith, c .before .before .before .loop .inv .0)) (sym (c .before .place-agrees .ensures) ∙ not-false _ (c .if1 .left)),
+)
 
 returns-2 : tie.Need-returns-2 Inv-loop μ-loop
 returns-2 c = every-end (c .before .loop .inv .1) (omega (arith, c .before .loop .inv .0))
@@ -95,11 +77,8 @@ transition-agrees-spec =
     (tie.spec
     Inv-loop
     μ-loop
-    mul-wide
-    add-wide
-    sub-wide
-    shared-slice-read-wide
-    wide-requires
+    mul-arity-of
+    arity-of-requires
     loop-holds
     place-agrees-requires
     returns

@@ -1,15 +1,15 @@
 -- `products::choices::all_offered` meets its contract: each argument passed has a candidate.
-use mathlib.Core.Path.{_∙_, _≡_, sym}
-use Prim.Native.Nat.{_-_}
-use native.Mathlib.Omega.{arith}
-use borrow.Author.Needs.{needs}
-use borrow.Author.Tests.{not-false, not-true}
-use Rattle.lists.specs.Positions.{upFrom}
-use Rattle.lists.specs.Tests.{every}
-use Rattle.marking.specs.Marks.{marked}
-use Rattle.table.specs.Layout.{arityOf}
-use Rattle.lists.proofs.Loops.{EveryFrom, every-broken, every-end, every-next, every-start}
 use Rattle.products.specs.Choices.{candidate, offered}
+use Rattle.lists.proofs.Loops.{EveryFrom, every-broken, every-end, every-next, every-start}
+use Rattle.table.specs.Layout.{arityOf}
+use Rattle.marking.specs.Marks.{marked}
+use Rattle.lists.specs.Tests.{every}
+use Rattle.lists.specs.Positions.{upFrom}
+use borrow.Author.Tests.{not-false, not-true}
+use native.Mathlib.Omega.{arith}
+use Prim.Native.Nat.{_-_}
+use mathlib.Core.Path.{_∙_, _≡_, sym}
+use borrow.Author.Needs.{needs}
 use Rattle.products.proofs.choices.all_offered.Statement.{statement}
 use Rattle.products.proofs.choices.all_offered.Tie as tie
 
@@ -21,28 +21,32 @@ Inv-loop n m states marks entry arity k₀ k =
 abbrev μ-loop : tie.MeasureT-loop
 μ-loop n m states marks entry arity k₀ k = arity - k
 
-array-read-wide : tie.Need-array-read-wide Inv-loop μ-loop
-array-read-wide c = search needs
+slice-aggregate-arity-of : tie.Need-slice-aggregate-arity-of Inv-loop μ-loop
+slice-aggregate-arity-of c = search needs
 
-wide-requires : tie.Need-wide-requires Inv-loop μ-loop
-wide-requires c κs = search needs
+arity-of-requires : tie.Need-arity-of-requires Inv-loop μ-loop
+arity-of-requires c κs = search needs
 
 loop-holds : tie.Need-loop-holds Inv-loop μ-loop
-loop-holds c = (every-start (arityOf (c .before .args .t5) 0) (omega arith), c .wide .ensures)
+loop-holds c = (every-start (arityOf (c .before .before .args .t5) 0) (omega arith), c .arity-of .ensures)
 
-add-has-candidate : tie.Need-add-has-candidate Inv-loop μ-loop
-add-has-candidate c = search needs
+slice-aggregate-arg-of : tie.Need-slice-aggregate-arg-of Inv-loop μ-loop
+slice-aggregate-arg-of c = search needs
 
-array-read-has-candidate : tie.Need-array-read-has-candidate Inv-loop μ-loop
-array-read-has-candidate c = search needs
+arg-of-requires : tie.Need-arg-of-requires Inv-loop μ-loop
+arg-of-requires c κs = search needs
+
+cast-has-candidate : tie.Need-cast-has-candidate Inv-loop μ-loop
+cast-has-candidate c = search needs
 
 has-candidate-requires : tie.Need-has-candidate-requires Inv-loop μ-loop
 has-candidate-requires c κs = search needs
 
 returns : tie.Need-returns Inv-loop μ-loop
 returns c =
-    let loop = c .before .before .before .loop in
-    every-broken (loop .inv .0) (omega arith) (sym (c .before .has-candidate .ensures) ∙ not-true _ (c .if1 .taken))
+    let loop = c .before .before .before .before .before .loop in
+    let arg = c .before .before .arg-of .ensures .0 in
+    every-broken (loop .inv .0) (omega arith) (sym (rw arg at (c .before .has-candidate .ensures)) ∙ not-true _ (c .if1 .taken))
 
 add-k : tie.Need-add-k Inv-loop μ-loop
 add-k c = search needs
@@ -52,8 +56,9 @@ loop-less c = search needs
 
 loop-again : tie.Need-loop-again Inv-loop μ-loop
 loop-again c =
-    let loop = c .before .before .before .loop in (
-      every-next (loop .inv .0) (omega arith) (sym (c .before .has-candidate .ensures) ∙ not-false _ (c .if1 .left)),
+    let loop = c .before .before .before .before .before .loop in
+    let arg = c .before .before .arg-of .ensures .0 in (
+      every-next (loop .inv .0) (omega arith) (sym (rw arg at (c .before .has-candidate .ensures)) ∙ not-false _ (c .if1 .left)),
       loop .inv .1,
     )
 
@@ -66,11 +71,12 @@ all-offered-spec =
     (tie.spec
     Inv-loop
     μ-loop
-    array-read-wide
-    wide-requires
+    slice-aggregate-arity-of
+    arity-of-requires
     loop-holds
-    add-has-candidate
-    array-read-has-candidate
+    slice-aggregate-arg-of
+    arg-of-requires
+    cast-has-candidate
     has-candidate-requires
     returns
     add-k

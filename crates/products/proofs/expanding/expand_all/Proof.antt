@@ -1,16 +1,16 @@
 -- `products::expanding::expand_all` meets its contract: the transitions passed have their choices in the scratch.
-use Prim.Native.Nat.{_*_, _-_, _≤_}
-use native.Mathlib.Omega.{arith}
-use borrow.Author.Needs.{needs}
-use Rattle.marking.specs.Marks.{marked}
-use Rattle.table.specs.Layout.{nthTransition, transitionsIn}
-use Rattle.fields.proofs.Transitions.{readable}
-use Rattle.products.specs.Choices.{candidate, nthExpands}
-use Rattle.products.specs.Growth.{Added, SomeBelow}
+use Rattle.products.proofs.Growing.{added-begin, added-end, added-next, live-none, overflow-next, overflowed, returned}
 use Rattle.products.proofs.Choosing.{over-first}
-use Rattle.products.proofs.Entries.{copied-entry}
-use Rattle.products.proofs.Growing.{added-begin, added-end, added-next, live-none, overflow-next, overflowed}
-use Rattle.products.proofs.Growing.{returned}
+use Rattle.products.specs.Growth.{Added, SomeBelow}
+use Rattle.products.specs.Choices.{candidate, nthExpands}
+use Rattle.fields.proofs.Transitions.{readable}
+use Rattle.table.specs.Layout.{nthTransition, transitionsIn}
+use Rattle.marking.specs.Marks.{marked}
+use native.Mathlib.Omega.{arith}
+use Prim.Native.Nat.{_*_, _-_, _≤_}
+use Rattle.format.specs.Format.{transitionBytes}
+use Rattle.products.proofs.Entries.{copied-is, copied-entry}
+use borrow.Author.Needs.{needs}
 use Rattle.products.proofs.expanding.expand_all.Statement.{statement}
 use Rattle.products.proofs.expanding.expand_all.Tie as tie
 
@@ -27,22 +27,20 @@ loop-holds c =
     let start = c .before .before .before in
     let T = transitionsIn (start .args .nodes .now) (start .args .found) in
     let cand = candidate (marked (start .args .marks .now)) (start .args .states .now) (start .args .n) in (
-      added-begin (nthExpands (start .args .transitions .now) cand (start .args .m) T) (live-none (start .args .scratch
-          .now)),
+      added-begin (nthExpands (start .args .transitions .now) cand (start .args .m) T) (live-none (start .args .scratch .now)),
       omega arith,
     )
 
-mul-transition : tie.Need-mul-transition Inv-loop μ-loop
-mul-transition c = search needs
+mul-entry-at : tie.Need-mul-entry-at Inv-loop μ-loop
+mul-entry-at c = search needs
 
-transition-requires : tie.Need-transition-requires Inv-loop μ-loop
-transition-requires c κs =
-    let start = c .before .before .before .before .before in
-    readable (start .pre .0 .runs) (c .before .loop .i) (c .loop-test .taken)
+entry-at-requires : tie.Need-entry-at-requires Inv-loop μ-loop
+entry-at-requires c κs = search needs
 
 expand-requires : tie.Need-expand-requires Inv-loop μ-loop
 expand-requires c κs =
     let start = c .before .before .before .before .before .before .before in
+    let is = copied-is (start .args .transitions .now) (transitionBytes * c .before .before .before .loop .i) (c .before .entry-at .ensures) (start .pre .0 .runs .narrow (c .before .before .before .loop .i) (c .before .before .loop-test .taken)) in
     let loop = c .before .before .before .loop in
     let loop-test = c .before .before .loop-test in (
       start .pre .1 .0,
@@ -52,8 +50,7 @@ expand-requires c κs =
           start .pre .1 .1 .1 .0,
           (
             copied-entry (start .args .transitions .now) (11 *
-                loop .i) (c .before .transition .result) (c .before .transition .ensures) (start .pre .0 .runs
-                .narrow (loop .i)
+                loop .i) (c .before .entry-at .result) is (start .pre .0 .runs .narrow (loop .i)
                 (loop-test .taken)) (start .pre .0 .out-some (loop .i) (loop-test .taken)),
             (
               omega arith,
@@ -82,16 +79,14 @@ same-length c =
 returns : tie.Need-returns Inv-loop μ-loop
 returns c =
     let start = c .before .before .before .before .before .before .before .before .before .before .before .before in
+    let is = copied-is (start .args .transitions .now) (transitionBytes * c .before .before .before .before .before .before .before .before .loop .i) (c .before .before .before .before .before .before .entry-at .ensures) (start .pre .0 .runs .narrow (c .before .before .before .before .before .before .before .before .loop .i) (c .before .before .before .before .before .before .before .loop-test .taken)) in
     let loop = c .before .before .before .before .before .before .before .before .loop in
     let loop-test = c .before .before .before .before .before .before .before .loop-test in
-    let transition-call = c .before .before .before .before .before .before .transition in
     let expand-call = c .before .before .before .before .expand in
     let T = transitionsIn (start .args .nodes .now) (start .args .found) in
     let cand = candidate (marked (start .args .marks .now)) (start .args .states .now) (start .args .n) in
-    overflowed (overflow-next (nthExpands (start .args .transitions .now) cand (start .args .m) T) (loop .i) (start .args
-    .count) (loop-test .taken) (loop .inv .0) (over-first cand (start .args .m) T (transition-call .result)
-    (nthTransition (start .args .transitions .now) (loop .i)) (transition-call .ensures) (expand-call .ensures) .over (c
-    .enum-told .given .1)))
+    overflowed (overflow-next (nthExpands (start .args .transitions .now) cand (start .args .m) T) (loop .i) (start .args .count) (loop-test .taken) (loop .inv .0) (over-first cand (start .args .m) T (c .before .before .before .before .before .before .entry-at .result)
+    (nthTransition (start .args .transitions .now) (loop .i)) is (expand-call .ensures) .over (c .enum-told .given .1)))
 
 add-i : tie.Need-add-i Inv-loop μ-loop
 add-i c = search needs
@@ -101,16 +96,15 @@ loop-less c = search needs
 
 loop-again : tie.Need-loop-again Inv-loop μ-loop
 loop-again c =
-    let start = c .before .before .before .before .before .before .before .before .before .before .before .before
-    .before in
+    let start = c .before .before .before .before .before .before .before .before .before .before .before .before .before in
+    let is = copied-is (start .args .transitions .now) (transitionBytes * c .before .before .before .before .before .before .before .before .before .loop .i) (c .before .before .before .before .before .before .before .entry-at .ensures) (start .pre .0 .runs .narrow (c .before .before .before .before .before .before .before .before .before .loop .i) (c .before .before .before .before .before .before .before .before .loop-test .taken)) in
     let loop = c .before .before .before .before .before .before .before .before .before .loop in
-    let transition-call = c .before .before .before .before .before .before .before .transition in
     let expand-call = c .before .before .before .before .before .expand in
     let T = transitionsIn (start .args .nodes .now) (start .args .found) in
     let cand = candidate (marked (start .args .marks .now)) (start .args .states .now) (start .args .n) in (
       added-next (nthExpands (start .args .transitions .now) cand (start .args .m) T) (loop .i) (loop .inv .0) (over-first
-          cand (start .args .m) T (transition-call .result) (nthTransition (start .args .transitions .now) (loop .i))
-          (transition-call .ensures) (expand-call .ensures) .done (c .before .more .given .0 .0) (c .before .more .given
+          cand (start .args .m) T (c .before .before .before .before .before .before .before .entry-at .result) (nthTransition (start .args .transitions .now) (loop .i))
+          is (expand-call .ensures) .done (c .before .more .given .0 .0) (c .before .more .given
           .1)),
       omega arith,
     )
@@ -123,8 +117,7 @@ returns-2 c =
     let start = c .before .before .before .before .before in
     let T = transitionsIn (start .args .nodes .now) (start .args .found) in
     let cand = candidate (marked (start .args .marks .now)) (start .args .states .now) (start .args .n) in
-    returned (added-end (nthExpands (start .args .transitions .now) cand (start .args .m) T) (c .before .loop .i) (start
-    .args .count) (c .before .loop .inv .1) (c .loop-test .left) (c .before .loop .inv .0))
+    returned (added-end (nthExpands (start .args .transitions .now) cand (start .args .m) T) (c .before .loop .i) (start .args .count) (c .before .loop .inv .1) (c .loop-test .left) (c .before .loop .inv .0))
 
 pub expand-all-spec : {M : Type 1} → statement M
 expand-all-spec =
@@ -133,8 +126,8 @@ expand-all-spec =
     Inv-loop
     μ-loop
     loop-holds
-    mul-transition
-    transition-requires
+    mul-entry-at
+    entry-at-requires
     expand-requires
     enum-known-more
     enum-told

@@ -1,12 +1,12 @@
 -- `products::expanding::finish` meets its contract: the entry goes to the subtree that its arguments make, or stays.
-use mathlib.Core.Path.{_≡_, subst, sym}
-use native.Mathlib.Omega.{arith}
-use lib.ListN.{length}
-use borrow.Author.Needs.{needs}
-use Rattle.automata.specs.Automaton.{Transition}
-use Rattle.table.specs.Layout.{transitionsIn}
-use Rattle.products.specs.Growth.{Is, Outcome}
 use Rattle.products.proofs.Choosing.{finish-entry, finish-node, finish-state}
+use Rattle.products.specs.Growth.{Is, Outcome}
+use Rattle.table.specs.Layout.{transitionsIn}
+use Rattle.automata.specs.Automaton.{Transition}
+use lib.ListN.{length}
+use native.Mathlib.Omega.{arith}
+use mathlib.Core.Path.{_≡_, subst, sym}
+use borrow.Author.Needs.{needs}
 use Rattle.products.proofs.expanding.finish.Statement.{statement}
 use Rattle.products.proofs.expanding.finish.Tie as tie
 
@@ -27,23 +27,19 @@ returns c =
     let emit-call = c .before .before .emit in
     let T = transitionsIn (start .args .nodes .now) (start .args .found) in
     subst (λ (σ : Transition). Outcome (Is σ) (start .args .scratch .now) (emit-call .last .0) (start .args .count)
-    (emit-call .result)) (sym (finish-state T (start .args .entry) (output-call .result) (output-call .ensures) (if1
-    .taken))) (emit-call .ensures)
+    (emit-call .result)) (sym (finish-state T (start .args .entry) (output-call .result) (output-call .ensures) (if1 .taken))) (emit-call .ensures)
 
-array-write-node : tie.Need-array-write-node
-array-write-node c = search needs
+put-out-requires : tie.Need-put-out-requires
+put-out-requires c κs = search needs
 
 emit-requires-2 : tie.Need-emit-requires-2
 emit-requires-2 c κs =
-    let start = c .before .before .before .before .before in
-    let output-call = c .before .before .output in
-    let T = transitionsIn (start .args .nodes .now) (start .args .found) in
-    let size : length (start .args .entry) ≡ 11 = omega (arith, start .good) in (
+    let start = c .before .before .before .before .before .before .before in
+    let T = transitionsIn (start .args .nodes .now) (start .args .found) in (
       search needs,
       (
         search needs,
-        finish-entry T (start .args .entry) (output-call .result) (output-call .ensures)
-            size (c .before .if1 .left) (start .pre .1 .0),
+        finish-entry T (start .args .entry) (c .before .before .before .before .output .result) (c .before .before .before .before .output .ensures) (c .before .before .before .if1 .left) (c .before .put-out .ensures) (start .pre .1 .0),
       ),
     )
 
@@ -52,15 +48,12 @@ same-length-2 c = search needs
 
 returns-2 : tie.Need-returns-2
 returns-2 c =
-    let start = c .before .before .before .before .before .before .before .before in
-    let output-call = c .before .before .before .before .before .output in
-    let if1 = c .before .before .before .before .if1 in
+    let start = c .before .before .before .before .before .before .before .before .before .before in
     let emit2-call = c .before .before .emit2 in
     let T = transitionsIn (start .args .nodes .now) (start .args .found) in
-    let size : length (start .args .entry) ≡ 11 = omega (arith, start .good) in
     subst (λ (σ : Transition). Outcome (Is σ) (start .args .scratch .now) (emit2-call .last .0) (start .args .count)
-    (emit2-call .result)) (finish-node T (start .args .entry) (output-call .result) (output-call .ensures) (start
-    .pre .1 .0 .narrow) size (if1 .left)) (emit2-call .ensures)
+    (emit2-call .result)) (finish-node T (start .args .entry) (c .before .before .before .before .before .before .before .output .result) (c .before .before .before .before .before .before .before .output .ensures) (c .before .before .before .before .before .before .if1 .left)
+    (c .before .before .before .before .put-out .ensures) (start .pre .1 .0 .narrow)) (emit2-call .ensures)
 
 pub finish-spec : {M : Type 1} → statement M
 finish-spec =
@@ -70,7 +63,7 @@ finish-spec =
     emit-requires
     same-length
     returns
-    array-write-node
+    put-out-requires
     emit-requires-2
     same-length-2
     returns-2)

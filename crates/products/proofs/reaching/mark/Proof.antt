@@ -1,60 +1,58 @@
 -- `products::reaching::mark` meets its contract: the output has its mark, an argument has no candidate, all
 -- choices make subtrees, or the mark is new.
+use Rattle.products.proofs.Spreading.{mark-new, mark-none, mark-unready, marked-already}
+use Rattle.table.specs.Layout.{transitionsIn}
+use borrow.Author.Tests.{not-false, not-true}
+use native.Mathlib.Omega.{arith}
 use mathlib.Core.Path.{_∙_, sym}
 use Prim.Native.Nat.{_*_, _+_}
-use native.Mathlib.Omega.{arith}
+use Rattle.format.specs.Format.{transitionBytes}
+use Rattle.products.proofs.Entries.{copied-is, copied-arity, copied-out}
 use borrow.Author.Needs.{needs}
-use borrow.Author.Tests.{not-false, not-true}
-use Rattle.table.specs.Layout.{transitionsIn}
-use Rattle.products.proofs.Entries.{copied-arity, copied-out}
-use Rattle.products.proofs.Spreading.{mark-new, mark-none, mark-unready, marked-already}
 use Rattle.products.proofs.reaching.mark.Statement.{statement}
 use Rattle.products.proofs.reaching.mark.Tie as tie
 
-mul-transition : tie.Need-mul-transition
-mul-transition c = search needs
+mul-entry-at : tie.Need-mul-entry-at
+mul-entry-at c = search needs
 
-transition-requires : tie.Need-transition-requires
-transition-requires c κs = search needs
+entry-at-requires : tie.Need-entry-at-requires
+entry-at-requires c κs = search needs
 
-array-read-wide : tie.Need-array-read-wide
-array-read-wide c = search needs
+slice-aggregate-out-of : tie.Need-slice-aggregate-out-of
+slice-aggregate-out-of c = search needs
 
-wide-requires : tie.Need-wide-requires
-wide-requires c κs = search needs
+out-of-requires : tie.Need-out-of-requires
+out-of-requires c κs = search needs
 
 element-copy-out-if1 : tie.Need-element-copy-out-if1
 element-copy-out-if1 c =
-    let start = c .before .before .before .before in
-    let shared-slice-known = c .before .before .before .shared-slice-known in
+    let start = c .before .before .before .before .before in
+    let is = copied-is (start .args .transitions .now) (transitionBytes * (start .args) .i) (c .before .before .entry-at .ensures) (start .pre .0 .narrow) in
     omega (
       arith,
-      (copied-out (start .args .transitions .now) (11 * (start .args) .i) (c .before .transition .result) (c
-          .before .transition .ensures)),
-      c .wide .ensures,
-      shared-slice-known .given (11 * (start .args) .i + 10),
+      (copied-out (start .args .transitions .now) (11 * (start .args) .i) (c .before .before .entry-at .result) is),
+      c .out-of .ensures .0,
     )
 
 returns : tie.Need-returns
 returns c =
-    let start = c .before .before .before .before .before .before in
-    let transition-call = c .before .before .before .transition in
-    let wide-call = c .before .before .wide in
+    let start = c .before .before .before .before .before .before .before in
+    let is = copied-is (start .args .transitions .now) (transitionBytes * (start .args) .i) (c .before .before .before .before .entry-at .ensures) (start .pre .0 .narrow) in
     let T = transitionsIn (start .args .nodes .now) (start .args .found) in
     marked-already (start .args .states .now) (start .args .n) (start .args .m) T (start .args .marks .now)
-    (transition-call .result) (transition-call .ensures) (wide-call .ensures) (c .if1 .taken)
+    (c .before .before .before .before .entry-at .result) is (c .before .before .out-of .ensures .0) (c .if1 .taken)
 
 all-offered-requires : tie.Need-all-offered-requires
 all-offered-requires c κs =
-    let start = c .before .before .before .before .before .before .before in
-    let transition-call = c .before .before .before .before .transition in (
+    let start = c .before .before .before .before .before .before .before .before in
+    let is = copied-is (start .args .transitions .now) (transitionBytes * (start .args) .i) (c .before .before .before .before .before .entry-at .ensures) (start .pre .0 .narrow) in (
       search needs,
       (
         search needs,
         omega (
           arith,
           (copied-arity (start .args .transitions .now) (11 * (start .args) .i)
-              (transition-call .result) (transition-call .ensures)),
+              (c .before .before .before .before .before .entry-at .result) is),
           start .pre .0 .narrow,
         ),
       ),
@@ -62,17 +60,16 @@ all-offered-requires c κs =
 
 returns-2 : tie.Need-returns-2
 returns-2 c =
-    let start = c .before .before .before .before .before .before .before .before .before in
-    let transition-call = c .before .before .before .before .before .before .transition in
+    let start = c .before .before .before .before .before .before .before .before .before .before in
+    let is = copied-is (start .args .transitions .now) (transitionBytes * (start .args) .i) (c .before .before .before .before .before .before .before .entry-at .ensures) (start .pre .0 .narrow) in
     let T = transitionsIn (start .args .nodes .now) (start .args .found) in
     mark-unready (start .args .states .now) (start .args .n) (start .args .m) T (start .args .marks .now)
-    (transition-call .result) (transition-call .ensures) (sym (c .before .all-offered .ensures) ∙ not-true _ (c .if2
-    .taken))
+    (c .before .before .before .before .before .before .before .entry-at .result) is (sym (c .before .all-offered .ensures) ∙ not-true _ (c .if2 .taken))
 
 escapes-requires : tie.Need-escapes-requires
 escapes-requires c κs =
-    let start = c .before .before .before .before .before .before .before .before .before .before in
-    let transition-call = c .before .before .before .before .before .before .before .transition in (
+    let start = c .before .before .before .before .before .before .before .before .before .before .before in
+    let is = copied-is (start .args .transitions .now) (transitionBytes * (start .args) .i) (c .before .before .before .before .before .before .before .before .entry-at .ensures) (start .pre .0 .narrow) in (
       search needs,
       (
         search needs,
@@ -81,8 +78,7 @@ escapes-requires c κs =
           (
             omega (
               arith,
-              (copied-arity (start .args .transitions .now) (11 * (start
-                  .args) .i) (transition-call .result) (transition-call .ensures)),
+              (copied-arity (start .args .transitions .now) (11 * (start .args) .i) (c .before .before .before .before .before .before .before .before .entry-at .result) is),
               start .pre .0 .narrow,
             ),
             omega arith,
@@ -93,45 +89,35 @@ escapes-requires c κs =
 
 returns-3 : tie.Need-returns-3
 returns-3 c =
-    let start = c .before .before .before .before .before .before .before .before .before .before .before .before in
-    let transition-call = c .before .before .before .before .before .before .before .before .before .transition in
+    let start = c .before .before .before .before .before .before .before .before .before .before .before .before .before in
+    let is = copied-is (start .args .transitions .now) (transitionBytes * (start .args) .i) (c .before .before .before .before .before .before .before .before .before .before .entry-at .ensures) (start .pre .0 .narrow) in
     let T = transitionsIn (start .args .nodes .now) (start .args .found) in
     mark-none (start .args .states .now) (start .args .n) (start .args .m) T (start .args .marks .now)
-    (transition-call .result) (transition-call .ensures) (c .before .escapes .ensures) (not-true _ (c .if3 .taken))
+    (c .before .before .before .before .before .before .before .before .before .before .entry-at .result) is (c .before .escapes .ensures) (not-true _ (c .if3 .taken))
 
 element-write-marks : tie.Need-element-write-marks
 element-write-marks c =
-    let start = c .before .before .before .before .before .before .before .before .before .before .before .before in
-    let shared-slice-known = c .before .before .before .before .before .before .before .before .before .before
-    .before .shared-slice-known in
-    let transition-call = c .before .before .before .before .before .before .before .before .before .transition in
-    let wide-call = c .before .before .before .before .before .before .before .before .wide in
+    let start = c .before .before .before .before .before .before .before .before .before .before .before .before .before in
+    let is = copied-is (start .args .transitions .now) (transitionBytes * (start .args) .i) (c .before .before .before .before .before .before .before .before .before .before .entry-at .ensures) (start .pre .0 .narrow) in
     omega (
       arith,
-      (copied-out (start .args .transitions .now) (11 * (start .args) .i) (transition-call .result)
-          (transition-call .ensures)),
-      wide-call .ensures,
-      shared-slice-known .given (11 * (start .args) .i + 10),
+      (copied-out (start .args .transitions .now) (11 * (start .args) .i) (c .before .before .before .before .before .before .before .before .before .before .entry-at .result)
+          is),
+      c .before .before .before .before .before .before .before .before .out-of .ensures .0,
     )
 
 returns-4 : tie.Need-returns-4
 returns-4 c =
-    let start = c .before .before .before .before .before .before .before .before .before .before .before .before in
-    let shared-slice-known = c .before .before .before .before .before .before .before .before .before .before
-    .before .shared-slice-known in
-    let transition-call = c .before .before .before .before .before .before .before .before .before .transition in
-    let wide-call = c .before .before .before .before .before .before .before .before .wide in
+    let start = c .before .before .before .before .before .before .before .before .before .before .before .before .before in
+    let is = copied-is (start .args .transitions .now) (transitionBytes * (start .args) .i) (c .before .before .before .before .before .before .before .before .before .before .entry-at .ensures) (start .pre .0 .narrow) in
     let if1 = c .before .before .before .before .before .before .if1 in
     let T = transitionsIn (start .args .nodes .now) (start .args .found) in
     mark-new (start .args .states .now) (start .args .n) (start .args .m) T (start .args .marks .now)
-    (transition-call .result) (transition-call .ensures) (c .before .escapes .ensures) (not-false _ (c .if3 .left))
-    (wide-call .ensures) (omega (
+    (c .before .before .before .before .before .before .before .before .before .before .entry-at .result) is (c .before .escapes .ensures) (not-false _ (c .if3 .left))
+    (c .before .before .before .before .before .before .before .before .out-of .ensures .0) (omega (
       arith,
-      (copied-out (start .args .transitions .now) (11 * (start .args) .i) (transition-call
-          .result) (transition-call .ensures)),
-      wide-call .ensures,
-      shared-slice-known .given (11 * (start .args) .i +
-          10),
+      (copied-out (start .args .transitions .now) (11 * (start .args) .i) (c .before .before .before .before .before .before .before .before .before .before .entry-at .result) is),
+      c .before .before .before .before .before .before .before .before .out-of .ensures .0,
       start .pre .1 .1 .1 .1,
     )) (if1 .left)
 
@@ -139,10 +125,10 @@ pub mark-spec : {M : Type 1} → statement M
 mark-spec =
     tie.close
     (tie.spec
-    mul-transition
-    transition-requires
-    array-read-wide
-    wide-requires
+    mul-entry-at
+    entry-at-requires
+    slice-aggregate-out-of
+    out-of-requires
     element-copy-out-if1
     returns
     all-offered-requires

@@ -23,9 +23,7 @@ mul-out-of : tie.Need-mul-out-of Inv-loop μ-loop
 mul-out-of c = search needs
 
 out-of-requires : tie.Need-out-of-requires Inv-loop μ-loop
-out-of-requires c κs =
-    let start = c .before .before .before in
-    readable (start .pre .0) (c .before .loop .i) (omega arith)
+out-of-requires c κs = search needs
 
 mul-others : tie.Need-mul-others Inv-loop μ-loop
 mul-others c = search needs

@@ -30,9 +30,7 @@ mul-out-of : tie.Need-mul-out-of Inv-loop μ-loop
 mul-out-of c = search needs
 
 out-of-requires : tie.Need-out-of-requires Inv-loop μ-loop
-out-of-requires c κs =
-    let start = c .before .before .before in
-    readable (start .pre) (c .before .loop .i) (omega arith)
+out-of-requires c κs = search needs
 
 mul-args-below : tie.Need-mul-args-below Inv-loop μ-loop
 mul-args-below c = search needs

@@ -1,9 +1,10 @@
--- `validity::transitions::out_of` meets its contract: a byte is below 256.
-use Prim.Native.Nat.{_+_}
+-- `fields::transition::out_of` meets its contract: a byte is below 256.
 use native.Mathlib.Omega.{arith}
+use Prim.Native.Nat.{_+_}
+use Rattle.format.specs.Format.{outAt}
 use borrow.Author.Needs.{needs}
-use Rattle.validity.proofs.transitions.out_of.Statement.{statement}
-use Rattle.validity.proofs.transitions.out_of.Tie as tie
+use Rattle.fields.proofs.transition.out_of.Statement.{statement}
+use Rattle.fields.proofs.transition.out_of.Tie as tie
 
 add-wide : tie.Need-add-wide
 add-wide c = search needs
@@ -16,8 +17,7 @@ wide-requires c κs = search needs
 
 returns : tie.Need-returns
 returns c =
-    let start = c .before .before .before in
-    (c .wide .ensures, omega (arith, c .before .shared-slice-known2 .given (start .args .at + 10)))
+    (c .wide .ensures, omega (arith, c .before .before .shared-slice-known .given (c .before .before .before .args .at + outAt)))
 
 pub out-of-spec : {M : Type 1} → statement M
 out-of-spec = tie.close (tie.spec add-wide shared-slice-read-wide wide-requires returns)

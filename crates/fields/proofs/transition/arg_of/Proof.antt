@@ -1,9 +1,10 @@
--- `validity::transitions::arg_of` meets its contract: a byte is below 256.
-use Prim.Native.Nat.{_+_}
+-- `fields::transition::arg_of` meets its contract: a byte is below 256.
 use native.Mathlib.Omega.{arith}
+use Prim.Native.Nat.{_+_}
+use Rattle.format.specs.Format.{argsAt}
 use borrow.Author.Needs.{needs}
-use Rattle.validity.proofs.transitions.arg_of.Statement.{statement}
-use Rattle.validity.proofs.transitions.arg_of.Tie as tie
+use Rattle.fields.proofs.transition.arg_of.Statement.{statement}
+use Rattle.fields.proofs.transition.arg_of.Tie as tie
 
 add-wide : tie.Need-add-wide
 add-wide c = search needs
@@ -19,11 +20,7 @@ wide-requires c κs = search needs
 
 returns : tie.Need-returns
 returns c =
-    let start = c .before .before .before in (
-      c .wide .ensures,
-      omega
-          (arith, c .before .shared-slice-known2 .given (start .args .at + 2 + (start .args) .k)),
-    )
+    (c .wide .ensures, omega (arith, c .before .before .shared-slice-known .given (c .before .before .before .args .at + argsAt + (c .before .before .before .args) .k)))
 
 pub arg-of-spec : {M : Type 1} → statement M
 arg-of-spec = tie.close (tie.spec add-wide add-wide-2 shared-slice-read-wide wide-requires returns)
