@@ -1,5 +1,5 @@
 -- The product of an automaton and a tree with its pairs numbered in another way: δ gives the pair of a number,
--- acc tells which numbers are in use. A tree runs in it to the number of its pair.
+-- acc says which numbers are in use. A tree runs in it to the number of its pair.
 use mathlib.Core.Bool.{Bool, _&&_, _||_, false, not, true, true≢false}
 use mathlib.Core.List.{List, [], _∷_, map}
 use mathlib.Core.Logic.{_⊎_, inl, inr}

@@ -1,5 +1,5 @@
 // The bench program: reads standard input, and prints what came of each line and, last, the numbers of the table.
-// What is printed is written when its buffer is full and before each read, so that who types lines sees the answers.
+// What is printed is written when its buffer is full and before each read, so someone typing sees each answer.
 ghost use mathlib.Core.Path.{_≡_};
 ghost use Prim.Native.Nat.{_≤_};
 ghost use lib.ListN.{length};

@@ -43,7 +43,7 @@ pub record BothWays (p : ℕ → Bool) (x y : ℕ) : Type 0 where
   pub there : p (pairAt x y) ≡ true
   pub back : p (pairAt y x) ≡ true
 
--- where the outputs of a transition with its own argument k and with q are separated, so are the two
+-- if the outputs of a transition with its own argument k and with q are separated, so are the two
 abbrev pub Separate : List ℕ → ℕ → ℕ → ℕ → ℕ → Rule
 Separate s c at k q p = eitherWay p (outOf s at) (stepAt s c at k q) ≡ true → BothWays p (argOf s at k) q
 

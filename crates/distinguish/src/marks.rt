@@ -17,7 +17,7 @@ pub fn blank() -> [u8; BYTE_PAIRS]
     [0u8; BYTE_PAIRS]
 }
 
-// Marks an entry. Answers whether the mark is new.
+// Marks an entry. Returns whether the mark is new.
 pub fn mark(marks: &mut [u8; BYTE_PAIRS], at: usize) -> bool
     requires { ⌜ length (now marks) ≡ bytePairs ⌝ }
     requires { ⌜ at < bytePairs ⌝ }

@@ -17,7 +17,7 @@ use format::BYTE_VALUES;
 use format::TRANSITION_BYTES;
 use format::wide;
 
-// State a is deeper than out. Answers whether its depth has grown.
+// State a is deeper than out. Returns whether its depth has grown.
 fn put_below(depths: &mut [u8; BYTE_VALUES], a: usize, out: usize) -> bool
     requires { ⌜ a ≤ 255 ⌝ }
     requires { ⌜ out ≤ 255 ⌝ }
@@ -35,7 +35,7 @@ fn put_below(depths: &mut [u8; BYTE_VALUES], a: usize, out: usize) -> bool
     true
 }
 
-// Each argument of transition i is deeper than its output. Answers whether a depth has grown.
+// Each argument of transition i is deeper than its output. Returns whether a depth has grown.
 fn deepen(
     transitions: &[u8],
     count: usize,
@@ -78,7 +78,7 @@ fn deepen_all(transitions: &[u8], count: usize, n: usize, depths: &mut [u8; BYTE
     changed
 }
 
-// Transition i, where its output is at this depth.
+// Transition i, if its output is at this depth.
 fn separate_there(
     transitions: &[u8],
     count: usize,
@@ -145,7 +145,7 @@ fn separate_levels(
     }
 }
 
-// Twice: the first time also tells every state from none, which may separate pairs that came too early.
+// Twice: the first pass also separates every state from 0, which can separate pairs already visited.
 pub fn separate_in_order(transitions: &[u8], count: usize, n: usize, marks: &mut [u8; BYTE_PAIRS])
     requires { ⌜ Sorted (now transitions) count ⌝ }
     requires { ⌜ HasTransitionsOver (now transitions) count n ⌝ }

@@ -59,7 +59,7 @@ fn seed_row(classes: &[u8], n: usize, p: usize, marks: &mut [u8; BYTE_PAIRS]) ->
     changed
 }
 
-// Marks the pairs of different classes. Answers whether a mark is new.
+// Marks the pairs of different classes. Returns whether a mark is new.
 pub fn seed_all(classes: &[u8], n: usize, marks: &mut [u8; BYTE_PAIRS]) -> bool
     requires { ⌜ n < length (now classes) ⌝ }
     requires { ⌜ n ≤ 255 ⌝ }

@@ -1,4 +1,4 @@
-// Where the outputs of two transitions that differ in one argument are separated, so are the two arguments.
+// If the outputs of two transitions that differ in one argument are separated, so are the two arguments.
 ghost use mathlib.Core.Path.{_≡_};
 ghost use Prim.Native.Nat.{_*_, _+_, _<_, _≤_};
 ghost use lib.ListN.{length};
@@ -20,7 +20,7 @@ use format::BYTE_VALUES;
 use format::TRANSITION_BYTES;
 use format::wide;
 
-// Argument k of transition i, and q. Answers whether a mark is new.
+// Argument k of transition i, and q. Returns whether a mark is new.
 fn separate(
     transitions: &[u8],
     count: usize,
@@ -106,7 +106,7 @@ pub fn separate_at(
     changed
 }
 
-// Every transition, from the last back. Answers whether a mark is new.
+// Every transition, from the last back. Returns whether a mark is new.
 pub fn sweep(transitions: &[u8], count: usize, n: usize, marks: &mut [u8; BYTE_PAIRS]) -> bool
     requires { ⌜ Sorted (now transitions) count ⌝ }
     requires { ⌜ HasTransitionsOver (now transitions) count n ⌝ }

@@ -26,7 +26,7 @@ fn replaced(transitions: &[u8], count: usize, at: usize, k: usize, q: u8) -> u8
     output(transitions, count, entry)
 }
 
-// The same, where q may be 0: "no state" gives none.
+// The same, if q may be 0: "no state" gives none.
 pub fn stepped(transitions: &[u8], count: usize, n: usize, i: usize, k: usize, q: u8) -> u8
     requires { ⌜ Sorted (now transitions) count ⌝ }
     requires { ⌜ HasTransitionsOver (now transitions) count n ⌝ }

@@ -105,7 +105,7 @@ risingFrom-next s k zero = refl
 risingFrom-next s k (suc n) =
     ap₂ (λ i b. precedes (nthTransition s k) (nthTransition s i) && b) (sym (add-one k)) (risingFrom-next s (suc k) n)
 
--- a run rises where each transition but the last comes before the next
+-- a run rises if each transition but the last comes before the next
 pub rising-next : (s : List ℕ) (n : ℕ) → rising (transitionsIn s n) ≡ every (precedesNext s) (upFrom 0 (n - 1))
 unfolding transitionsIn
 rising-next s zero = refl

@@ -47,7 +47,7 @@ pub record InTable (b : List ℕ) : Type 0 where
   pub transitions : transitionCount b ≤ maxTransitions
   pub over : HasTransitionsOver (body b) (transitionCount b) (stateCount b)
 
--- the state that a search found; 0 where it found nothing
+-- the state that a search found; 0 if it found nothing
 abbrev pub foundState : Found → ℕ
 foundState (State q) = q
 foundState Nothing = 0

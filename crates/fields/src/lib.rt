@@ -49,8 +49,8 @@ pub fn transition_count(table: &[u8]) -> usize
     256 * high + low
 }
 
-// Whether the bytes from one up to, not including, another are at most a bound. No byte ends the loop, so that a
-// machine may look at many at once: on small tables these are nearly all bytes that there are.
+// Whether the bytes from one up to, not including, another are at most a bound. No early
+// exit, so the loop vectorises: on small tables these are nearly all the bytes there are.
 fn at_most(transitions: &[u8], from: usize, end: usize, bound: u8) -> bool
     requires { ⌜ end ≤ length (now transitions) ⌝ }
     ensures { λ r. ⌜ r ≡ every (atMost (now (transitions .entry)) bound) (upFrom from (end - from)) ⌝ }
@@ -147,7 +147,7 @@ fn transitions_fit(transitions: &[u8], states: usize, count: usize) -> bool
     true
 }
 
-// Whether the bytes of a transitions from one on are all 0.
+// Whether the bytes from one on are all 0.
 fn zeros_from(transitions: &[u8], start: usize) -> bool
     ensures { λ r. ⌜ r ≡ every (zeroAt (now (transitions .entry))) (upFrom start (length (now (transitions .entry)) - start)) ⌝ }
 {

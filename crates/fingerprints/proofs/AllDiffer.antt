@@ -1,4 +1,4 @@
--- Fingerprints at the start, and what follows where all differ.
+-- Fingerprints at the start, and what follows if all differ.
 use mathlib.Core.Bool.{Bool, _||_, false, false≢true, not, true}
 use mathlib.Core.List.{List}
 use mathlib.Core.Logic.{_≢_}
@@ -21,7 +21,7 @@ use Rattle.lists.proofs.Intervals.{at-every, every-at, getD-zeros}
 pub sound-start : (A : Automaton) (n : ℕ) → Sound A (printOf (replicate n 0))
 sound-start A n = record { equal = λ p q b e d. getD-zeros n p ∙ sym (getD-zeros n q) }
 
--- where every state is coaccessible all marks are right
+-- if every state is coaccessible all marks are right
 pub all-useful : (A : Automaton) → states A ≤ 255 → allCoaccessible A ≡ true → UsefulMarks A (replicate 256 1)
 all-useful A h e = record {
   each = λ q a b. ap nonzero (getD-replicate 256 q 1 0 (omega arith)) ∙ sym

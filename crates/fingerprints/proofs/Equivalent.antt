@@ -1,5 +1,5 @@
 -- States that nothing separates have one fingerprint. They have the same uses that lead to coaccessible states: what
--- such a use leads to is told from 0 and from useless states, so the other state cannot lack it.
+-- such a use leads to is separated from 0 and from useless states, so the other state cannot lack it.
 use mathlib.Core.Bool.{Bool, Bool·beq, _&&_, _||_, cond, false, not, true, true≢false}
 use mathlib.Core.List.{List, [], _++_, _∷_}
 use mathlib.Core.Logic.{_≢_, _⊎_, inl, inr}
@@ -56,7 +56,7 @@ module _ (A : Automaton) (ranged : statesInRange A ≡ true) (rises : rising (A 
       let n = none-zero (τ .args) (λ p j. ranged-transition A ranged τ i .args p j .0) in
       rw (e, ← f, n) (lookup-transition (A .transitions) rises τ i)
 
-  -- states that a used slot takes to states separated are separated
+  -- states that a used slot takes to separated states are separated
   pub by-use : (x : ℕ) (z : Slot) → Used (A .transitions) x z → (p q : ℕ) → p ≤ states A → q ≤ states A →
       distinguishable A (stepSlot A z p) (stepSlot A z q) ≡ true → distinguishable A p q ≡ true
   by-use x z (τ, i, (e, f)) p q h l d =
@@ -121,7 +121,7 @@ module _ (A : Automaton) (ranged : statesInRange A ≡ true) (rises : rising (A 
       go (inl e) = subst (λ (x : ℕ). coaccessible A x ≡ false) (sym e) useless-zero
       go (inr u) = taken u (coaccessible A (stepSlot A z q)) refl
 
-  -- a useful state is told from a useless one
+  -- a useful state is separated from a useless one
   abbrev pub Separated : ℕ → Type 0
   Separated x = (y : ℕ) → y ≤ states A → coaccessible A y ≡ false → distinguishable A x y ≡ true
 

@@ -1,4 +1,4 @@
--- Where no state comes back to itself one round is enough, whatever the fingerprints before it: from the last states
+-- If no state comes back to itself one round is enough, whatever the fingerprints before it: from the last states
 -- on, states that nothing separates have uses that lead to the same states, and so one fingerprint.
 use mathlib.Core.Bool.{Bool, false, true}
 use mathlib.Core.List.{List, _∷_}
@@ -52,7 +52,7 @@ module _ (A : Automaton) (ranged : statesInRange A ≡ true) (rises : rising (A 
           absurd (acyclic-iff A ranged .0 ac o (leads-iff A ranged o o .0 (back .1)))
 
   module _ (h : ℕ → ℕ) (m : List ℕ) (round : Round A h m) (all : allDiffer m (states A) ≡ true) where
-    -- nothing but x itself is not told from x
+    -- everything but x itself is separated from x
     abbrev Single : ℕ → Type 0
     Single x = (y : ℕ) → 1 ≤ x → x ≤ states A → 1 ≤ y → y ≤ states A → (distinguishable A x y ≡ true → ⊥) → x ≡ y
 

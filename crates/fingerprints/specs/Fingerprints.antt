@@ -1,6 +1,6 @@
 -- Fingerprints of states: numbers that equivalent states have in common. A state's fingerprint is a sum over its uses,
 -- the slots in which transitions to coaccessible states have it, of a number that depends on the slot and on the
--- fingerprint that the output had a round before. Nothing is claimed of how well the numbers spread: where two states
+-- fingerprint that the output had a round before. Nothing is claimed of how well the numbers spread: if two states
 -- share a fingerprint, nothing follows.
 use mathlib.Core.Bool.{Bool, cond, not, true}
 use mathlib.Core.List.{List, [], _++_, _∷_}
@@ -45,7 +45,7 @@ mixed b c s = (b * 1103515245 + c % 4294967296 * 1013904223 + c / 4294967296 * 8
 unfoldable pub cubed : ℕ → ℕ
 cubed t = t * t % prime * t % prime
 
--- what a slot adds to the fingerprint of a state that stands in it, where its output's fingerprint is x; even, so that
+-- what a slot adds to the fingerprint of a state that stands in it, if its output's fingerprint is x; even, so that
 -- the class is the fingerprint's last bit
 unfoldable pub slotValue : Slot → ℕ → ℕ
 slotValue z x = 2 * cubed (mixed (folded (z .before) 1) (base256 (z .after)) (salted (z .label) x))
@@ -66,11 +66,11 @@ abbrev pub total : List Slot → (Slot → ℕ) → ℕ
 total [] f = 0
 total (z ∷ zs) f = f z + total zs f
 
--- what q gains from its uses in one transition, where its output's fingerprint is x
+-- what q gains from its uses in one transition, if its output's fingerprint is x
 abbrev pub gain : Transition → ℕ → ℕ → ℕ
 gain τ x q = total (places (τ .args) [] (τ .label) q) (valueAt x)
 
--- where the output is useful, h the fingerprints a round before
+-- if the output is useful, h the fingerprints a round before
 abbrev pub usefulGain : Transition → (ℕ → Bool) → (ℕ → ℕ) → ℕ → ℕ
 usefulGain τ u h q = cond (u (τ .out)) (gain τ (h (τ .out)) q) 0
 

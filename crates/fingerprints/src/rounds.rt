@@ -61,7 +61,7 @@ fn add_uses(
     }
 }
 
-// The uses in transition i, where its output is useful.
+// The uses in transition i, if its output is useful.
 fn add_useful(
     transitions: &[u8],
     count: usize,

@@ -24,7 +24,7 @@ pub fn packed_args(transitions: &[u8], at: usize) -> usize
     sum
 }
 
-// One more argument behind those that gave b.
+// One more argument after those that gave b.
 pub fn fold(b: usize, q: usize) -> usize
     requires { ⌜ b < prime ⌝ }
     requires { ⌜ q ≤ 255 ⌝ }

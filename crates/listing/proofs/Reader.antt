@@ -27,7 +27,7 @@ measured-none [] = refl
 measured-none (a ∷ []) = refl
 measured-none (a ∷ c ∷ s) = refl
 
--- k trees more, behind what was read of s
+-- k trees more, after what was read of s
 abbrev onward : Read → List ℕ → ℕ → Read
 onward (Node n) s k = plus n (measured (drop n s) k)
 onward Bad s k = Bad
@@ -43,7 +43,7 @@ past-node Bad a c s k = refl
 onward-none : (s : List ℕ) (k : ℕ) → measured s (0 + k) ≡ onward (measured s 0) s k
 onward-none s k = rw (measured-none s, zero-add) (sym (plus-zero _))
 
--- the first j + k trees are the first j and k more behind them
+-- the first j + k trees are the first j and k more after them
 measured-add : (s : List ℕ) (j k : ℕ) → measured s (j + k) ≡ onward (measured s j) s k
 unfolding measured
 measured-add [] zero k = onward-none [] k
@@ -101,7 +101,7 @@ children-read s k r h e =
     let d : 1 + (k - 1) ≡ k = omega arith in
     rw e (sym (measured-add s 1 (k - 1)) ∙ ap (measured s) d)
 
--- The answers of the two readers, by those of their calls. A tree is a node and, in the part behind it, its children,
+-- The answers of the two readers, by those of their calls. A tree is a node and, in the part after it, its children,
 -- for which r was answered.
 module _ (s : List ℕ) (k : ℕ) {r : Read} (h : nodeBytes ≤ length s) (e : k ≡ getD s labelBytes 0)
     (q : r ≡ measured (part s nodeBytes) k) where
@@ -116,7 +116,7 @@ module _ (s : List ℕ) (k : ℕ) {r : Read} (h : nodeBytes ≤ length s) (e : k
 pub children-none : (s : List ℕ) (k : ℕ) → k ≡ 0 → Node 0 ≡ measured s k
 children-none s k e = rw e (sym (measured-none s))
 
--- Children are a tree, for which r was answered, and, in the part behind it, the others, for which r' was.
+-- Children are a tree, for which r was answered, and, in the part after it, the others, for which r' was.
 module _ (s : List ℕ) (k : ℕ) {r : Read} (h : k ≡ 0 → ⊥) (q : r ≡ measured s 1) where
   pub children-bad : r ≡ Bad → Bad ≡ measured s k
   children-bad z = rw z at (children-read s k r h q)
@@ -145,7 +145,7 @@ measured-some [] n e = let z : _≡_ {A = ℕ} 0 1 = cc in absurd (omega arith)
 measured-some (a ∷ []) n e = let z : _≡_ {A = ℕ} 0 1 = cc in absurd (omega arith)
 measured-some (a ∷ c ∷ s) n e = plus-some (measured s (c + 0)) n e
 
--- the first tree has a node at least and lies within the slice, and so do the trees of the part behind it
+-- the first tree has a node at least and lies within the slice, and so do the trees of the part after it
 module _ (s : List ℕ) {r : Read} {n : ℕ} (q : r ≡ measured s 1) (z : r ≡ Node n) where
   pub first-some : nodeBytes ≤ n
   first-some = measured-some s n (sym q ∙ z)

@@ -1,5 +1,5 @@
 -- What the reader's answer says of a slice: that it lists one tree, or that it starts with trees, of which the bytes
--- are the listings, and that what is behind them is read as before.
+-- are the listings, and that what is after them is read as before.
 use mathlib.Core.Bool.{Bool, false, false≢true, true}
 use mathlib.Core.List.{List, [], _++_, _∷_, append-nil}
 use mathlib.Core.Logic.{_↔_}

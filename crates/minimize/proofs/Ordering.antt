@@ -52,7 +52,7 @@ numbers-next {numbers} {o} of size {q} h new {n} e = record { number = λ x. go 
         let z = eqb-false x q t in
         getD-set-other numbers q x n 0 z ∙ of .number x ∙ sym (number-other o q x z)
 
--- where none is ready, the order is complete
+-- if none is ready, the order is complete
 numbering-still : (Q : List Transition) (d : ℕ) (o : List ℕ) → best o Q ≡ none → numberingFrom Q d o ≡ o
 numbering-still Q zero o e = refl
 numbering-still Q (suc d) o e = rw e

@@ -1,4 +1,4 @@
--- What merging by marks leaves: the quotient of the automaton that a run shows, where the marks are its
+-- What merging by marks leaves: the quotient of the automaton that a run shows, if the marks are its
 -- distinguishable pairs.
 use mathlib.Core.Bool.{Bool, not}
 use mathlib.Core.List.{List, [], _∷_, map}

@@ -1,4 +1,4 @@
--- The first ready transition, found in one pass: a transition takes the place of the best so far where it is
+-- The first ready transition, found in one pass: a transition takes the place of the best so far if it is
 -- ready and comes before it.
 use mathlib.Core.Bool.{Bool, _&&_, _||_, and-false, and-true, cond, false, not, true, true≢false}
 use mathlib.Core.List.{List, [], _∷_}
@@ -33,7 +33,7 @@ nonzero-shift : (n : ℕ) → nonzero (shift n) ≡ nonzero n
 nonzero-shift zero = refl
 nonzero-shift (suc n) = refl
 
--- a state has a number where it is one of the order
+-- a state has a number if it is one of the order
 pub nonzero-number : (o : List ℕ) (q : ℕ) → nonzero (numberOf o q) ≡ elem eqb q o
 nonzero-number [] q = refl
 nonzero-number (x ∷ o) q = go (eqb q x) (nonzero-number o q)
@@ -198,7 +198,7 @@ module _ {o s : List ℕ} {n : ℕ} where
       (sym (ready-by of (nthTransition s i)) ∙
       sym (numbered-unready numbers (nthTransition s i) (settled .numbered i (omega arith))))))
 
-  -- where all that are left come after the best so far, it is the best of the whole
+  -- if all that are left come after the best so far, it is the best of the whole
   pub best-stop : {b i : ℕ} → BestFrom o s n b i → b < n → ((j : ℕ) → i ≤ j → j < n →
       precedes (renumber o (nthTransition s b)) (renumber o (nthTransition s j)) ≡ true) →
       picked s n b ≡ best o (transitionsIn s n)

@@ -27,6 +27,6 @@ pub record Minimizable (classes run : List ℕ) (n count : ℕ) (m : List ℕ) :
 abbrev pub madeOf : Automaton → Made
 madeOf A = cond (fitsTable A) (Table (states A) (length (A .transitions))) TooBig
 
--- the table that is left: that of the automaton, or the old one where it cannot hold the automaton
+-- the table that is left: that of the automaton, or the old one if it cannot hold the automaton
 abbrev pub writtenTo : Automaton → List ℕ → List ℕ
 writtenTo A b = cond (fitsTable A) (encode A) b

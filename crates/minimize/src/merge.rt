@@ -30,7 +30,7 @@ pub fn no_names() -> [u8; BYTE_VALUES]
     [0u8; BYTE_VALUES]
 }
 
-// The first of 0 to n that is not marked with p; 0 where each is.
+// The first of 0 to n that is not marked with p; 0 if each is.
 fn choose(marks: &[u8; BYTE_PAIRS], n: usize, p: usize) -> u8
     requires { ⌜ n < byteValues ⌝ }
     requires { ⌜ p < byteValues ⌝ }
@@ -79,7 +79,7 @@ pub fn renamed(transitions: &[u8], at: usize, names: &[u8; BYTE_VALUES]) -> [u8;
     entry
 }
 
-// Renames the states of a transitions, and leaves out the transitions whose output is then 0: how many stay.
+// Renames the states of the transitions, and leaves out the transitions whose output is then 0: how many stay.
 pub fn merge(transitions: &mut [u8], count: usize, names: &[u8; BYTE_VALUES]) -> usize
     requires { ⌜ HasTransitions (now transitions) count ⌝ }
     ensures { λ r. ⌜ HasTransitions (now (transitions .exit)) r ⌝ }
@@ -100,7 +100,7 @@ pub fn merge(transitions: &mut [u8], count: usize, names: &[u8; BYTE_VALUES]) ->
     kept
 }
 
-// Merges the equivalent states of a transitions over the states 1 to n: how many transitions stay.
+// Merges the equivalent states of transitions over the states 1 to n: how many transitions stay.
 pub fn merge_equivalent(
     transitions: &mut [u8],
     count: usize,

@@ -1,5 +1,5 @@
 // States numbered by the rule: of all transitions whose arguments have numbers and whose output has none, the
-// first by the order of the new numbers gives its output the next number. A number 0 is none. The transitions stands by
+// first by the order of the new numbers gives its output the next number. A number 0 is none. The transitions stand by
 // child count, then label, which the order compares first too: a search need not look beyond the ready ones.
 ghost use mathlib.Core.Bool.{true};
 ghost use mathlib.Core.Path.{_≡_};
@@ -84,7 +84,7 @@ fn precedes_by(transitions: &[u8], a: usize, b: usize, numbers: &[u8; BYTE_VALUE
     args_precede(transitions, a, b, n, numbers)
 }
 
-// Whether transition i is ready and comes before the first ready one so far; `best` is `count` where there is none.
+// Whether transition i is ready and comes before the first ready one so far; `best` is `count` if there is none.
 fn improves_on(
     transitions: &[u8],
     count: usize,
@@ -130,7 +130,7 @@ fn other_group(transitions: &[u8], count: usize, best: usize, i: usize) -> bool
     label_of(transitions, TRANSITION_BYTES * i) != label_of(transitions, TRANSITION_BYTES * best)
 }
 
-// The first ready transition; `count` where none is ready. Those before `start` are not.
+// The first ready transition; `count` if none is ready. Those before `start` are not.
 fn first_ready(transitions: &[u8], start: usize, count: usize, numbers: &[u8; BYTE_VALUES]) -> usize
     requires { ⌜ HasTransitions (now transitions) count ⌝ }
     requires { ⌜ Grouped (now transitions) count ⌝ }
@@ -156,7 +156,7 @@ fn first_ready(transitions: &[u8], start: usize, count: usize, numbers: &[u8; BY
     best
 }
 
-// The first transition from `start` on whose output has no number; `count` where there is none.
+// The first transition from `start` on whose output has no number; `count` if there is none.
 fn first_unsettled(
     transitions: &[u8],
     start: usize,

@@ -144,7 +144,7 @@ module _ (cl s : List ℕ) (n c : ℕ) (view : Viewed cl s n c) (rises : rising 
       go (inl x) = absurd (false≢true (sym (ap not (eq-eqb (h q) (h (argOf s (transitionBytes * i) k)) e)) ∙ x))
       go (inr x) = eqb-true _ _ x
 
-  -- a step that is taken leads where the other leads
+  -- a step that is taken leads if the other leads
   taken-agrees : (z : Slot) (p q : ℕ) → q ≤ n → h p ≡ h q → Taken A (z .label) (z .before ++ (p ∷ z .after)) →
       h (stepSlot A z q) ≡ h (stepSlot A z p)
   taken-agrees z p q l e u =

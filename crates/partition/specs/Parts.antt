@@ -1,4 +1,4 @@
--- States with one fingerprint are a part. Where replacing an argument by another state of its part never changes the
+-- States with one fingerprint are a part. If replacing an argument by another state of its part never changes the
 -- part of the output, the parts are the classes of equivalent states.
 use mathlib.Core.Bool.{Bool, _&&_, _||_, not}
 use mathlib.Core.List.{List}

@@ -17,7 +17,7 @@ fn is_besides(prints: &[usize; BYTE_VALUES], p: usize, q: usize) -> bool
     prints[p] == prints[q]
 }
 
-// 1 where p shares its part, else 0.
+// 1 if p shares its part, else 0.
 fn shared_mark(prints: &[usize; BYTE_VALUES], n: usize, p: usize) -> u8
     requires { ⌜ n ≤ 255 ⌝ }
     requires { ⌜ p ≤ n ⌝ }

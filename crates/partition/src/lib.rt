@@ -1,5 +1,5 @@
-// Equivalent states from fingerprints: states with one fingerprint are a part, and where the parts pass an exact test
-// they are the classes of equivalent states. Where they do not pass in time, the pairs are marked one by one (crate
+// Equivalent states from fingerprints: states with one fingerprint are a part, and if the parts pass an exact test
+// they are the classes of equivalent states. If they do not pass in time, the pairs are marked one by one (crate
 // distinguish): a bad fingerprint costs time, never an answer. `transitions` has `count` sorted transitions over the states 1
 // to n; 0, "no state", takes part.
 mod alone; // states that are alone in their part
@@ -79,7 +79,7 @@ fn parts_agree(transitions: &[u8], count: usize, n: usize, prints: &[usize; BYTE
     all_agree(transitions, count, n, prints, &shared)
 }
 
-// Rounds and tests in turn, each time twice as many rounds. Answers whether the marks are made.
+// Rounds and tests in turn, each time twice as many rounds. Returns whether the marks are made.
 fn separated_by_parts(
     classes: &[u8],
     transitions: &[u8],
@@ -138,7 +138,7 @@ fn numbers() -> [usize; BYTE_VALUES] {
     prints
 }
 
-// Condition 12, where conditions 10 and 11 hold: no two different states are equivalent. Every state is useful, and
+// Condition 12, if conditions 10 and 11 hold: no two different states are equivalent. Every state is useful, and
 // without loops one round from any fingerprints may show that all differ.
 pub fn all_distinguishable_useful(
     classes: &[u8],

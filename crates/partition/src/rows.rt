@@ -9,7 +9,7 @@ ghost use Rattle.format.specs.Format.{bytePairs};
 use format::BYTE_PAIRS;
 use format::BYTE_VALUES;
 
-// 1 where p and q are of different parts, else 0.
+// 1 if p and q are of different parts, else 0.
 fn pair_mark(prints: &[usize; BYTE_VALUES], p: usize, q: usize) -> u8
     requires { ⌜ p ≤ 255 ⌝ }
     requires { ⌜ q ≤ 255 ⌝ }

@@ -164,7 +164,7 @@ module _ (cand : ℕ → ℕ → ℕ) (m : ℕ) where
       none = λ d qs c z. let (y, g, w) = chosen-with e k before qs c in inv .none y (omega arith) qs w z;
     }
 
-  -- ---- where some argument has no candidate there are no choices
+  -- ---- if some argument has no candidate there are no choices
 
   chosen-offered : (f : ℕ → ℕ) (i n : ℕ) (ps : List ℕ) → Chosen cand m (map f (upFrom i n)) ps →
       every (λ k. any (offers cand (f k)) (upFrom 0 (m + 1))) (upFrom i n) ≡ true

@@ -51,7 +51,7 @@ pub copied-is : (s : List ℕ) (at : ℕ) {e : List ℕ} →
     transitionAt e 0 ≡ transitionAt s at
 copied-is s at is narrow = fields-transition is narrow (transitionAt s at) refl refl refl
 
--- a copy is as narrow, and goes to a state where it does
+-- a copy is as narrow, and goes to a state if it does
 module _ (s : List ℕ) (at : ℕ) (e : List ℕ) (is : transitionAt e 0 ≡ transitionAt s at) where
   pub copied-arity : arityOf e 0 ≡ arityOf s at
   copied-arity = sym (args-length e 0) ∙ ap (λ (τ : Transition). length (τ .args)) is ∙ args-length s at

@@ -1,4 +1,4 @@
--- Numbers that make a subtree: the transitions of the subtrees tell them, and give the number of the pair that the
+-- Numbers that make a subtree: the transitions of the subtrees have them, and give the number of the pair that the
 -- product goes to.
 use mathlib.Core.Bool.{Bool, false, true, true≢false}
 use mathlib.Core.List.{List, [], _∷_, map}
@@ -127,7 +127,7 @@ module _ {A : Automaton} {t : Tree} {ts : List Tree} {n m : ℕ} {l r c q : List
               sym y ∙ ap (λ (σ : Transition). σ .args) e,
             )
 
-    -- where they are for none, they make no subtree
+    -- if they are for none, they make no subtree
     pub lookup-none : (a : ℕ) (ps : List ℕ) → Among (n + m) ps → lookup a ps T ≡ 0 →
         step (treeAutomaton t) a (map snd (map (pairOf t ts n q) ps)) ≡ 0
     lookup-none a ps w z = go (step-view (treeAutomaton t) a (map snd (map (pairOf t ts n q) ps)))

@@ -1,4 +1,4 @@
--- The pairs of numbers: up to n a state with no subtree, behind n a subtree with its state. A number is in use where
+-- The pairs of numbers: up to n a state with no subtree, after n a subtree with its state. A number is in use if
 -- some tree runs to its pair.
 use mathlib.Core.Bool.{Bool, false, not, true, true≢false}
 use mathlib.Core.List.{List, [], _∷_, map}

@@ -46,7 +46,7 @@ each-snd : (A B : Automaton) (f : Forest) → map snd (eachPair A B f) ≡ runs 
 each-snd A B nil = refl
 each-snd A B (cons u f) = ap (λ l. run B u ∷ l) (each-snd A B f)
 
--- the number of a tree's pair: its state where it is no subtree, else behind n
+-- the number of a tree's pair: its state if it is no subtree, else after n
 abbrev pub TreeNumber : Automaton → Tree → List Tree → ℕ → ℕ → List ℕ → Tree → Type 0
 TreeNumber A t ts n m q u =
     ((run (treeAutomaton t) u ≡ 0) × (pairOf t ts n q (run A u) ≡ (run A u, run (treeAutomaton t) u))) ⊎

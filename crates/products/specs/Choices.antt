@@ -15,8 +15,8 @@ use Rattle.table.specs.Layout.{argOf, arityOf, nthTransition, outOf, transition
 
 -- ---- candidates
 
--- candidate x for the argument a, 0 where it is none: number 0 is the state itself, where it is used, and x is
--- subtree x, where its state is a
+-- candidate x for the argument a, 0 if it is none: number 0 is the state itself, if it is used, and x is
+-- subtree x, if its state is a
 abbrev pub candidate : (ℕ → Bool) → List ℕ → ℕ → ℕ → ℕ → ℕ
 candidate used q n a x = cond (eqb x 0) (cond (used a) a 0) (cond (eqb (getD q (x - 1) 0) a) (n + x) 0)
 
@@ -63,14 +63,14 @@ pub record Escapes (C : List ℕ → Type 0) (T : List Transition) (a : ℕ) (r 
   pub found : r ≡ true → (qs : List ℕ) × C qs × (lookup a qs T ≡ 0)
   pub none : r ≡ false → (qs : List ℕ) → C qs → lookup a qs T ≡ 0 → ⊥
 
--- where choices for the arguments of σ make no subtree, its output is used
+-- if choices for the arguments of σ make no subtree, its output is used
 abbrev pub Reaches : List ℕ → ℕ → ℕ → List Transition → Transition → (ℕ → Bool) → Type 0
 Reaches q n m T σ used =
     (ps : List ℕ) → Chosen (candidate used q n) m (σ .args) ps → lookup (σ .label) ps T ≡ 0 → used (σ .out) ≡ true
 
 -- ---- the transitions that choices make
 
--- σ over other arguments: it goes to the subtree that they make, else where σ goes
+-- σ over other arguments: it goes to the subtree that they make, else if σ goes
 abbrev pub outOver : List Transition → ℕ → List ℕ → ℕ → ℕ
 outOver T a ps q = cond (eqb (lookup a ps T) 0) q (lookup a ps T)
 

@@ -1,5 +1,5 @@
 // Numbers chosen for the arguments of a transition, one place after another. `nodes` has the transitions of the
-// subtrees, by which a choice is told to be a subtree or not.
+// subtrees, which decide whether a choice is a subtree.
 ghost use mathlib.Core.Path.{_≡_};
 ghost use Prim.Native.Nat.{_+_, _<_, _≤_};
 ghost use Rattle.format.specs.Format.{maxArity, maxNodes, maxStates};
@@ -18,7 +18,7 @@ use format::TRANSITION_BYTES;
 use format::wide;
 use sorted::output;
 
-// Candidate x for the argument a: 0 is the state itself, x subtree x. Answers its number, or 0 where it is none.
+// Candidate x for the argument a: 0 is the state itself, x subtree x. Returns its number, or 0 if it is none.
 pub fn candidate(
     n: usize,
     states: &[u8; MAX_NODES],
@@ -66,7 +66,7 @@ fn has_candidate(
     false
 }
 
-// Whether each argument of an entry has a candidate. Where one has none, a search for choices may be long.
+// Whether each argument of an entry has a candidate. If one has none, a search for choices may be long.
 pub fn all_offered(
     n: usize,
     m: usize,

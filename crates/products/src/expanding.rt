@@ -27,7 +27,7 @@ use format::MAX_PRODUCT;
 use format::TRANSITION_BYTES;
 use sorted::output;
 
-// Adds an entry to the scratch, where it has room for it.
+// Adds an entry to the scratch, if it has room for it.
 fn emit(scratch: &mut [u8], count: usize, entry: [u8; TRANSITION_BYTES]) -> Produced
     requires { ⌜ Live (now scratch) count ⌝ }
     requires { ⌜ length (now scratch) ≡ scratchBytes ⌝ }
@@ -211,7 +211,7 @@ pub fn expand_all(
     Produced::Transitions { count: made }
 }
 
-// Adds the transition of the subtree at index j, where it runs to no state.
+// Adds the transition of the subtree at index j, if it runs to no state.
 fn expand_node(
     n: usize,
     m: usize,

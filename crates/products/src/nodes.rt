@@ -23,7 +23,7 @@ pub const CHILD_NUMBERS: usize = MAX_NODES * MAX_ARITY;
 // Room for the transition of each subtree.
 pub const NODE_RUN: usize = TRANSITION_BYTES * MAX_NODES;
 
-// Inserts an entry unless its key is there already. Answers the number of transitions.
+// Inserts an entry unless its key is there already. Returns the number of transitions.
 pub fn put(transitions: &mut [u8], count: usize, entry: [u8; TRANSITION_BYTES]) -> usize
     requires { ⌜ Live (now transitions) count ⌝ }
     requires { ⌜ transitionBytes * (count + 1) ≤ length (now transitions) ⌝ }

@@ -17,7 +17,7 @@ use format::BYTE_VALUES;
 use format::MAX_NODES;
 use format::TRANSITION_BYTES;
 
-// Marks the output of transition i where choices for its arguments make no subtree. Answers whether the mark is new.
+// Marks the output of transition i if choices for its arguments make no subtree. Returns whether the mark is new.
 fn mark(
     transitions: &[u8],
     i: usize,
@@ -52,7 +52,7 @@ fn mark(
     true
 }
 
-// One round over the transitions. Answers whether a mark is new.
+// One round over the transitions. Returns whether a mark is new.
 fn mark_all(
     transitions: &[u8],
     count: usize,

@@ -67,7 +67,7 @@ module _ {s : List ℕ} {j depth : ℕ} (v : Ahead s j depth) (i : ℕ) (e : j �
     room = v .room;
   }
 
-  -- behind the first tree, whose bytes are m
+  -- after the first tree, whose bytes are m
   module _ (m : ℕ) (d : m ≡ length (listing (readTree s))) where
     behind : part s m ≡ listings (parts .others) ++ parts .rest
     behind =
@@ -98,7 +98,7 @@ module _ {s : List ℕ} {j depth : ℕ} (v : Ahead s j depth) (i : ℕ) (e : j �
         ∙ read-trees (cons (parts .tree) (parts .others)) (parts .rest) in
         rw (e, whole, behind, read-trees (parts .others) (parts .rest))
 
--- a tree ahead: its root, and its children in the part behind that
+-- a tree ahead: its root, and its children in the part after that
 module _ {s : List ℕ} {depth : ℕ} (v : Ahead s 1 depth) where
   pub record Root : Type 0 where
     pub children : Forest

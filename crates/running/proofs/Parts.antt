@@ -13,7 +13,7 @@ use Rattle.running.proofs.Ahead.{first-ahead}
 use Rattle.trees.proofs.Listing.{LegalNodes, listing-one, listings-read, read-legal, tree-nodes}
 use Rattle.trees.proofs.ListingRefusal.{listing-iff}
 
--- behind i nodes, and not at the end, legal trees follow
+-- after i nodes, and not at the end, legal trees follow
 behind-nodes : (s : List ℕ) (k i : ℕ) → listsTrees s k ≡ true → LegalNodes s → nodeBytes * i < length s →
     (j : ℕ) × (listsTrees (drop (nodeBytes * i) s) (suc j) ≡ true) × LegalNodes (drop (nodeBytes * i) s)
 behind-nodes [] k i e h l = absurd (omega arith)

@@ -17,14 +17,14 @@ use intake::content_refusal;
 use running::accepted;
 
 // A byte as a number to return.
-fn widened(x: u8) -> u64
+fn wide64(x: u8) -> u64
     ensures { λ r. ⌜ r ≡ x ⌝ }
 {
     x as u64
 }
 
 // A byte as a count in an answer.
-fn counted(x: u8) -> u16
+fn wide16(x: u8) -> u16
     ensures { λ r. ⌜ r ≡ x ⌝ }
 {
     x as u16
@@ -52,7 +52,7 @@ fn answer_number(answer: Answer) -> u64
             states,
             transitions,
         } => counts(states, transitions),
-        Answer::Refused { number } => widened(number),
+        Answer::Refused { number } => wide64(number),
     }
 }
 
@@ -91,7 +91,7 @@ pub fn take_in(table: &[u8]) -> Answer
     }
     let transitions = transition_count(table);
     Answer::Accepted {
-        states: counted(table[0]),
+        states: wide16(table[0]),
         transitions: transitions as u16,
     }
 }

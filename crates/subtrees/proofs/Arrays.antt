@@ -82,7 +82,7 @@ module _ (l r c : List ℕ) (a n : ℕ) (ns : List ℕ) (j : ℕ) where
   by-children b m e d z q =
       q ∙ rw (eq-eqb (getD l j 0) a e, eq-eqb (getD r j 0) n d) (ap (λ i. every (sameChild c j ns) (upFrom 0 i)) z)
 
--- ---- eight bytes stored behind others
+-- ---- eight bytes stored after others
 
 -- the first k of the child numbers of index j are stored
 pub record StoredTo (c : List ℕ) (j : ℕ) (ns c' : List ℕ) (k : ℕ) : Type 0 where

@@ -92,7 +92,7 @@ popped-take s at k {r} f h b =
     other : length (take k (drop at s)) ≡ k
     other = length-take-le k (drop at s) (omega (arith, length-drop at s))
 
--- a tree put behind a list changes none of its numbers
+-- a tree put after a list changes none of its numbers
 numbered-last : (ts : List Tree) (t : Tree) (ns : List ℕ) → Among (length ts) ns →
     treesNumbered (addLast ts t) ns ≡ treesNumbered ts ns
 numbered-last ts t ns w = go (elem eqTree t ts)

@@ -1,5 +1,5 @@
--- A node among stored trees: it equals one of them exactly where label and child numbers do, and where it is
--- none of them the arrays hold it behind them.
+-- A node among stored trees: it equals one of them exactly if label and child numbers do, and if it is
+-- none of them the arrays hold it after them.
 use mathlib.Core.Bool.{false, false≢true, true}
 use mathlib.Core.List.{List, [], _++_, _∷_, map}
 use mathlib.Core.Logic.{inl, inr}
@@ -83,7 +83,7 @@ module _ {ns : List ℕ} {k n : ℕ} (ch : Children ns k n) (eight : length ns �
           sym (getD-tabulated (childAt c j) 0 (getD r j 0) i 0 (omega (arith, size))) ∙
           ap (λ xs. getD xs i 0) e ∙ getD-take k ns i 0 h
 
--- what holds of the list that a tree is put behind holds of the arrays
+-- what holds of the list that a tree is put after holds of the arrays
 entered : (A : Automaton) (ts us : List Tree) (t : Tree) (n i : ℕ) (l r c q : List ℕ) → addLast ts t ≡ us →
     Stored A us n l r c q → treeNumbered us i ≡ t → Entered A ts t n i l r c q
 entered A ts us t n i l r c q e st h = record {

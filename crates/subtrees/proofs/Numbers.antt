@@ -1,4 +1,4 @@
--- Trees by their numbers in a list: different numbers are different trees where the list has no duplicates, and
+-- Trees by their numbers in a list: different numbers are different trees if the list has no duplicates, and
 -- a longer list gives the same trees.
 use mathlib.Core.List.{List, [], _++_, _∷_, map}
 use mathlib.Core.Path.{_≡_, ap, refl}
@@ -59,7 +59,7 @@ numbered-later ts zero ns = refl
 numbered-later ts (suc c) [] = refl
 numbered-later ts (suc c) (n ∷ ns) = numbered-later ts c ns
 
--- trees behind a list change none of its numbers
+-- trees after a list change none of its numbers
 pub numbered-append : (ts us : List Tree) (ns : List ℕ) → Among (length ts) ns →
     treesNumbered (ts ++ us) ns ≡ treesNumbered ts ns
 numbered-append ts us [] w = refl

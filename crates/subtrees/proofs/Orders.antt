@@ -1,5 +1,5 @@
 -- The order in which a pass from the last node finds the subtrees: a node that takes its children off the trees
--- behind it comes last, unless it was found before.
+-- after it comes last, unless it was found before.
 use mathlib.Core.Bool.{Bool, false, false≢true, true}
 use mathlib.Core.List.{List, [], _++_, _∷_, reverse, reverse-cons}
 use mathlib.Core.Logic.{_⊎_, inl, inr}
@@ -41,7 +41,7 @@ reverse-in (y ∷ xs) x m =
     go (inr (inl e)) ih = inl e
     go (inr (inr i)) ih = absurd i
 
--- the test finds a tree exactly where it is
+-- the test finds a tree exactly if it is
 pub elem-true : (ts : List Tree) (t : Tree) → t ∈ ts → elem eqTree t ts ≡ true
 elem-true ts t m = in-elem eqTree eqTree-true eqTree-same t ts m
 

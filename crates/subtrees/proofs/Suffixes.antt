@@ -61,7 +61,7 @@ module _ {s : List ℕ} (ok : Passed s) where
       (ap (λ n. drop n s) p ∙ drop-cons s (nodeBytes * i + labelBytes) 0 (omega (arith, ok .even)) ∙
       ap (λ n. childrenAt s i ∷ drop n s) q)
 
-  -- a node takes its children off the trees behind it
+  -- a node takes its children off the trees after it
   pub read-next : (i : ℕ) → i < nodesIn s →
       readTrees (nodesFrom s i) ≡
       cons (node (labelAt s i) (firstTrees (childrenAt s i) (readTrees (nodesFrom s (i + 1)))))

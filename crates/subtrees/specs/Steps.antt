@@ -20,7 +20,7 @@ pub record Sized (l r c q : List ℕ) : Type 0 where
   pub children : length c ≡ maxNodes * maxArity
   pub states : length q ≡ maxNodes
 
--- r has the first n values of f, and zeros behind them
+-- r has the first n values of f, and zeros after them
 pub record Filled (f : ℕ → ℕ) (n : ℕ) (r : List ℕ) : Type 0 where
   pub size : length r ≡ maxArity
   pub filled : (k : ℕ) → k < n → getD r k 0 ≡ f k
@@ -30,7 +30,7 @@ pub record Filled (f : ℕ → ℕ) (n : ℕ) (r : List ℕ) : Type 0 where
 abbrev pub childState : List ℕ → List ℕ → ℕ → ℕ
 childState q ns k = getD q (getD ns k 0 - 1) 0
 
--- ns has c child numbers, of n, and zeros behind them
+-- ns has c child numbers, of n, and zeros after them
 pub record Children (ns : List ℕ) (c n : ℕ) : Type 0 where
   pub narrow : c ≤ maxArity
   pub some : (k : ℕ) → k < c → 1 ≤ getD ns k 0
@@ -45,7 +45,7 @@ abbrev pub sameNode : List ℕ → List ℕ → List ℕ → ℕ → ℕ → Lis
 sameNode l r c a n ns j =
     eqb (getD l j 0) a && (eqb (getD r j 0) n && every (sameChild c j ns) (upFrom 0 n))
 
--- i is the first number below n that passes; n where none does
+-- i is the first number below n that passes; n if none does
 pub record First (p : ℕ → Bool) (n i : ℕ) : Type 0 where
   pub within : i ≤ n
   pub before : (j : ℕ) → j < i → p j ≡ false
@@ -61,11 +61,11 @@ pub record ChildrenStored (c : List ℕ) (j : ℕ) (ns c' : List ℕ) : Type 0 w
   pub stored : (k : ℕ) → k < maxArity → childAt c' j k ≡ getD ns k 0
   pub before : (i : ℕ) → i < maxArity * j → getD c' i 0 ≡ getD c i 0
 
--- a tree put behind a list, where it is not there yet
+-- a tree put after a list, if it is not there yet
 abbrev pub addLast : List Tree → Tree → List Tree
 addLast ts t = cond (elem eqTree t ts) ts (ts ++ (t ∷ []))
 
--- the number i given to a tree, where n trees were found before and m are now
+-- the number i given to a tree, if n trees were found before and m are now
 pub record NumberGiven (n m i : ℕ) : Type 0 where
   pub some : 1 ≤ i
   pub known : i ≤ m

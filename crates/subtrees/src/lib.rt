@@ -103,7 +103,7 @@ fn same_node(
     same_children(children, j, wide(arity), numbers)
 }
 
-// The index of the subtree with this label and these children; found where there is none.
+// The index of the subtree with this label and these children; found if there is none.
 fn search(
     labels: &[u16; MAX_NODES],
     arities: &[u8; MAX_NODES],
@@ -158,7 +158,7 @@ fn some_none(arity: usize, args: [u8; MAX_ARITY]) -> bool
     false
 }
 
-// The output of the first transition with this label and these arguments; 0 where there is none.
+// The output of the first transition with this label and these arguments; 0 if there is none.
 fn output(transitions: &[u8], count: usize, label: u16, arity: usize, args: [u8; MAX_ARITY]) -> u8
     requires { ⌜ HasTransitions (now transitions) count ⌝ }
     requires { ⌜ arity ≤ maxArity ⌝ }
@@ -194,7 +194,7 @@ fn store_children(children: &mut [u8; CHILD_NUMBERS], j: usize, numbers: [u8; MA
     }
 }
 
-// The number of the subtree with this label and these children, which is stored where it was not found before.
+// The number of the subtree with this label and these children, which is stored if it was not found before.
 fn enter(
     transitions: &[u8],
     count: usize,
@@ -241,7 +241,7 @@ fn enter(
     }
 }
 
-// The distinct subtrees of the tree that is listed, and their states over the transitions of a transitions.
+// The distinct subtrees of the tree that is listed, and their states over the transitions.
 pub fn collect(tree: &[u8], transitions: &[u8], count: usize) -> Subtrees
     requires { ⌜ listingRefusal (now tree) ≡ 0 ⌝ }
     requires { ⌜ HasTransitions (now transitions) count ⌝ }

@@ -158,7 +158,7 @@ module _ (cl s : List ℕ) (n c : ℕ) (over : HasTransitionsOver s c n) where
       every-same-in (marked m) (coaccessible A) (upFrom 1 n) (λ q _. x .each q)
       ∙ ap (λ k. every (coaccessible A) (upFrom 1 k)) (sym (viewed-states cl s n c))
 
-  -- marks that are not closed are all there are where every state has one
+  -- marks that are not closed are all there are if every state has one
   pub all-coaccessible-early : {m : List ℕ} {r : Bool} → Using A m → r ≡ every (marked m) (upFrom 1 n) → r ≡ true →
       true ≡ allCoaccessible A
   all-coaccessible-early {m} u e h =

@@ -33,7 +33,7 @@ pub spread-up : (s : List ℕ) (at : ℕ) (m : List ℕ) → length m ≡ byteVa
 spread-up s at m size h e f =
     spread-mark (outOf s at) (omega arith) e (λ p up w. up (every-implied (marked m) p (transitionAt s at .args) w f))
 
--- an argument is marked where the output is
+-- an argument is marked if the output is
 pub spread-down : (s : List ℕ) (at k : ℕ) {m m' : List ℕ} {r : Bool} → marked m (outOf s at) ≡ true →
     Spread (Has (argOf s at k)) m m' r → Spread (DownTo s at k) m m' r
 spread-down s at k e t = spread-if (λ p w d. d (w (outOf s at) e)) (λ h _. h) t

@@ -1,4 +1,4 @@
--- Numbers of states that rise from arguments to outputs. Where there are such numbers, no state comes back to itself.
+-- Numbers of states that rise from arguments to outputs. If there are such numbers, no state comes back to itself.
 use mathlib.Core.Bool.{Bool}
 use mathlib.Core.List.{List}
 use Prim.Native.Nat.{ℕ}

@@ -13,7 +13,7 @@ use Rattle.marking.specs.Spread.{Rule, UpTo}
 
 -- ---- from arguments to output
 
--- the output passes where all arguments do
+-- the output passes if all arguments do
 abbrev pub Up : List ℕ → ℕ → Rule
 Up s at p = every p (transitionAt s at .args) ≡ true → p (outOf s at) ≡ true
 
@@ -22,7 +22,7 @@ nthUp s i = Up s (transitionBytes * i)
 
 -- ---- from output to arguments
 
--- argument k passes where the output does
+-- argument k passes if the output does
 abbrev pub DownTo : List ℕ → ℕ → ℕ → Rule
 DownTo s at k p = p (outOf s at) ≡ true → p (argOf s at k) ≡ true
 
@@ -42,11 +42,11 @@ argsPass s p i = every p (nthTransition s i .args)
 abbrev pub Clear : List ℕ → ℕ → (ℕ → Bool) → ℕ → Type 0
 Clear s c p q = (i : ℕ) → i < c → outOf s (transitionBytes * i) ≡ q → argsPass s p i ≡ true
 
--- state k + 1 passes where the transitions into it have only arguments that pass
+-- state k + 1 passes if the transitions into it have only arguments that pass
 abbrev pub Ground : List ℕ → ℕ → ℕ → Rule
 Ground s c k p = Clear s c p (k + 1) → p (k + 1) ≡ true
 
--- state k + 1 passes where it is not blocked
+-- state k + 1 passes if it is not blocked
 abbrev pub Unblocked : List ℕ → ℕ → Rule
 Unblocked b k p = marked b (k + 1) ≡ false → p (k + 1) ≡ true
 

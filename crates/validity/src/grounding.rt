@@ -1,5 +1,5 @@
-// Condition 11: a state is grounded where every transition into it has only grounded arguments. No state comes back
-// to itself exactly where all are grounded in the end.
+// Condition 11: a state is grounded if every transition into it has only grounded arguments. No state comes back
+// to itself exactly if all are grounded in the end.
 ghost use mathlib.Core.List.{List};
 ghost use mathlib.Core.Path.{_≡_};
 ghost use Prim.Native.Nat.{_*_, _+_, _<_, _≤_, ℕ};
@@ -19,7 +19,7 @@ use fields::out_of;
 use format::BYTE_VALUES;
 use format::TRANSITION_BYTES;
 
-// Transition i blocks its output where some argument is not marked.
+// Transition i blocks its output if some argument is not marked.
 fn block(transitions: &[u8], i: usize, marks: &[u8; BYTE_VALUES], blocked: &mut [u8; BYTE_VALUES])
     requires { ⌜ Readable (now transitions) (transitionBytes * i) ⌝ }
     requires { ⌜ Blocks (now transitions) (now marks) i (now blocked) ⌝ }
@@ -50,7 +50,7 @@ fn block_all(
     }
 }
 
-// Marks state k + 1 where it is not blocked. Answers whether the mark is new.
+// Marks state k + 1 if it is not blocked. Returns whether the mark is new.
 fn ground(blocked: &[u8; BYTE_VALUES], k: usize, marks: &mut [u8; BYTE_VALUES]) -> bool
     requires { ⌜ k + 1 < byteValues ⌝ }
     requires { ⌜ length (now marks) ≡ byteValues ⌝ }
@@ -104,8 +104,8 @@ fn all_grounded(transitions: &[u8], count: usize, n: usize) -> bool
     all_marked(&marks, 1, n + 1)
 }
 
-// Condition 11: no state comes back to itself going from arguments to outputs. Where it holds, ranks show it; the marks
-// decide where they do not.
+// Condition 11: no state comes back to itself going from arguments to outputs. If it holds, ranks show it; the marks
+// decide if they do not.
 pub fn acyclic(transitions: &[u8], count: usize, n: usize) -> bool
     requires { ⌜ HasTransitionsOver (now transitions) count n ⌝ }
     requires { ⌜ n ≤ 255 ⌝ }

@@ -45,7 +45,7 @@ pub fn args_marked(transitions: &[u8], at: usize, marks: &[u8; BYTE_VALUES]) -> 
     true
 }
 
-// Marks a state. Answers whether the mark is new.
+// Marks a state. Returns whether the mark is new.
 pub fn mark(marks: &mut [u8; BYTE_VALUES], q: usize) -> bool
     requires { ⌜ length (now marks) ≡ byteValues ⌝ }
     requires { ⌜ q < byteValues ⌝ }

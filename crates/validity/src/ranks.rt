@@ -1,4 +1,4 @@
-// Ranks of states. Where they rise from arguments to outputs in every transition, no state comes back to itself. That
+// Ranks of states. If they rise from arguments to outputs in every transition, no state comes back to itself. That
 // is tested of whatever ranks there are, so how they were found has no contract: bad ranks cost time and no answer.
 ghost use mathlib.Core.Path.{_≡_};
 ghost use Prim.Native.Nat.{_*_, _+_, _<_, _≤_};
@@ -89,7 +89,7 @@ fn link(
     }
 }
 
-// The first transition into q that is left, as its number from 1; 0 where there is none.
+// The first transition into q that is left, as its number from 1; 0 if there is none.
 fn first_into(first: &[u16; BYTE_VALUES], q: usize, count: usize) -> usize
     requires { ⌜ q < byteValues ⌝ }
     ensures { λ r. ⌜ r ≤ count ⌝ }
@@ -101,7 +101,7 @@ fn first_into(first: &[u16; BYTE_VALUES], q: usize, count: usize) -> usize
     i
 }
 
-// An argument of the transition that starts at a byte and has no rank; 0 where there is none.
+// An argument of the transition that starts at a byte and has no rank; 0 if there is none.
 fn unranked_arg(transitions: &[u8], at: usize, ranks: &[u8; BYTE_VALUES]) -> usize
     requires { ⌜ Readable (now transitions) at ⌝ }
     ensures { λ r. ⌜ r < byteValues ⌝ }
@@ -118,7 +118,7 @@ fn unranked_arg(transitions: &[u8], at: usize, ranks: &[u8; BYTE_VALUES]) -> usi
     0
 }
 
-// Goes on to state q. Answers the new depth.
+// Goes on to state q. Returns the new depth.
 fn enter(
     q: usize,
     path: &mut [u8; BYTE_VALUES],
@@ -191,7 +191,7 @@ fn rank_all(
     }
 }
 
-// Ranks that rise from arguments to outputs, where no state comes back to itself.
+// Ranks that rise from arguments to outputs, if no state comes back to itself.
 pub fn depth_first(transitions: &[u8], count: usize, n: usize) -> [u8; BYTE_VALUES]
     requires { ⌜ HasTransitions (now transitions) count ⌝ }
     requires { ⌜ n ≤ 255 ⌝ }

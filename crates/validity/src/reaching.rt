@@ -15,7 +15,7 @@ use fields::out_of;
 use format::BYTE_VALUES;
 use format::TRANSITION_BYTES;
 
-// One transition: marks its output where its arguments are all marked. Answers whether the mark is new.
+// One transition: marks its output if its arguments are all marked. Returns whether the mark is new.
 fn mark_output(transitions: &[u8], at: usize, marks: &mut [u8; BYTE_VALUES]) -> bool
     requires { ⌜ Readable (now transitions) at ⌝ }
     requires { ⌜ length (now marks) ≡ byteValues ⌝ }

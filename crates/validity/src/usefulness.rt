@@ -23,7 +23,7 @@ use fields::out_of;
 use format::BYTE_VALUES;
 use format::TRANSITION_BYTES;
 
-// Marks the arguments of a transition whose output is marked. Answers whether a mark is new.
+// Marks the arguments of a transition whose output is marked. Returns whether a mark is new.
 fn use_args(transitions: &[u8], at: usize, marks: &mut [u8; BYTE_VALUES]) -> bool
     requires { ⌜ Readable (now transitions) at ⌝ }
     requires { ⌜ length (now marks) ≡ byteValues ⌝ }
@@ -42,7 +42,7 @@ fn use_args(transitions: &[u8], at: usize, marks: &mut [u8; BYTE_VALUES]) -> boo
     changed
 }
 
-// One transition: marks its arguments where its output is marked.
+// One transition: marks its arguments if its output is marked.
 fn use_transition(transitions: &[u8], at: usize, marks: &mut [u8; BYTE_VALUES]) -> bool
     requires { ⌜ Readable (now transitions) at ⌝ }
     requires { ⌜ length (now marks) ≡ byteValues ⌝ }
@@ -71,7 +71,7 @@ fn use_all(transitions: &[u8], count: usize, marks: &mut [u8; BYTE_VALUES]) -> b
     changed
 }
 
-// 1 where state q is accepting, else 0.
+// 1 if state q is accepting, else 0.
 fn class_mark(classes: &[u8], n: usize, q: usize) -> u8
     requires { ⌜ n < length (now classes) ⌝ }
     requires { ⌜ 1 ≤ q ⌝ }

@@ -1,3 +1,4 @@
+-- `distinguish::all_distinguishable` meets its contract: the marks are exact, and all pairs have theirs.
 use mathlib.Core.Path.{_∙_}
 use Rattle.distinguish.proofs.Closing.{all-apart}
 use borrow.Author.Needs.{needs}

@@ -1,3 +1,4 @@
+-- `distinguish::all_separated` meets its contract: the states before `p` are separated from all others.
 use native.Mathlib.Omega.{arith}
 use mathlib.Core.Path.{_∙_, sym}
 use Prim.Native.Nat.{_+_, _-_}

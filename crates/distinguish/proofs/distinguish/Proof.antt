@@ -1,3 +1,4 @@
+-- `distinguish::distinguish` meets its contract: marks stay right, and those that no sweep extends are all there are.
 use native.Mathlib.Omega.{arith}
 use mathlib.Core.Bool.{true}
 use mathlib.Core.Path.{_≡_, _∙_}

@@ -1,3 +1,4 @@
+-- `distinguish::separated` meets its contract: a state is apart from itself by definition, else the mark decides.
 use Rattle.distinguish.proofs.Marking.{separated-other, separated-same}
 use borrow.Author.Needs.{needs}
 use Rattle.distinguish.proofs.separated.Statement.{statement}

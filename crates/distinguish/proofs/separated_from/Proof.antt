@@ -1,3 +1,4 @@
+-- `distinguish::separated_from` meets its contract: `p` is separated from the states before `q`.
 use borrow.Author.Tests.{not-false, not-true}
 use native.Mathlib.Omega.{arith}
 use mathlib.Core.Path.{_∙_, sym}

@@ -1,4 +1,4 @@
--- The bytes list one tree where the reader has read them all.
+-- The bytes list one tree if the reader has read them all.
 use borrow.Author.Needs.{needs}
 use mathlib.Core.Path.{_∙_, sym}
 use Rattle.listing.proofs.ReaderMeaning.{one-tree-measured}

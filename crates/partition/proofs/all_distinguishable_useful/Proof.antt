@@ -1,3 +1,4 @@
+-- `partition::all_distinguishable_useful` meets its contract: fingerprints that all differ after one round show it.
 use native.Mathlib.Nat.{div-le-self}
 use native.Mathlib.Omega.{arith}
 use mathlib.Core.Path.{_∙_, ap, sym}

@@ -1,3 +1,4 @@
+-- `partition::distinguish` meets its contract: parts that pass the test decide, else the pairs are marked one by one.
 use mathlib.Core.Bool.{true}
 use mathlib.Core.Path.{_∙_}
 use Rattle.distinguish.proofs.Marking.{growing-unmarked}

@@ -1,3 +1,4 @@
+-- `partition::numbers` meets its contract: the entries before `q` are their own numbers.
 use lib.ListN.{length}
 use mathlib.Core.Path.{_≡_}
 use Prim.Native.Nat.{_-_, _≤_}

@@ -1,3 +1,4 @@
+-- `partition::rounds` meets its contract: each round keeps fingerprints sound.
 use Rattle.fields.specs.View.{viewed}
 use Rattle.fingerprints.specs.Fingerprints.{printOf}
 use Rattle.partition.specs.Parts.{Fingerprinted}

@@ -1,3 +1,4 @@
+-- `partition::separated_by_parts` meets its contract: sound fingerprints, and parts that pass the test.
 use native.Mathlib.Nat.{div-le-self}
 use native.Mathlib.Omega.{arith}
 use lib.ListN.{length}

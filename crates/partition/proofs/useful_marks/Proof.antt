@@ -1,3 +1,4 @@
+-- `partition::useful_marks` meets its contract: the marks are those of the coaccessible states.
 use borrow.Author.Needs.{needs}
 use Rattle.partition.proofs.useful_marks.Statement.{statement}
 use Rattle.partition.proofs.useful_marks.Tie as tie

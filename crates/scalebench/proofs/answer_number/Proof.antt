@@ -26,8 +26,8 @@ counts-requires-2 c κs = search needs
 enum-known-answer-3 : tie.Need-enum-known-answer-3
 enum-known-answer-3 c = search needs
 
-widened-requires : tie.Need-widened-requires
-widened-requires c κs = search needs
+wide64-requires : tie.Need-wide64-requires
+wide64-requires c κs = search needs
 
 returns : tie.Need-returns
 returns c = search needs
@@ -55,7 +55,7 @@ answer-number-spec =
     enum-known-answer-2
     counts-requires-2
     enum-known-answer-3
-    widened-requires
+    wide64-requires
     returns
     returns-2
     returns-3

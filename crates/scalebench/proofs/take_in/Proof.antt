@@ -17,19 +17,19 @@ transition-count-requires : tie.Need-transition-count-requires
 transition-count-requires c κs =
     passed-table ((c .before .before .before .args .table .now)) (sym (c .before .refusal .ensures) ∙ c .if1 .left) .size
 
-shared-slice-read-counted : tie.Need-shared-slice-read-counted
-shared-slice-read-counted c =
+shared-slice-read-wide16 : tie.Need-shared-slice-read-wide16
+shared-slice-read-wide16 c =
     omega (arith, passed-table ((c .before .before .before .before .before .args .table .now)) (sym (c .before .before .before .refusal .ensures) ∙ c .before .before .if1 .left) .size)
 
-counted-requires : tie.Need-counted-requires
-counted-requires c κs = search needs
+wide16-requires : tie.Need-wide16-requires
+wide16-requires c κs = search needs
 
 cast-t8 : tie.Need-cast-t8
 cast-t8 c = search needs
 
 returns-2 : tie.Need-returns-2
 returns-2 c =
-    take-answered ((c .before .before .before .before .before .before .args .table .now)) (c .before .before .before .before .refusal .ensures) (c .before .before .before .if1 .left) (c .counted .ensures) (c .before .before .transition-count .ensures .0)
+    take-answered ((c .before .before .before .before .before .before .args .table .now)) (c .before .before .before .before .refusal .ensures) (c .before .before .before .if1 .left) (c .wide16 .ensures) (c .before .before .transition-count .ensures .0)
 
 pub take-in-spec : {M : Type 1} → statement M
 take-in-spec =
@@ -38,7 +38,7 @@ take-in-spec =
     refusal-requires
     returns
     transition-count-requires
-    shared-slice-read-counted
-    counted-requires
+    shared-slice-read-wide16
+    wide16-requires
     cast-t8
     returns-2)

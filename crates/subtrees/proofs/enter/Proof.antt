@@ -1,4 +1,4 @@
--- The node was found before, or the arrays hold it behind the others.
+-- The node was found before, or the arrays hold it after the others.
 use Rattle.subtrees.proofs.Entering.{children-more, enter-missing, enter-new, enter-old, entrant-state, sized-new}
 use Rattle.subtrees.proofs.Arrays.{filled-at}
 use Rattle.table.specs.Layout.{transitionsIn}

@@ -1,3 +1,4 @@
+-- `distinguish::marks::blank` meets its contract: no pair is marked.
 use mathlib.Core.Path.{refl}
 use Rattle.distinguish.specs.Separating.{unmarked}
 use Rattle.distinguish.proofs.marks.blank.Statement.{statement}

@@ -1,3 +1,4 @@
+-- `distinguish::marks::both_marked` meets its contract: the two entries decide.
 use Rattle.distinguish.proofs.Marking.{both-not, both-rest}
 use borrow.Author.Needs.{needs}
 use Rattle.distinguish.proofs.marks.both_marked.Statement.{statement}

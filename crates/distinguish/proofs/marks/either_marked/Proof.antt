@@ -1,3 +1,4 @@
+-- `distinguish::marks::either_marked` meets its contract: the two entries decide.
 use Rattle.distinguish.proofs.Marking.{either-first, either-rest}
 use borrow.Author.Needs.{needs}
 use Rattle.distinguish.proofs.marks.either_marked.Statement.{statement}

@@ -1,3 +1,4 @@
+-- `distinguish::marks::mark` meets its contract: the entry had its mark, or gets it.
 use Rattle.distinguish.proofs.Marking.{mark-new, mark-old}
 use borrow.Author.Needs.{needs}
 use Rattle.distinguish.proofs.marks.mark.Statement.{statement}

@@ -1,3 +1,4 @@
+-- `distinguish::ordering::deepen_all` is safe and ends; depths are a hint without a contract.
 use lib.ListN.{length}
 use mathlib.Core.Path.{_≡_}
 use Prim.Native.Nat.{_-_, _≤_}

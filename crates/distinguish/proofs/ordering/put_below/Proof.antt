@@ -1,3 +1,4 @@
+-- `distinguish::ordering::put_below` is safe; depths are a hint without a contract.
 use borrow.Author.Needs.{needs}
 use Rattle.distinguish.proofs.ordering.put_below.Statement.{statement}
 use Rattle.distinguish.proofs.ordering.put_below.Tie as tie

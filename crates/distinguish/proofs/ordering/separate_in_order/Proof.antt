@@ -1,3 +1,4 @@
+-- `distinguish::ordering::separate_in_order` meets its contract: two passes over all levels.
 use native.Mathlib.Omega.{arith}
 use lib.ListN.{length}
 use mathlib.Core.Path.{_≡_, _∙_, refl}

@@ -1,3 +1,4 @@
+-- `distinguish::ordering::separate_level` meets its contract: the marks have spread by the transitions before `i`.
 use native.Mathlib.Omega.{arith}
 use mathlib.Core.Path.{_∙_}
 use Prim.Native.Nat.{_-_, _≤_}

@@ -1,3 +1,4 @@
+-- `distinguish::ordering::separate_levels` meets its contract: one level after another.
 use native.Mathlib.Omega.{arith}
 use mathlib.Core.Path.{_∙_}
 use Prim.Native.Nat.{_-_, _≤_}

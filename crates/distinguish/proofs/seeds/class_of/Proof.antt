@@ -1,3 +1,4 @@
+-- `distinguish::seeds::class_of` meets its contract: 0 is not accepting, any other state has its byte.
 use native.Mathlib.Omega.{arith}
 use mathlib.Core.List.{[]}
 use mathlib.Core.Path.{sym}

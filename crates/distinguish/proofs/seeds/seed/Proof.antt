@@ -1,3 +1,4 @@
+-- `distinguish::seeds::seed` meets its contract: states of different classes are marked.
 use mathlib.Core.List.{[]}
 use Rattle.fields.specs.View.{viewed}
 use Rattle.distinguish.proofs.Marking.{seed-none, seed-some}

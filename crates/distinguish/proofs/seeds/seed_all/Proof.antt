@@ -1,3 +1,4 @@
+-- `distinguish::seeds::seed_all` meets its contract: the rows before `p` are done.
 use native.Mathlib.Omega.{arith}
 use mathlib.Core.List.{[]}
 use mathlib.Core.Path.{_≡_, _∙_}

@@ -1,3 +1,4 @@
+-- `distinguish::seeds::seed_row` meets its contract: the pairs of `p` with those before `q` are done.
 use native.Mathlib.Omega.{arith}
 use mathlib.Core.List.{[]}
 use mathlib.Core.Path.{_≡_, _∙_}

@@ -1,3 +1,4 @@
+-- `distinguish::separating::separate_arg` meets its contract: the states before `q` are tried for argument `k`.
 use native.Mathlib.Omega.{arith}
 use mathlib.Core.Path.{_≡_, _∙_}
 use Prim.Native.Nat.{_%_, _*_, _+_, _-_, _≤_}

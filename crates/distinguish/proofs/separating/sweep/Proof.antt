@@ -1,3 +1,4 @@
+-- `distinguish::separating::sweep` meets its contract: the transitions from the last back have spread their marks.
 use native.Mathlib.Omega.{arith}
 use mathlib.Core.Path.{_≡_, _∙_}
 use Prim.Native.Nat.{_-_, _≤_}

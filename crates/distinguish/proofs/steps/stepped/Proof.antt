@@ -1,3 +1,4 @@
+-- `distinguish::steps::stepped` meets its contract: 0 gives none, any other state what the search gives.
 use mathlib.Core.Path.{_∙_, ap, sym}
 use Prim.Native.Nat.{_*_}
 use Rattle.distinguish.specs.Separating.{stepAt}

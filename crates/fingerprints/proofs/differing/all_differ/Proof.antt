@@ -1,3 +1,4 @@
+-- `fingerprints::differing::all_differ` meets its contract: no two of the states before `p` share a fingerprint.
 use borrow.Author.Tests.{not-false, not-true}
 use native.Mathlib.Omega.{arith}
 use mathlib.Core.Path.{_∙_, sym}

@@ -1,3 +1,4 @@
+-- `fingerprints::rounds::add` meets its contract: one entry gains a value.
 use Rattle.fingerprints.proofs.Adding.{gained-only}
 use borrow.Author.Needs.{needs}
 use Rattle.fingerprints.proofs.rounds.add.Statement.{statement}

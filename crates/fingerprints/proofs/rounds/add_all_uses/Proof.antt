@@ -1,3 +1,4 @@
+-- `fingerprints::rounds::add_all_uses` meets its contract: the uses in the transitions before `i` are added.
 use native.Mathlib.Omega.{arith}
 use Prim.Native.Nat.{_-_, _≤_}
 use Rattle.table.specs.Layout.{transitionsIn}

@@ -1,3 +1,4 @@
+-- `fingerprints::rounds::class_print` meets its contract: a value for each class.
 use borrow.Author.Tests.{eq-eqb, ne-eqb}
 use borrow.Author.Needs.{needs}
 use Rattle.fingerprints.proofs.rounds.class_print.Statement.{statement}

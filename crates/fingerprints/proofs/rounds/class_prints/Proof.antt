@@ -1,3 +1,4 @@
+-- `fingerprints::rounds::class_prints` meets its contract: the states before `q` have their class.
 use native.Mathlib.Omega.{arith}
 use Prim.Native.Nat.{_+_, _-_, _≤_}
 use Rattle.fingerprints.proofs.Adding.{ClassBelow, class-end, class-next, class-start}

@@ -1,3 +1,4 @@
+-- `fingerprints::rounds::round` meets its contract: the class and the sum over the uses.
 use Rattle.fingerprints.specs.Fingerprints.{printOf}
 use Rattle.fingerprints.proofs.Adding.{round-is}
 use borrow.Author.Needs.{needs}

@@ -1,3 +1,4 @@
+-- `fingerprints::values::value` meets its contract: the three numbers in one.
 use Rattle.fingerprints.specs.Fingerprints.{cubed, prime}
 use mathlib.Core.Path.{ap}
 use Prim.Native.Nat.{_%_, _*_, _≤_, ℕ}

@@ -1,3 +1,4 @@
+-- `partition::agreeing::all_agree` meets its contract: the transitions before `i` agree.
 use borrow.Author.Tests.{not-false, not-true}
 use native.Mathlib.Omega.{arith}
 use mathlib.Core.Path.{_∙_, sym}

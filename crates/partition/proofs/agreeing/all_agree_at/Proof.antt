@@ -1,3 +1,4 @@
+-- `partition::agreeing::all_agree_at` meets its contract: the states before `q` agree at argument `k`.
 use borrow.Author.Tests.{not-false, not-true}
 use native.Mathlib.Omega.{arith}
 use mathlib.Core.Path.{_∙_, sym}

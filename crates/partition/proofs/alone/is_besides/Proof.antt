@@ -1,3 +1,4 @@
+-- `partition::alone::is_besides` meets its contract: another state with the same fingerprint.
 use borrow.Author.Tests.{eq-eqb, ne-eqb}
 use borrow.Author.Needs.{needs}
 use Rattle.partition.proofs.alone.is_besides.Statement.{statement}

@@ -1,3 +1,4 @@
+-- `partition::alone::shared_mark` meets its contract: some state before `q` shares the part.
 use native.Mathlib.Omega.{arith}
 use mathlib.Core.Path.{_∙_, ap, sym}
 use Prim.Native.Nat.{_+_, _-_}

@@ -1,3 +1,4 @@
+-- `partition::alone::shared_marks` meets its contract: the states before `p` have their marks.
 use native.Mathlib.Omega.{arith}
 use mathlib.Core.Path.{refl}
 use Prim.Native.Nat.{_+_, _-_, _≤_}

@@ -1,3 +1,4 @@
+-- `partition::rows::mark_row` meets its contract: the pairs of `p` with those before `q` have their marks.
 use native.Mathlib.Omega.{arith}
 use Prim.Native.Nat.{_+_, _-_, _≤_}
 use Rattle.partition.proofs.Marked.{RowBelow, row-end, row-next, row-start}

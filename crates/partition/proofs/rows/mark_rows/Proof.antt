@@ -1,3 +1,4 @@
+-- `partition::rows::mark_rows` meets its contract: the rows before `p` are marked.
 use native.Mathlib.Omega.{arith}
 use Prim.Native.Nat.{_+_, _-_, _≤_}
 use Rattle.partition.proofs.Marked.{RowsBelow, rows-end, rows-next, rows-start}

@@ -1,3 +1,4 @@
+-- `partition::rows::pair_mark` meets its contract: different fingerprints give a mark.
 use borrow.Author.Tests.{eq-eqb, ne-eqb}
 use borrow.Author.Needs.{needs}
 use Rattle.partition.proofs.rows.pair_mark.Statement.{statement}
