@@ -1,6 +1,6 @@
-// Pairs of states that some context separates (condition 12), by marks that spread until nothing changes. `transitions` has
-// `count` sorted transitions over the states 1 to n and stands in a table or in a scratch; `classes` has the class of
-// state q at byte q. 0, "no state", takes part.
+// Pairs of states that some context separates (condition 12), by marks that spread until nothing changes.
+// `transitions` has `count` sorted transitions over the states 1 to n and stands in a table or in a scratch; `classes`
+// has the class of state q at byte q. 0, "no state", takes part.
 mod marks; // a mark for each pair
 mod steps; // a transition with another argument
 mod seeds; // pairs of different classes

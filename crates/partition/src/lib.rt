@@ -1,7 +1,7 @@
 // Equivalent states from fingerprints: states with one fingerprint are a part, and if the parts pass an exact test
 // they are the classes of equivalent states. If they do not pass in time, the pairs are marked one by one (crate
-// distinguish): a bad fingerprint costs time, never an answer. `transitions` has `count` sorted transitions over the states 1
-// to n; 0, "no state", takes part.
+// distinguish): a bad fingerprint costs time, never an answer. `transitions` has `count` sorted transitions over the
+// states 1 to n; 0, "no state", takes part.
 mod alone; // states that are alone in their part
 mod agreeing; // the test
 mod rows; // a mark for each pair of different parts

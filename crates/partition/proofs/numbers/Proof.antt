@@ -1,4 +1,4 @@
--- `partition::numbers` meets its contract: the entries before `q` are their own numbers.
+-- `partition::numbers` is safe and ends; any fingerprints will do, so it has no contract.
 use lib.ListN.{length}
 use mathlib.Core.Path.{_≡_}
 use Prim.Native.Nat.{_-_, _≤_}
