@@ -1,6 +1,6 @@
+-- `fields::args_precede` meets its contract: the answer is that of the arguments left.
 use mathlib.Core.Path.{ap₂, _∙_, sym}
 use lib.Dec.{ltb}
--- `fields::args_precede` meets its contract: the answer is that of the arguments left.
 use Rattle.fields.proofs.Searching.{LexFrom, lex-decided, lex-end, lex-next, lex-start}
 use Rattle.table.specs.Layout.{argOf}
 use Rattle.fields.specs.Fields.{firstArgs}
@@ -31,7 +31,8 @@ returns : tie.Need-returns Inv-loop μ-loop
 returns c =
     let x = c .before .before .arg-of .ensures .0 in
     let y = c .before .arg-of2 .ensures .0 in
-    ap₂ ltb x y ∙ lex-decided (c .before .before .before .before .loop .inv) (omega arith) (λ e. (c .if1) .taken (x ∙ e ∙ sym y))
+    ap₂ ltb x y ∙ lex-decided (c .before .before .before .before .loop .inv) (omega arith) (λ e. (c .if1) .taken (x ∙
+    e ∙ sym y))
 
 add-k : tie.Need-add-k Inv-loop μ-loop
 add-k c = search needs
@@ -41,7 +42,8 @@ loop-less c = search needs
 
 loop-again : tie.Need-loop-again Inv-loop μ-loop
 loop-again c =
-    lex-next (c .before .before .before .before .loop .inv) (omega arith) (sym (c .before .before .arg-of .ensures .0) ∙ c .if1 .left ∙ c .before .arg-of2 .ensures .0)
+    lex-next (c .before .before .before .before .loop .inv) (omega arith) (sym (c .before .before .arg-of .ensures .0)
+    ∙ c .if1 .left ∙ c .before .arg-of2 .ensures .0)
 
 returns-2 : tie.Need-returns-2 Inv-loop μ-loop
 returns-2 c = lex-end (c .before .loop .inv) (omega arith)

@@ -1,6 +1,8 @@
-use Rattle.format.specs.Format.{transitionBytes}
 -- `fields::find` meets its contract: what the search finds is what it finds among the transitions left.
-use Rattle.fields.proofs.Searching.{AgreeTo, SearchFrom, agree-next, agree-start, alike, search-end, search-hit, search-passed, search-start, unlike-arg, unlike-arity, unlike-label}
+use Rattle.format.specs.Format.{transitionBytes}
+use Rattle.fields.proofs.Searching.{AgreeTo, SearchFrom, agree-next, agree-start, alike, search-end}
+use Rattle.fields.proofs.Searching.{search-hit, search-passed, search-start, unlike-arg, unlike-arity}
+use Rattle.fields.proofs.Searching.{unlike-label}
 use Rattle.table.specs.Layout.{transitionsIn}
 use Rattle.lists.specs.Tests.{any}
 use Rattle.automata.specs.Automaton.{lookup, matches}
@@ -49,7 +51,8 @@ search-again c =
     let start = c .before .before .before .before .before in
     let enough : start .args .arity ≤ length (start .args .t5) = omega arith in
     search-passed (c .before .before .before .search .inv) (omega arith)
-    (unlike-label (start .args .transitions .now) (transitionBytes * (c .before .before .before .search) .i) (start .args .label)
+    (unlike-label (start .args .transitions .now) (transitionBytes * (c .before .before .before .search) .i) (start
+    .args .label)
     (start .args .arity) (start .args .t5) enough (λ e. (c .if2) .taken (c .before .label-of .ensures .0 ∙ e)))
 
 arity-of-requires : tie.Need-arity-of-requires Inv-args2 μ-args2 Inv-search μ-search
@@ -89,10 +92,13 @@ search-again-3 : tie.Need-search-again-3 Inv-args2 μ-args2 Inv-search μ-search
 search-again-3 c =
     let start = c .before .before .before .before .before .before .before .before .before .before .before .before in
     let enough : start .args .arity ≤ length (start .args .t5) = omega arith in
-    search-passed (c .before .before .before .before .before .before .before .before .before .before .search .inv) (omega arith)
-    (unlike-arg (start .args .transitions .now) (transitionBytes * (c .before .before .before .before .before .before .before .before .before .before .search) .i)
+    search-passed (c .before .before .before .before .before .before .before .before .before .before .search .inv)
+    (omega arith)
+    (unlike-arg (start .args .transitions .now) (transitionBytes * (c .before .before .before .before .before .before
+    .before .before .before .before .search) .i)
     (start .args .label) (start .args .arity) (start .args .t5) enough (c .before .before .before .before .args2 .k)
-    (sym (c .before .before .before .before .before .before .arity-of .ensures) ∙ c .before .before .before .before .before .if3 .left) (omega arith)
+    (sym (c .before .before .before .before .before .before .arity-of .ensures) ∙ c .before .before .before .before
+    .before .if3 .left) (omega arith)
     (λ e. (c .if4) .taken (c .before .before .arg-of .ensures .0 ∙ e ∙ sym (c .before .wide .ensures))))
 
 add-k : tie.Need-add-k Inv-args2 μ-args2 Inv-search μ-search
@@ -103,7 +109,8 @@ args2-less c = search needs
 
 args2-again : tie.Need-args2-again Inv-args2 μ-args2 Inv-search μ-search
 args2-again c =
-    agree-next (c .before .before .before .before .args2 .inv) (omega arith) (sym (c .before .before .arg-of .ensures .0) ∙ c .if4 .left ∙ c .before .wide .ensures)
+    agree-next (c .before .before .before .before .args2 .inv) (omega arith) (sym (c .before .before .arg-of .ensures
+    .0) ∙ c .if4 .left ∙ c .before .wide .ensures)
 
 out-of-requires : tie.Need-out-of-requires Inv-args2 μ-args2 Inv-search μ-search
 out-of-requires c κs = search needs
@@ -120,8 +127,10 @@ returns-2 c =
     let enough : start .args .arity ≤ length (start .args .t5) = omega arith in
     let hit =
     search-hit (c .before .before .before .before .before .before .before .before .search .inv) (omega arith)
-    (alike (start .args .transitions .now) (transitionBytes * (c .before .before .before .before .before .before .before .before .search) .i) (start .args .label)
-    (start .args .arity) (start .args .t5) enough (sym (c .before .before .before .before .before .before .label-of .ensures .0) ∙ c .before .before .before .before .before .if2 .left)
+    (alike (start .args .transitions .now) (transitionBytes * (c .before .before .before .before .before .before
+    .before .before .search) .i) (start .args .label)
+    (start .args .arity) (start .args .t5) enough (sym (c .before .before .before .before .before .before .label-of
+    .ensures .0) ∙ c .before .before .before .before .before .if2 .left)
     (sym (c .before .before .before .before .arity-of .ensures) ∙ c .before .before .before .if3 .left)
     (λ j h. (c .before .before .args2) .inv .same j (omega arith))) in
     (c .out-of .ensures .0 ∙ hit .0, hit .1)

@@ -44,8 +44,14 @@ abbrev children-calls : ℕ → children-lts.Claims
 children-calls t = (tree-below t, tree.Post, children-below t, children.Post)
 
 abbrev tree-calls : ℕ → tree-lts.Claims
-tree-calls t =
-    (children-at-reads.Asked, children-at-reads.Learnt, wide-reads.Asked, wide-reads.Learnt, children-below t, children.Post)
+tree-calls t = (
+  children-at-reads.Asked,
+  children-at-reads.Learnt,
+  wide-reads.Asked,
+  wide-reads.Learnt,
+  children-below t,
+  children.Post,
+)
 
 children-returns : (t : ℕ) → children-lts.Need-returns (children-calls t) (children-at t) children.Post
 children-returns t c = search children-none
@@ -139,7 +145,8 @@ tree-returns-2 : (t : ℕ) → tree-lts.Need-returns-2 (tree-calls t) (tree-at t
 tree-returns-2 t c =
     let read = c .before .before in
     tree-bad _ _ (read .before .before .before .before .if1 .left)
-    (read .before .before .wide .ensures ∙ read .before .before .before .children-at .ensures) (read .children .ensures)
+    (read .before .before .wide .ensures ∙ read .before .before .before .children-at .ensures) (read .children
+    .ensures)
     (c .enum-told .given .1)
 
 tree-add-t4 : (t : ℕ) → tree-lts.Need-add-t4 (tree-calls t) (tree-at t) tree.Post
@@ -154,7 +161,8 @@ tree-returns-3 : (t : ℕ) → tree-lts.Need-returns-3 (tree-calls t) (tree-at t
 tree-returns-3 t c =
     let read = c .before .before .before in
     tree-good _ _ (read .before .before .before .before .if1 .left)
-    (read .before .before .wide .ensures ∙ read .before .before .before .children-at .ensures) (read .children .ensures)
+    (read .before .before .wide .ensures ∙ read .before .before .before .children-at .ensures) (read .children
+    .ensures)
     (c .before .len .given .1)
 
 pub +children+tree-spec : {M : Type 1} → statement M

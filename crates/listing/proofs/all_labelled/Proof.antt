@@ -26,7 +26,8 @@ label-at-requires c κs = search needs
 returns : tie.Need-returns Inv-loop μ-loop
 returns c =
     let turn = c .before .before .before .loop in
-    every-broken (turn .inv) (c .before .before .loop-test .taken) (ap not (eq-eqb _ 0 (sym (c .before .label-at .ensures .0) ∙ c .if1 .taken)))
+    every-broken (turn .inv) (c .before .before .loop-test .taken) (ap not (eq-eqb _ 0 (sym (c .before .label-at
+    .ensures .0) ∙ c .if1 .taken)))
 
 add-i : tie.Need-add-i Inv-loop μ-loop
 add-i c = search needs
@@ -37,7 +38,8 @@ loop-less c = search needs
 loop-again : tie.Need-loop-again Inv-loop μ-loop
 loop-again c =
     let turn = c .before .before .before .loop in
-    every-next (turn .inv) (c .before .before .loop-test .taken) (ap not (ne-eqb _ 0 (λ e. (c .if1) .left (c .before .label-at .ensures .0 ∙ e))))
+    every-next (turn .inv) (c .before .before .loop-test .taken) (ap not (ne-eqb _ 0 (λ e. (c .if1) .left (c .before
+    .label-at .ensures .0 ∙ e))))
 
 returns-2 : tie.Need-returns-2 Inv-loop μ-loop
 returns-2 c = every-end (c .before .loop .inv) (c .loop-test .left)

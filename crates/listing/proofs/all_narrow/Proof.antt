@@ -28,7 +28,8 @@ wide-requires c κs = search needs
 
 returns : tie.Need-returns Inv-loop μ-loop
 returns c =
-    let k = childrenAt (c .before .before .before .before .before .before .args .s .now) (c .before .before .before .before .loop .i) in
+    let k = childrenAt (c .before .before .before .before .before .before .args .s .now) (c .before .before .before
+    .before .loop .i) in
     let more = c .before .before .before .loop-test .taken in
     every-broken (c .before .before .before .before .loop .inv) more (lt-leb k maxArity (omega arith))
 
@@ -40,7 +41,8 @@ loop-less c = search needs
 
 loop-again : tie.Need-loop-again Inv-loop μ-loop
 loop-again c =
-    let k = childrenAt (c .before .before .before .before .before .before .args .s .now) (c .before .before .before .before .loop .i) in
+    let k = childrenAt (c .before .before .before .before .before .before .args .s .now) (c .before .before .before
+    .before .loop .i) in
     let more = c .before .before .before .loop-test .taken in
     every-next (c .before .before .before .before .loop .inv) more (le-leb k maxArity (omega arith))
 

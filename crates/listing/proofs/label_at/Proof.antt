@@ -16,8 +16,15 @@ label-byte-requires : tie.Need-label-byte-requires
 label-byte-requires c κs = search needs
 
 returns : tie.Need-returns
-returns c =
-    (c .label-byte .ensures, omega (arith, c .before .before .shared-slice-known .given (nodeBytes * (c .before .before .before .args) .i), c .label-byte .ensures))
+returns c = (
+  c .label-byte .ensures,
+  omega (
+    arith,
+    c .before .before .shared-slice-known .given (nodeBytes * (c .before
+        .before .before .args) .i),
+    c .label-byte .ensures,
+  ),
+)
 
 pub label-at-spec : {M : Type 1} → statement M
 label-at-spec =

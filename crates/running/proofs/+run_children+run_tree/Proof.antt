@@ -174,8 +174,10 @@ run-children-enum-told-2 t c = search needs
 
 run-children-returns-3 : (t : ℕ) → run-children-lts.Need-returns-3 (run-children-calls t) (run-children-at t) run-children.Post
 run-children-returns-3 t c =
-    let a = c .before .before .before .before .before .before .before .before .before .before .before .before .before .args in
-    let p = c .before .before .before .before .before .before .before .before .before .before .before .before .before .pre .1 in
+    let a = c .before .before .before .before .before .before .before .before .before .before .before .before .before
+    .args in
+    let p = c .before .before .before .before .before .before .before .before .before .before .before .before .before
+    .pre .1 in
     let i = a .arity - (a .k + 1) in
     let e : a .arity - a .k ≡ suc i = omega arith in
     let t = c .before .before .before .before .before .before .before .before .run-tree .ensures in
@@ -189,8 +191,10 @@ run-children-returns-3 t c =
 
 run-children-add-t14 : (t : ℕ) → run-children-lts.Need-add-t14 (run-children-calls t) (run-children-at t) run-children.Post
 run-children-add-t14 t c =
-    let a = c .before .before .before .before .before .before .before .before .before .before .before .before .before .before .args in
-    let p = c .before .before .before .before .before .before .before .before .before .before .before .before .before .before .pre .1 in
+    let a = c .before .before .before .before .before .before .before .before .before .before .before .before .before
+    .before .args in
+    let p = c .before .before .before .before .before .before .before .before .before .before .before .before .before
+    .before .pre .1 in
     let i = a .arity - (a .k + 1) in
     let e : a .arity - a .k ≡ suc i = omega arith in
     let t = c .before .before .before .before .before .before .before .before .before .run-tree .ensures in
@@ -200,12 +204,18 @@ run-children-add-t14 t c =
     let l = c .before .more .given in
     let within = children-within (a .transitions .now) (a .count) (p .1 .0) i e (t .0) (g .0 .0) m (g .1)
     (h .0) (l .0 .0) (l .1) in
-    omega (arith, c .before .before .before .before .before .before .before .before .before .before .before .before .before .before .good .0 .0)
+    omega (
+      arith,
+      c .before .before .before .before .before .before .before .before .before .before .before .before
+          .before .before .good .0 .0,
+    )
 
 run-children-returns-4 : (t : ℕ) → run-children-lts.Need-returns-4 (run-children-calls t) (run-children-at t) run-children.Post
 run-children-returns-4 t c =
-    let a = c .before .before .before .before .before .before .before .before .before .before .before .before .before .before .args in
-    let p = c .before .before .before .before .before .before .before .before .before .before .before .before .before .before .pre .1 in
+    let a = c .before .before .before .before .before .before .before .before .before .before .before .before .before
+    .before .args in
+    let p = c .before .before .before .before .before .before .before .before .before .before .before .before .before
+    .before .pre .1 in
     let i = a .arity - (a .k + 1) in
     let e : a .arity - a .k ≡ suc i = omega arith in
     let t = c .before .before .before .before .before .before .before .before .before .run-tree .ensures in
@@ -239,7 +249,12 @@ run-tree-run-children-requires t c κs =
     let p = c .before .before .before .before .before .before .pre .1 in
     let w = c .before .before .wide in
     let k = w .result - 0 in
-    let e : k ≡ getD (a .s .now) labelBytes 0 = omega (arith, w .ensures, c .before .before .before .children-at .ensures) in
+    let e : k ≡ getD (a .s .now) labelBytes 0 = omega (
+      arith,
+      w .ensures,
+      c .before .before .before .children-at
+          .ensures,
+    ) in
     let narrow = root-arity (p .1 .0) in
     let size = root-size (p .1 .0) in
     let less = part-length (a .s .now) nodeBytes in
@@ -258,7 +273,12 @@ run-tree-returns t c =
     let p = c .before .before .before .before .before .before .before .before .before .pre .1 in
     let w = c .before .before .before .before .before .wide in
     let k = w .result - 0 in
-    let e : k ≡ getD (a .s .now) labelBytes 0 = omega (arith, w .ensures, c .before .before .before .before .before .before .children-at .ensures) in
+    let e : k ≡ getD (a .s .now) labelBytes 0 = omega (
+      arith,
+      w .ensures,
+      c .before .before .before .before .before
+          .before .children-at .ensures,
+    ) in
     let h = c .before .before .run-children .ensures in
     let short = tree-short (a .transitions .now) (a .count) (p .1 .0) k e in
     (short (h .0) (c .enum-told .given .1), h .1 .kept)
@@ -279,9 +299,18 @@ run-tree-element-copy-out-find t c =
 run-tree-find-requires : (t : ℕ) → run-tree-lts.Need-find-requires (run-tree-calls t) (run-tree-at t) run-tree.Post
 run-tree-find-requires t c κs =
     let a = c .before .before .before .before .before .before .before .before .before .before .before .before .args in
-    let p = c .before .before .before .before .before .before .before .before .before .before .before .before .pre .1 in
-    let w = c .before .before .before .before .before .before .before .before .wide in
-    (p .0 .runs, omega (arith, root-arity (p .1 .0), w .ensures, c .before .before .before .before .before .before .before .before .before .children-at .ensures))
+    let p = c .before .before .before .before .before .before .before .before .before .before .before .before .pre .1
+    in
+    let w = c .before .before .before .before .before .before .before .before .wide in (
+      p .0 .runs,
+      omega (
+        arith,
+        root-arity (p .1 .0),
+        w .ensures,
+        c .before .before .before .before .before .before
+            .before .before .before .children-at .ensures,
+      ),
+    )
 
 run-tree-enum-known-q : (t : ℕ) → run-tree-lts.Need-enum-known-q (run-tree-calls t) (run-tree-at t) run-tree.Post
 run-tree-enum-known-q t c = search needs
@@ -291,35 +320,63 @@ run-tree-enum-told-2 t c = search needs
 
 run-tree-returns-2 : (t : ℕ) → run-tree-lts.Need-returns-2 (run-tree-calls t) (run-tree-at t) run-tree.Post
 run-tree-returns-2 t c =
-    let a = c .before .before .before .before .before .before .before .before .before .before .before .before .before .before .before .args in
-    let p = c .before .before .before .before .before .before .before .before .before .before .before .before .before .before .before .pre .1 in
+    let a = c .before .before .before .before .before .before .before .before .before .before .before .before .before
+    .before .before .args in
+    let p = c .before .before .before .before .before .before .before .before .before .before .before .before .before
+    .before .before .pre .1 in
     let w = c .before .before .before .before .before .before .before .before .before .before .before .wide in
     let k = w .result - 0 in
-    let e : k ≡ getD (a .s .now) labelBytes 0 = omega (arith, w .ensures, c .before .before .before .before .before .before .before .before .before .before .before .before .children-at .ensures) in
+    let e : k ≡ getD (a .s .now) labelBytes 0 = omega (
+      arith,
+      w .ensures,
+      c .before .before .before .before .before
+          .before .before .before .before .before .before .before .children-at .ensures,
+    ) in
     let h = c .before .before .before .before .before .before .before .before .run-children .ensures in
     let l = c .before .before .before .before .before .before .len .given in
-    let lost = tree-lost (a .transitions .now) (a .count) (p .1 .0) k e (h .0) (l .0 .0) (l .1) (h .1 .row) in
-    (lost (rw (c .before .before .before .before .label-at .ensures .0) at (c .before .before .find .ensures .0)) (c .enum-told2 .given .1), h .1 .kept)
+    let lost = tree-lost (a .transitions .now) (a .count) (p .1 .0) k e (h .0) (l .0 .0) (l .1) (h .1 .row) in (
+      lost (rw (c .before .before .before .before .label-at .ensures .0) at (c .before .before .find .ensures .0)) (c
+          .enum-told2 .given .1),
+      h .1 .kept,
+    )
 
 run-tree-add-t12 : (t : ℕ) → run-tree-lts.Need-add-t12 (run-tree-calls t) (run-tree-at t) run-tree.Post
 run-tree-add-t12 t c =
-    let a = c .before .before .before .before .before .before .before .before .before .before .before .before .before .before .before .before .args in
-    let p = c .before .before .before .before .before .before .before .before .before .before .before .before .before .before .before .before .pre .1 in
+    let a = c .before .before .before .before .before .before .before .before .before .before .before .before .before
+    .before .before .before .args in
+    let p = c .before .before .before .before .before .before .before .before .before .before .before .before .before
+    .before .before .before .pre .1 in
     let w = c .before .before .before .before .before .before .before .before .before .before .before .before .wide in
     let k = w .result - 0 in
-    let e : k ≡ getD (a .s .now) labelBytes 0 = omega (arith, w .ensures, c .before .before .before .before .before .before .before .before .before .before .before .before .before .children-at .ensures) in
+    let e : k ≡ getD (a .s .now) labelBytes 0 = omega (
+      arith,
+      w .ensures,
+      c .before .before .before .before .before
+          .before .before .before .before .before .before .before .before .children-at .ensures,
+    ) in
     let h = c .before .before .before .before .before .before .before .before .before .run-children .ensures in
     let l = c .before .before .before .before .before .before .before .len .given in
     let within = tree-within (a .transitions .now) (a .count) (p .1 .0) k e (h .0) (l .0 .0) (l .1) in
-    omega (arith, c .before .before .before .before .before .before .before .before .before .before .before .before .before .before .before .before .good .0 .0)
+    omega (
+      arith,
+      c .before .before .before .before .before .before .before .before .before .before .before .before
+          .before .before .before .before .good .0 .0,
+    )
 
 run-tree-returns-3 : (t : ℕ) → run-tree-lts.Need-returns-3 (run-tree-calls t) (run-tree-at t) run-tree.Post
 run-tree-returns-3 t c =
-    let a = c .before .before .before .before .before .before .before .before .before .before .before .before .before .before .before .before .args in
-    let p = c .before .before .before .before .before .before .before .before .before .before .before .before .before .before .before .before .pre .1 in
+    let a = c .before .before .before .before .before .before .before .before .before .before .before .before .before
+    .before .before .before .args in
+    let p = c .before .before .before .before .before .before .before .before .before .before .before .before .before
+    .before .before .before .pre .1 in
     let w = c .before .before .before .before .before .before .before .before .before .before .before .before .wide in
     let k = w .result - 0 in
-    let e : k ≡ getD (a .s .now) labelBytes 0 = omega (arith, w .ensures, c .before .before .before .before .before .before .before .before .before .before .before .before .before .children-at .ensures) in
+    let e : k ≡ getD (a .s .now) labelBytes 0 = omega (
+      arith,
+      w .ensures,
+      c .before .before .before .before .before
+          .before .before .before .before .before .before .before .before .children-at .ensures,
+    ) in
     let h = c .before .before .before .before .before .before .before .before .before .run-children .ensures in
     let l = c .before .before .before .before .before .before .before .len .given in
     let f = c .before .before .before .find .ensures in

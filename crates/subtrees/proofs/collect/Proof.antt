@@ -1,6 +1,7 @@
 -- The loop at i has gone through the nodes from i on: their trees are on the stack, their subtrees in the arrays.
 use Rattle.subtrees.proofs.Suffixes.{passed}
-use Rattle.subtrees.proofs.Collecting.{Collecting, collecting-at, collecting-end, collecting-next, collecting-start, end-top, pop-children, pop-narrow, pop-room}
+use Rattle.subtrees.proofs.Collecting.{Collecting, collecting-at, collecting-end, collecting-next}
+use Rattle.subtrees.proofs.Collecting.{collecting-start, end-top, pop-children, pop-narrow, pop-room}
 use Rattle.subtrees.proofs.Arrays.{filled-at}
 use native.Mathlib.Omega.{arith}
 use mathlib.Core.Path.{refl, _∙_}
@@ -19,7 +20,8 @@ abbrev μ-loop : tie.MeasureT-loop
 loop-holds : tie.Need-loop-holds Inv-loop μ-loop
 loop-holds c =
     let start = c .before .before in
-    collecting-start (passed (start .args .tree .now) (start .pre .0)) (start .args .transitions .now) (start .args .count)
+    collecting-start (passed (start .args .tree .now) (start .pre .0)) (start .args .transitions .now) (start .args
+    .count)
     (record { labels = refl; arities = refl; children = refl; states = refl }) refl
 
 sub-i : tie.Need-sub-i Inv-loop μ-loop
@@ -44,53 +46,77 @@ popped-requires c κs =
 
 enter-requires : tie.Need-enter-requires Inv-loop μ-loop
 enter-requires c κs =
-    let start = c .before .before .before .before .before .before .before .before .before .before .before .before .before in
+    let start = c .before .before .before .before .before .before .before .before .before .before .before .before
+    .before in
     let head = c .before .before .before .before .before .before .before .before .before .before .loop in
     let arity = c .before .before .before .before .before .before .before .children-at .ensures in
-    let filled = filled-at (c .before .before .before .before .popped .ensures) (c .before .before .before .before .before .before .wide .ensures ∙ arity) in
+    let filled = filled-at (c .before .before .before .before .popped .ensures) (c .before .before .before .before
+    .before .before .wide .ensures ∙ arity) in
     let ok = passed (start .args .tree .now) (start .pre .0) in (
       start .pre .1,
       (
         head .inv .sized,
         (
           omega (arith, head .inv .room),
-          (c .before .before .before .before .before .before .before .before .label-at .ensures .1, rw arity (pop-children ok (head .inv) (c .before .before .before .before .before .before .before .before .before .loop-test .taken) filled)),
+          (
+            c .before .before .before .before .before .before .before .before .label-at .ensures .1,
+            rw arity
+                (pop-children ok (head .inv) (c .before .before .before .before .before .before .before .before .before
+                .loop-test .taken) filled),
+          ),
         ),
       ),
     )
 
 add-top : tie.Need-add-top Inv-loop μ-loop
 add-top c =
-    let start = c .before .before .before .before .before .before .before .before .before .before .before .before .before .before in
+    let start = c .before .before .before .before .before .before .before .before .before .before .before .before
+    .before .before in
     let ok = passed (start .args .tree .now) (start .pre .0) in
     let width = c .before .before .before .before .before .before .before .wide .ensures in
-    omega (arith, pop-room ok (c .before .before .before .before .before .before .before .before .before .before .before .loop .inv) (c .before .before .before .before .before .before .before .before .before .before .loop-test .taken), width)
+    omega (
+      arith,
+      pop-room ok (c .before .before .before .before .before .before .before .before .before .before
+          .before .loop .inv) (c .before .before .before .before .before .before .before .before .before .before .loop-test
+          .taken),
+      width,
+    )
 
 sub-top : tie.Need-sub-top Inv-loop μ-loop
 sub-top c = search needs
 
 array-write-stack : tie.Need-array-write-stack Inv-loop μ-loop
 array-write-stack c =
-    let start = c .before .before .before .before .before .before .before .before .before .before .before .before .before .before in
+    let start = c .before .before .before .before .before .before .before .before .before .before .before .before
+    .before .before in
     let ok = passed (start .args .tree .now) (start .pre .0) in
     let inv = c .before .before .before .before .before .before .before .before .before .before .before .loop .inv in
     let width = c .before .before .before .before .before .before .before .wide .ensures in
-    omega (arith, pop-room ok inv (c .before .before .before .before .before .before .before .before .before .before .loop-test .taken), inv .below, width)
+    omega (
+      arith,
+      pop-room ok inv (c .before .before .before .before .before .before .before .before .before .before
+          .loop-test .taken),
+      inv .below,
+      width,
+    )
 
 loop-less : tie.Need-loop-less Inv-loop μ-loop
 loop-less c = search needs
 
 loop-again : tie.Need-loop-again Inv-loop μ-loop
 loop-again c =
-    let start = c .before .before .before .before .before .before .before .before .before .before .before .before .before .before in
+    let start = c .before .before .before .before .before .before .before .before .before .before .before .before
+    .before .before in
     let head = c .before .before .before .before .before .before .before .before .before .before .before .loop in
     let arity = c .before .before .before .before .before .before .before .before .children-at .ensures in
     let width = c .before .before .before .before .before .before .before .wide .ensures ∙ arity in
     let filled = filled-at (c .before .before .before .before .before .popped .ensures) width in
     let ok = passed (start .args .tree .now) (start .pre .0) in
     rw width
-    (collecting-next ok (head .inv) (c .before .before .before .before .before .before .before .before .before .before .loop-test .taken) filled (c .enter .ensures .1 .0) (c .enter .ensures .0)
-    (rw (c .before .before .before .before .before .before .before .before .before .label-at .ensures .0, arity) at (c .enter .ensures .1 .1)))
+    (collecting-next ok (head .inv) (c .before .before .before .before .before .before .before .before .before .before
+    .loop-test .taken) filled (c .enter .ensures .1 .0) (c .enter .ensures .0)
+    (rw (c .before .before .before .before .before .before .before .before .before .label-at .ensures .0, arity) at (c
+    .enter .ensures .1 .1)))
 
 array-read-t29 : tie.Need-array-read-t29 Inv-loop μ-loop
 array-read-t29 c =

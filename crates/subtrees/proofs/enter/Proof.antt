@@ -1,5 +1,6 @@
--- The node was found before, or the arrays hold it after the others.
-use Rattle.subtrees.proofs.Entering.{children-more, enter-missing, enter-new, enter-old, entrant-state, sized-new}
+-- `subtrees::enter` meets its contract: the node was found before, or the arrays hold it after the others.
+use Rattle.subtrees.proofs.Entering.{children-more, enter-missing, enter-new, enter-old, entrant-state}
+use Rattle.subtrees.proofs.Entering.{sized-new}
 use Rattle.subtrees.proofs.Arrays.{filled-at}
 use Rattle.table.specs.Layout.{transitionsIn}
 use Rattle.subtrees.specs.Steps.{stateFrom}
@@ -28,7 +29,8 @@ returns c =
       start .pre .1 .0,
       (
         omega (arith, sought .ensures .within),
-        λ A ts e st. enter-old st (start .args .label) (start .pre .1 .1 .1 .1) eight (sought .ensures) (c .if1 .taken),
+        λ A ts e st. enter-old st (start .args .label) (start .pre .1 .1 .1 .1) eight (sought .ensures) (c .if1
+            .taken),
       ),
     )
 
@@ -82,9 +84,11 @@ returns-2 c =
       sized-new (start .pre .1 .0) (a .found) (a .label) (a .arity) (q .result) (c .store-children .ensures),
       (
         omega arith,
-        λ A ts e st. enter-new st (a .label) ch eight (start .pre .1 .0) (start .pre .1 .1 .0) (start .pre .1 .1 .1 .0)
+        λ A ts e st. enter-new st (a .label) ch eight (start .pre .1 .0) (start .pre .1 .1 .0) (start .pre .1 .1 .1
+            .0)
             (c .store-children .ensures) (state ∙ entrant-state st (a .label) ch eight τs filled e)
-            (enter-missing st (a .label) ch eight (c .before .before .before .before .before .before .before .search .ensures) (c .before .before .before .before .before .before .if1 .left)),
+            (enter-missing st (a .label) ch eight (c .before .before .before .before .before .before .before .search
+            .ensures) (c .before .before .before .before .before .before .if1 .left)),
       ),
     )
 

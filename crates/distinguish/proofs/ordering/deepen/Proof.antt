@@ -1,3 +1,4 @@
+-- `distinguish::ordering::deepen` meets its contract: every index is a state.
 use Rattle.table.specs.Layout.{arityOf}
 use Rattle.fields.proofs.Transitions.{readable}
 use Prim.Native.Nat.{_*_, _+_, _-_, _≤_, ℕ}
@@ -33,7 +34,13 @@ loop-holds c =
       omega arith,
       c .before .arity-of .ensures,
       start .pre .1 .1 .1,
-      omega (arith, c .out-of .ensures .0, start .pre .0 .out-state (start .args .i) (start .pre .1 .1 .0), start .pre .1 .0),
+      omega (
+        arith,
+        c .out-of .ensures .0,
+        start .pre .0 .out-state (start .args .i) (start .pre .1 .1 .0),
+        start .pre
+            .1 .0,
+      ),
     )
 
 mul-arg-of : tie.Need-mul-arg-of Inv-loop μ-loop

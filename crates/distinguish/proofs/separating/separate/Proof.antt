@@ -1,3 +1,4 @@
+-- `distinguish::separating::separate` meets its contract: a mark is set where the outputs are separated.
 use Rattle.distinguish.proofs.Marking.{separates-new, separates-not, separates-old}
 use Rattle.fields.proofs.Transitions.{readable}
 use Prim.Native.Nat.{_*_}
@@ -38,7 +39,8 @@ returns : tie.Need-returns
 returns c =
     let start = c .before .before .before .before .before .before in
     separates-old (start .args .transitions .now) (start .args .count) (11 * (start .args .i)) (start .args .k)
-    (start .args .q) (start .args .marks .now) (c .before .before .before .before .arg-of .ensures .0) (c .before .before .before .wide .ensures) (c .before .both-marked .ensures) (c .if1 .taken)
+    (start .args .q) (start .args .marks .now) (c .before .before .before .before .arg-of .ensures .0) (c .before
+    .before .before .wide .ensures) (c .before .both-marked .ensures) (c .if1 .taken)
 
 mul-out-of : tie.Need-mul-out-of
 mul-out-of c = search needs
@@ -69,11 +71,16 @@ returns-2 : tie.Need-returns-2
 returns-2 c =
     let start = c .before .before .before .before .before .before .before .before .before .before .before .before in
     separates-not (start .args .transitions .now) (start .args .count) (11 * (start .args .i)) (start .args .k)
-    (start .args .q) (start .args .marks .now) (c .before .before .before .before .before .before .before .before .before .before .arg-of .ensures .0) (c .before .before .before .before .before .before .before .before .before .wide .ensures) (c .before .before .before .before .before .out-of .ensures .0) (c .before .before .before .wide2 .ensures ∙ c .before .before .before .before .stepped .ensures) (c .before .either-marked .ensures) (c .if2 .taken)
+    (start .args .q) (start .args .marks .now) (c .before .before .before .before .before .before .before .before
+    .before .before .arg-of .ensures .0) (c .before .before .before .before .before .before .before .before .before
+    .wide .ensures) (c .before .before .before .before .before .out-of .ensures .0) (c .before .before .before .wide2
+    .ensures ∙ c .before .before .before .before .stepped .ensures) (c .before .either-marked .ensures) (c .if2
+    .taken)
 
 mul-mark : tie.Need-mul-mark
 mul-mark c =
-    let start = c .before .before .before .before .before .before .before .before .before .before .before .before .before in
+    let start = c .before .before .before .before .before .before .before .before .before .before .before .before
+    .before in
     omega (
       arith,
       c .before .before .before .before .before .before .before .before .before .before .before .arg-of .ensures .0,
@@ -84,7 +91,8 @@ mul-mark c =
 
 add-mark : tie.Need-add-mark
 add-mark c =
-    let start = c .before .before .before .before .before .before .before .before .before .before .before .before .before in
+    let start = c .before .before .before .before .before .before .before .before .before .before .before .before
+    .before in
     omega (
       arith,
       c .before .before .before .before .before .before .before .before .before .before .before .arg-of .ensures .0,
@@ -96,12 +104,14 @@ add-mark c =
 
 mark-requires : tie.Need-mark-requires
 mark-requires c κs =
-    let start = c .before .before .before .before .before .before .before .before .before .before .before .before .before in (
+    let start = c .before .before .before .before .before .before .before .before .before .before .before .before
+    .before in (
       start .pre .1 .1 .1 .1 .1,
       omega (
         arith,
         c .before .before .before .before .before .before .before .before .before .before .before .arg-of .ensures .0,
-        (start .pre .1 .0) .arg-state (start .args .i) (start .args .k) (start .pre .1 .1 .1 .0) (start .pre .1 .1 .1 .1 .0),
+        (start .pre .1 .0) .arg-state (start .args .i) (start .args .k) (start .pre .1 .1 .1 .0) (start .pre .1 .1 .1
+            .1 .0),
         start .pre .1 .1 .0,
         c .before .before .before .before .before .before .before .before .before .before .wide .ensures,
       ),
@@ -112,35 +122,48 @@ mul-mark-2 c = search needs
 
 add-mark-2 : tie.Need-add-mark-2
 add-mark-2 c =
-    let start = c .before .before .before .before .before .before .before .before .before .before .before .before .before .before .before in
+    let start = c .before .before .before .before .before .before .before .before .before .before .before .before
+    .before .before .before in
     omega (
       arith,
-      c .before .before .before .before .before .before .before .before .before .before .before .before .before .arg-of .ensures .0,
+      c .before .before .before .before .before .before .before .before .before .before .before .before .before
+          .arg-of .ensures .0,
       (start .pre .1 .0) .arg-state (start .args .i) (start .args .k)
           (start .pre .1 .1 .1 .0) (start .pre .1 .1 .1 .1 .0),
       start .pre .1 .1 .0,
-      c .before .before .before .before .before .before .before .before .before .before .before .before .wide .ensures,
+      c .before .before .before .before .before .before .before .before .before .before .before .before .wide
+          .ensures,
     )
 
 mark-requires-2 : tie.Need-mark-requires-2
 mark-requires-2 c κs =
-    let start = c .before .before .before .before .before .before .before .before .before .before .before .before .before .before .before in (
+    let start = c .before .before .before .before .before .before .before .before .before .before .before .before
+    .before .before .before in (
       c .before .mark .ensures .swept .size ∙ start .pre .1 .1 .1 .1 .1,
       omega (
         arith,
-        c .before .before .before .before .before .before .before .before .before .before .before .before .before .arg-of .ensures .0,
+        c .before .before .before .before .before .before .before .before .before .before .before .before .before
+            .arg-of .ensures .0,
         (start .pre .1 .0) .arg-state (start .args .i) (start .args .k) (start .pre .1 .1 .1 .0) (start .pre
             .1 .1 .1 .1 .0),
         start .pre .1 .1 .0,
-        c .before .before .before .before .before .before .before .before .before .before .before .before .wide .ensures,
+        c .before .before .before .before .before .before .before .before .before .before .before .before .wide
+            .ensures,
       ),
     )
 
 returns-3 : tie.Need-returns-3
 returns-3 c =
-    let start = c .before .before .before .before .before .before .before .before .before .before .before .before .before .before .before .before in
+    let start = c .before .before .before .before .before .before .before .before .before .before .before .before
+    .before .before .before .before in
     separates-new (start .args .transitions .now) (start .args .count) (11 * (start .args .i)) (start .args .k)
-    (start .args .q) (start .args .marks .now) (c .before .before .before .before .before .before .before .before .before .before .before .before .before .before .arg-of .ensures .0) (c .before .before .before .before .before .before .before .before .before .before .before .before .before .wide .ensures) (c .before .before .before .before .before .before .before .before .before .out-of .ensures .0) (c .before .before .before .before .before .before .before .wide2 .ensures ∙ c .before .before .before .before .before .before .before .before .stepped .ensures) (c .before .before .before .before .before .either-marked .ensures) (c .before .before .before .before .if2 .left) (c .before .before .mark .ensures) (c .mark2 .ensures)
+    (start .args .q) (start .args .marks .now) (c .before .before .before .before .before .before .before .before
+    .before .before .before .before .before .before .arg-of .ensures .0) (c .before .before .before .before .before
+    .before .before .before .before .before .before .before .before .wide .ensures) (c .before .before .before .before
+    .before .before .before .before .before .out-of .ensures .0) (c .before .before .before .before .before .before
+    .before .wide2 .ensures ∙ c .before .before .before .before .before .before .before .before .stepped .ensures) (c
+    .before .before .before .before .before .either-marked .ensures) (c .before .before .before .before .if2 .left) (c
+    .before .before .mark .ensures) (c .mark2 .ensures)
 
 pub separate-spec : {M : Type 1} → statement M
 separate-spec =

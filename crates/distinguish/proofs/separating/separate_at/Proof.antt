@@ -1,3 +1,4 @@
+-- `distinguish::separating::separate_at` meets its contract: the places passed are closed under the rule.
 use Rattle.marking.proofs.Spreading.{spread-begin, spread-next}
 use Rattle.marking.specs.Spread.{Spread, UpTo}
 use Rattle.table.specs.Layout.{arityOf}
@@ -12,7 +13,8 @@ use Rattle.distinguish.proofs.separating.separate_at.Tie as tie
 
 abbrev Inv-loop : tie.InvT-loop
 Inv-loop run count n i marks₀ arity changed₀ k₀ marks changed k =
-    (k ≤ arity) × (arity ≡ arityOf run (11 * i)) × Spread (UpTo (SeparateArg run count n (11 * i)) k) marks₀ marks changed
+    (k ≤ arity) × (arity ≡ arityOf run (11 * i)) × Spread (UpTo (SeparateArg run count n (11 * i)) k) marks₀ marks
+    changed
 
 abbrev μ-loop : tie.MeasureT-loop
 μ-loop run count n i marks₀ arity changed₀ k₀ marks changed k = arity - k
@@ -66,7 +68,8 @@ loop-again c =
       omega arith,
       c .before .before .before .loop .inv .1,
       spread-next (SeparateArg (start .args .transitions .now) (start .args .count)
-          (start .args .n) ((11 * (start .args) .i))) (c .before .before .before .loop .k) (c .before .before .before .loop .inv .2) (c .separate-arg .ensures),
+          (start .args .n) ((11 * (start .args) .i))) (c .before .before .before .loop .k) (c .before .before .before
+          .loop .inv .2) (c .separate-arg .ensures),
     )
 
 returns : tie.Need-returns Inv-loop μ-loop

@@ -1,3 +1,4 @@
+-- `distinguish::steps::replaced` meets its contract: the entry is the transition with argument k replaced.
 use Rattle.fields.proofs.Entries.{then-arg}
 use Rattle.distinguish.proofs.Marking.{replaced-output}
 use borrow.Author.Needs.{needs}
@@ -16,8 +17,10 @@ output-requires c κs = search needs
 returns : tie.Need-returns
 returns c =
     let start = c .before .before .before .before .before in
-    replaced-output (start .args .transitions .now) (start .args .count) (start .args .at) (start .args .k) (start .args .q)
-    (then-arg (c .before .before .before .entry-at .ensures) (start .args .k) (start .args .q) (c .before .put-arg .ensures)) (start .pre .1 .1)
+    replaced-output (start .args .transitions .now) (start .args .count) (start .args .at) (start .args .k) (start
+    .args .q)
+    (then-arg (c .before .before .before .entry-at .ensures) (start .args .k) (start .args .q) (c .before .put-arg
+    .ensures)) (start .pre .1 .1)
     (start .pre .1 .0 .narrow) (c .output .ensures)
 
 pub replaced-spec : {M : Type 1} → statement M

@@ -11,8 +11,15 @@ label-byte-requires : tie.Need-label-byte-requires
 label-byte-requires c κs = search needs
 
 returns : tie.Need-returns
-returns c =
-    (c .label-byte .ensures, omega (arith, c .before .before .shared-slice-known .given (c .before .before .before .args .at), c .label-byte .ensures))
+returns c = (
+  c .label-byte .ensures,
+  omega (
+    arith,
+    c .before .before .shared-slice-known .given (c .before .before .before
+        .args .at),
+    c .label-byte .ensures,
+  ),
+)
 
 pub label-of-spec : {M : Type 1} → statement M
 label-of-spec = tie.close (tie.spec shared-slice-read-label-byte label-byte-requires returns)

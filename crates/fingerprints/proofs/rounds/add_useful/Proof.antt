@@ -1,3 +1,4 @@
+-- `fingerprints::rounds::add_useful` meets its contract: a transition to a useless state gives nothing.
 use Rattle.marking.proofs.Sweeps.{nonzero-false, nonzero-true}
 use Rattle.marking.specs.Marks.{marked}
 use Rattle.fingerprints.proofs.Adding.{gained-none, useful-gain, useless-gain}
@@ -23,7 +24,8 @@ returns : tie.Need-returns
 returns c =
     let start = c .before .before .before .before in
     gained-none (start .args .prints .now) (start .pre .1 .1 .1) (useless-gain (start .args .transitions .now) (marked
-    (start .args .useful .now)) (printOf (start .args .seen .now)) (start .args .i) (c .before .before .out-of .ensures .0)
+    (start .args .useful .now)) (printOf (start .args .seen .now)) (start .args .i) (c .before .before .out-of
+    .ensures .0)
     (nonzero-false _ (c .if1 .taken)))
 
 mul-add-uses : tie.Need-mul-add-uses
@@ -49,7 +51,8 @@ returns-2 : tie.Need-returns-2
 returns-2 c =
     let start = c .before .before .before .before .before .before .before in
     useful-gain (start .args .transitions .now) (marked (start .args .useful .now)) (printOf (start .args .seen .now))
-    (start .args .i) (c .before .before .before .before .before .out-of .ensures .0) (nonzero-true _ (c .before .before .before .if1 .left)) (c .add-uses .ensures)
+    (start .args .i) (c .before .before .before .before .before .out-of .ensures .0) (nonzero-true _ (c .before
+    .before .before .if1 .left)) (c .add-uses .ensures)
 
 pub add-useful-spec : {M : Type 1} → statement M
 add-useful-spec =

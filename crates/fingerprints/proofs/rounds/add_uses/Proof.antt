@@ -1,9 +1,12 @@
+-- `fingerprints::rounds::add_uses` meets its contract: what is gained is what the places passed give.
 use Rattle.fingerprints.specs.Fingerprints.{folded, gain, base256, prime, salted}
 use Rattle.table.specs.Layout.{arityOf, labelOf, nthTransition}
 use Prim.Native.Nat.{_*_, _+_, _-_, _/_, _<_, _≤_, ℕ}
 use mathlib.Core.Path.{_≡_, _∙_, ap, refl, sym}
 use native.Mathlib.Omega.{arith}
-use Rattle.fingerprints.proofs.Adding.{Filling, argsFrom, argsTo, filling-end, filling-next, filling-start, gainFrom, gain-end, gain-start, gain-step, folded-next, packed-next, packed-whole}
+use Rattle.fingerprints.proofs.Adding.{Filling, argsFrom, argsTo, filling-end, filling-next, filling-start}
+use Rattle.fingerprints.proofs.Adding.{gainFrom, gain-end, gain-start, gain-step, folded-next, packed-next}
+use Rattle.fingerprints.proofs.Adding.{packed-whole}
 use Rattle.fields.proofs.Transitions.{readable}
 use lib.ListN.{getD}
 use borrow.Author.Needs.{needs}
@@ -52,7 +55,8 @@ loop-holds c =
     let start = c .before .before .before .before .before .before in (
       omega arith,
       c .before .before .before .before .arity-of .ensures,
-      c .before .salt .ensures .0 ∙ ap (λ (l : ℕ). salted l (start .args .x)) (c .before .before .widened .ensures ∙ c .before .before .before .label-of .ensures .0),
+      c .before .salt .ensures .0 ∙ ap (λ (l : ℕ). salted l (start .args .x)) (c .before .before .widened .ensures ∙ c
+          .before .before .before .label-of .ensures .0),
       omega arith,
       refl,
       c .packed-args .ensures ∙ sym (packed-whole (start .args .transitions .now) ((11 * (start .args) .i)) 0 refl),
@@ -100,23 +104,31 @@ loop-less c = search needs
 
 loop-again : tie.Need-loop-again Inv-loop μ-loop
 loop-again c =
-    let start = c .before .before .before .before .before .before .before .before .before .before .before .before .before in
-    let h : (c .before .before .before .before .before .before .loop .k) < arityOf (start .args .transitions .now) ((11 * (start .args) .i)) = omega (
+    let start = c .before .before .before .before .before .before .before .before .before .before .before .before
+    .before in
+    let h : (c .before .before .before .before .before .before .loop .k) < arityOf (start .args .transitions .now)
+    ((11 * (start .args) .i)) = omega (
       arith,
       c .before .before .before .before .before .before .loop .inv .1,
     ) in
-    let f = ap (λ (y : ℕ). y / 256) (c .before .before .before .before .before .before .loop .inv .5) ∙ packed-next (start .args .transitions .now) ((11 *
+    let f = ap (λ (y : ℕ). y / 256) (c .before .before .before .before .before .before .loop .inv .5) ∙ packed-next
+    (start .args .transitions .now) ((11 *
     (start .args) .i)) (c .before .before .before .before .before .before .loop .k) h (omega arith) in (
       omega arith,
       c .before .before .before .before .before .before .loop .inv .1,
       c .before .before .before .before .before .before .loop .inv .2,
       c .fold .ensures .1,
       c .fold .ensures .0 ∙
-          folded-next (start .args .transitions .now) ((11 * (start .args) .i)) (c .before .before .before .before .before .before .loop .k) (c .before .before .before .before .before .before .loop .inv .4)
+          folded-next (start .args .transitions .now) ((11 * (start .args) .i)) (c .before .before .before .before
+          .before .before .loop .k) (c .before .before .before .before .before .before .loop .inv .4)
           (c .before .before .before .before .arg-of .ensures .0),
       f,
-      filling-next (c .before .before .before .before .before .before .loop .inv .6) (c .before .add .ensures) (gain-step
-          (start .args .transitions .now) ((11 * (start .args) .i)) (start .args .x) (c .before .before .before .before .before .before .loop .k) h (c .before .before .before .before .arg-of .ensures .0) (c .before .before .before .before .before .before .loop .inv .4) f (c .before .before .before .before .before .before .loop .inv .2) (c .before .before .value .ensures)),
+      filling-next (c .before .before .before .before .before .before .loop .inv .6) (c .before .add .ensures)
+          (gain-step
+          (start .args .transitions .now) ((11 * (start .args) .i)) (start .args .x) (c .before .before .before
+          .before .before .before .loop .k) h (c .before .before .before .before .arg-of .ensures .0) (c .before
+          .before .before .before .before .before .loop .inv .4) f (c .before .before .before .before .before .before
+          .loop .inv .2) (c .before .before .value .ensures)),
     )
 
 returns : tie.Need-returns Inv-loop μ-loop

@@ -1,4 +1,6 @@
-use Rattle.fingerprints.proofs.Adding.{argsFrom, argsFrom-none, radix, radix-small, packed-before, packed-whole}
+-- `fingerprints::values::packed_args` meets its contract: the sum is that of the arguments passed, the last first.
+use Rattle.fingerprints.proofs.Adding.{argsFrom, argsFrom-none, radix, radix-small, packed-before}
+use Rattle.fingerprints.proofs.Adding.{packed-whole}
 use Rattle.fingerprints.specs.Fingerprints.{base256}
 use Rattle.table.specs.Layout.{arityOf}
 use Prim.Native.Nat.{_-_, _<_, _≤_, ℕ, _+_, suc, _*_}
@@ -23,10 +25,12 @@ loop-holds : tie.Need-loop-holds Inv-loop μ-loop
 loop-holds c =
     let start = c .before .before in
     let r = c .arity-of .ensures in
-    let z : 0 ≡ arityOf (start .args .transitions .now) (start .args .at) - (c .arity-of) .result = omega (arith, r) in (
+    let z : 0 ≡ arityOf (start .args .transitions .now) (start .args .at) - (c .arity-of) .result = omega (arith, r)
+    in (
       omega (arith, r),
       subst (λ (m : ℕ). 0 < radix m) z (omega arith),
-      sym (ap base256 (argsFrom-none (start .args .transitions .now) (start .args .at) (c .arity-of .result) (omega (arith, r)))),
+      sym (ap base256 (argsFrom-none (start .args .transitions .now) (start .args .at) (c .arity-of .result) (omega
+          (arith, r)))),
     )
 
 sub-k : tie.Need-sub-k Inv-loop μ-loop
@@ -38,14 +42,16 @@ arg-of-requires c κs = search needs
 mul-sum : tie.Need-mul-sum Inv-loop μ-loop
 mul-sum c =
     let start = c .before .before .before .before .before in
-    let h = radix-small (arityOf (start .args .transitions .now) (start .args .at) - (c .before .before .loop .k)) (omega
+    let h = radix-small (arityOf (start .args .transitions .now) (start .args .at) - (c .before .before .loop .k))
+    (omega
     (arith, start .pre .narrow)) in
     omega (arith, h, c .before .before .loop .inv .1)
 
 add-sum : tie.Need-add-sum Inv-loop μ-loop
 add-sum c =
     let start = c .before .before .before .before .before in
-    let h = radix-small (arityOf (start .args .transitions .now) (start .args .at) - (c .before .before .loop .k)) (omega
+    let h = radix-small (arityOf (start .args .transitions .now) (start .args .at) - (c .before .before .loop .k))
+    (omega
     (arith, start .pre .narrow)) in
     omega (
       arith,
@@ -60,7 +66,12 @@ loop-less c = search needs
 loop-again : tie.Need-loop-again Inv-loop μ-loop
 loop-again c =
     let start = c .before .before .before .before .before in
-    let e : suc (arityOf (start .args .transitions .now) (start .args .at) - (c .before .before .loop .k)) ≡ arityOf (start .args .transitions .now) (start .args .at) - ((c .before .before .loop .k) - 1) = omega (arith, c .before .before .loop .inv .0) in (
+    let e : suc (arityOf (start .args .transitions .now) (start .args .at) - (c .before .before .loop .k)) ≡ arityOf
+    (start .args .transitions .now) (start .args .at) - ((c .before .before .loop .k) - 1) = omega (
+      arith,
+      c .before
+          .before .loop .inv .0,
+    ) in (
       omega (arith, c .before .before .loop .inv .0),
       subst (λ (m : ℕ). (c .arg-of) .result + 256 * (c .before .before .loop) .sum <
           radix m) e (omega (
@@ -68,7 +79,8 @@ loop-again c =
             c .before .before .loop .inv .1,
             c .arg-of .ensures .0,
           )),
-      packed-before (start .args .transitions .now) (start .args .at) (c .before .before .loop .k) (omega arith) (c .before .before .loop .inv .0) (c .arg-of .ensures .0) (c .before .before .loop .inv .2),
+      packed-before (start .args .transitions .now) (start .args .at) (c .before .before .loop .k) (omega arith) (c
+          .before .before .loop .inv .0) (c .arg-of .ensures .0) (c .before .before .loop .inv .2),
     )
 
 returns : tie.Need-returns Inv-loop μ-loop

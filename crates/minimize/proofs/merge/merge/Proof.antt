@@ -1,6 +1,7 @@
-use mathlib.Core.Path.{_∙_, sym}
 -- `merge::merge` meets its contract: the transitions read so far stand renamed at the front.
-use Rattle.minimize.proofs.Merging.{Merging, merging-done, merging-keep, merging-readable, merging-runs, merging-skip, merging-start}
+use mathlib.Core.Path.{_∙_, sym}
+use Rattle.minimize.proofs.Merging.{Merging, merging-done, merging-keep, merging-readable, merging-runs}
+use Rattle.minimize.proofs.Merging.{merging-skip, merging-start}
 use native.Mathlib.Omega.{arith}
 use Prim.Native.Nat.{_-_}
 use borrow.Author.Needs.{needs}
@@ -40,7 +41,8 @@ loop-less c = search needs
 loop-again : tie.Need-loop-again Inv-loop μ-loop
 loop-again c =
     let start = c .before .before .before .before .before .before .before .before in
-    merging-skip (c .before .before .before .before .before .before .loop .inv) (start .pre) (omega arith) (c .before .before .before .renamed .ensures) (sym (c .before .out-of .ensures .0) ∙ c .if1 .taken)
+    merging-skip (c .before .before .before .before .before .before .loop .inv) (start .pre) (omega arith) (c .before
+    .before .before .renamed .ensures) (sym (c .before .out-of .ensures .0) ∙ c .if1 .taken)
 
 mul-write : tie.Need-mul-write Inv-loop μ-loop
 mul-write c = search needs
@@ -57,8 +59,11 @@ loop-less-2 c = search needs
 loop-again-2 : tie.Need-loop-again-2 Inv-loop μ-loop
 loop-again-2 c =
     let start = c .before .before .before .before .before .before .before .before .before .before .before .before in
-    merging-keep (c .before .before .before .before .before .before .before .before .before .before .loop .inv) (start .pre) (omega arith) (c .before .before .before .before .before .before .before .renamed .ensures) (c .before .before .write .ensures)
-    (λ e. (c .before .before .before .before .if1) .left (c .before .before .before .before .before .out-of .ensures .0 ∙ e))
+    merging-keep (c .before .before .before .before .before .before .before .before .before .before .loop .inv) (start
+    .pre) (omega arith) (c .before .before .before .before .before .before .before .renamed .ensures) (c .before
+    .before .write .ensures)
+    (λ e. (c .before .before .before .before .if1) .left (c .before .before .before .before .before .out-of .ensures
+    .0 ∙ e))
 
 same-length : tie.Need-same-length Inv-loop μ-loop
 same-length c = search needs

@@ -1,3 +1,4 @@
+-- `minimize::merge::renamed` meets its contract: k arguments have their names, the others are still 0.
 use mathlib.Core.Path.{_≡_, ap}
 use Prim.Native.Nat.{_-_}
 use native.Mathlib.Omega.{arith}
@@ -5,7 +6,6 @@ use Rattle.fields.proofs.Entries.{then-arity, then-label, then-out}
 use Rattle.table.specs.Layout.{arityOf}
 use Rattle.minimize.specs.Merged.{nameIn}
 use Rattle.minimize.proofs.Entries.{Renaming, renaming-end, renaming-next, renaming-start}
--- `minimize::merge::renamed` meets its contract: k arguments have their names, the others are still 0.
 use borrow.Author.Needs.{needs}
 use Rattle.minimize.proofs.merge.renamed.Statement.{statement}
 use Rattle.minimize.proofs.merge.renamed.Tie as tie
@@ -44,12 +44,17 @@ put-out-requires c κs = search needs
 loop-holds : tie.Need-loop-holds Inv-loop μ-loop
 loop-holds c =
     let start = c .before .before .before .before .before .before .before .before .before .before .before .before in
-    let arity = c .before .before .before .before .before .before .before .before .before .before .arity-of .ensures in
+    let arity = c .before .before .before .before .before .before .before .before .before .before .arity-of .ensures
+    in
     let label = c .before .before .before .before .before .before .label-of .ensures .0 in
-    let made = then-out (then-arity (then-label (c .before .before .before .before .before .before .before .before .blank-entry .ensures) (c .before .before .before .before .before .put-label .ensures)) (c .before .before .before .put-arity .ensures)) (c .put-out .ensures) in (
+    let made = then-out (then-arity (then-label (c .before .before .before .before .before .before .before .before
+    .blank-entry .ensures) (c .before .before .before .before .before .put-label .ensures)) (c .before .before .before
+    .put-arity .ensures)) (c .put-out .ensures) in (
       arity,
-      renaming-start (start .args .transitions .now) (start .args .at) (start .args .names .now) (rw (label, arity) at made)
-          (ap (nameIn (start .args .names .now)) (c .before .before .before .before .before .before .before .before .before .out-of .ensures .0)),
+      renaming-start (start .args .transitions .now) (start .args .at) (start .args .names .now) (rw (label, arity) at
+          made)
+          (ap (nameIn (start .args .names .now)) (c .before .before .before .before .before .before .before .before
+          .before .out-of .ensures .0)),
     )
 
 arg-of-requires : tie.Need-arg-of-requires Inv-loop μ-loop
@@ -69,15 +74,18 @@ loop-less c = search needs
 
 loop-again : tie.Need-loop-again Inv-loop μ-loop
 loop-again c =
-    let start = c .before .before .before .before .before .before .before .before .before .before .before .before .before .before .before .before .before .before in (
+    let start = c .before .before .before .before .before .before .before .before .before .before .before .before
+    .before .before .before .before .before .before in (
       c .before .before .before .before .before .loop .inv .0,
       renaming-next (c .before .before .before .before .before .loop .inv .1) (start .pre .narrow) (omega arith)
-          (ap (nameIn (start .args .names .now)) (c .before .before .before .arg-of .ensures .0)) (c .put-arg .ensures),
+          (ap (nameIn (start .args .names .now)) (c .before .before .before .arg-of .ensures .0)) (c .put-arg
+          .ensures),
     )
 
 returns : tie.Need-returns Inv-loop μ-loop
 returns c =
-    renaming-end (c .before .loop .inv .1) (c .before .before .before .before .before .before .before .before .before .before .before .before .before .before .pre .narrow) (omega arith)
+    renaming-end (c .before .loop .inv .1) (c .before .before .before .before .before .before .before .before .before
+    .before .before .before .before .before .pre .narrow) (omega arith)
 
 pub renamed-spec : {M : Type 1} → statement M
 renamed-spec =

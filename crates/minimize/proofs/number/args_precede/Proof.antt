@@ -23,7 +23,8 @@ abbrev μ-loop : tie.MeasureT-loop
 
 loop-holds : tie.Need-loop-holds Inv-loop μ-loop
 loop-holds c =
-    names-start (c .before .args .numbers .now) (c .before .args .transitions .now) (c .before .args .a) (c .before .args .b) (c .before .args .n)
+    names-start (c .before .args .numbers .now) (c .before .args .transitions .now) (c .before .args .a) (c .before
+    .args .b) (c .before .args .n)
 
 arg-of-requires : tie.Need-arg-of-requires Inv-loop μ-loop
 arg-of-requires c κs = search needs
@@ -47,7 +48,8 @@ returns c =
     let numbers = start .args .numbers .now in
     let x = ap (nameIn numbers) (c .before .before .before .before .arg-of .ensures .0) in
     let y = ap (nameIn numbers) (c .before .before .before .arg-of2 .ensures .0) in
-    ap₂ ltb x y ∙ lex-decided (c .before .before .before .before .before .before .loop .inv) (omega arith) (λ e. c .if1 .taken (x ∙ e ∙ sym y))
+    ap₂ ltb x y ∙ lex-decided (c .before .before .before .before .before .before .loop .inv) (omega arith) (λ e. c
+    .if1 .taken (x ∙ e ∙ sym y))
 
 add-k : tie.Need-add-k Inv-loop μ-loop
 add-k c = search needs
@@ -59,7 +61,8 @@ loop-again : tie.Need-loop-again Inv-loop μ-loop
 loop-again c =
     let start = c .before .before .before .before .before .before .before .before in
     let numbers = start .args .numbers .now in
-    lex-next (c .before .before .before .before .before .before .loop .inv) (omega arith) (sym (ap (nameIn numbers) (c .before .before .before .before .arg-of .ensures .0)) ∙ c .if1 .left ∙
+    lex-next (c .before .before .before .before .before .before .loop .inv) (omega arith) (sym (ap (nameIn numbers) (c
+    .before .before .before .before .arg-of .ensures .0)) ∙ c .if1 .left ∙
     ap (nameIn numbers) (c .before .before .before .arg-of2 .ensures .0))
 
 returns-2 : tie.Need-returns-2 Inv-loop μ-loop

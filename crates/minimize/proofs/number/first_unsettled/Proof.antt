@@ -40,7 +40,8 @@ loop-less c = search needs
 loop-again : tie.Need-loop-again Inv-loop μ-loop
 loop-again c = (
   omega arith,
-  settled-next (c .before .before .before .before .loop .inv .1) (ap (marked (c .before .before .before .before .before .before .args .numbers .now))
+  settled-next (c .before .before .before .before .loop .inv .1) (ap (marked (c .before .before .before .before
+      .before .before .args .numbers .now))
       (sym (c .before .before .out-of .ensures .0)) ∙ nonzero-true _ (c .if1 .left)),
 )
 

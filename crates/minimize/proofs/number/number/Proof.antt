@@ -26,7 +26,8 @@ loop-holds c =
       c .first-ready .ensures .0,
       omega arith,
       settled-none,
-      ordering-start (start .args .transitions .now) (start .args .count) (start .pre .1 .1 .1 .0) (start .pre .1 .1 .1 .1 .0)
+      ordering-start (start .args .transitions .now) (start .args .count) (start .pre .1 .1 .1 .0) (start .pre .1 .1
+          .1 .1 .0)
           (start .pre .1 .1 .1 .1 .1) _ (c .first-ready .ensures .1),
     )
 
@@ -50,7 +51,8 @@ cast-numbers : tie.Need-cast-numbers Inv-loop μ-loop
 cast-numbers c =
     omega (
       arith,
-      ordering-few (c .before .before .loop .inv .3) (c .before .loop-test .taken) (c .out-of .ensures .0) (c .before .before .before .before .before .before .pre .1 .1 .0) (omega (arith, c .out-of .ensures .1)),
+      ordering-few (c .before .before .loop .inv .3) (c .before .loop-test .taken) (c .out-of .ensures .0) (c .before
+          .before .before .before .before .before .pre .1 .1 .0) (omega (arith, c .out-of .ensures .1)),
     )
 
 element-write-numbers : tie.Need-element-write-numbers Inv-loop μ-loop
@@ -63,7 +65,14 @@ element-write-numbers c =
 first-unsettled-requires : tie.Need-first-unsettled-requires Inv-loop μ-loop
 first-unsettled-requires c κs = (
   c .before .before .before .before .before .before .before .pre .0,
-  (c .before .before .before .loop .inv .1, settled-more (c .before .before .before .loop .inv .2) _ _ (omega (arith, c .before .before .before .loop .inv .3 .room′, c .before .out-of .ensures .1))),
+  (
+    c .before .before .before .loop .inv .1,
+    settled-more (c .before .before .before .loop .inv .2) _ _ (omega (
+      arith,
+      c .before .before .before .loop .inv .3 .room′,
+      c .before .out-of .ensures .1,
+    )),
+  ),
 )
 
 first-ready-requires-2 : tie.Need-first-ready-requires-2 Inv-loop μ-loop
@@ -77,7 +86,9 @@ loop-again c = (
   c .first-ready2 .ensures .0,
   c .before .before .first-unsettled .ensures .0,
   c .before .before .first-unsettled .ensures .1,
-  ordering-next (c .before .before .before .before .before .before .loop .inv .3) (c .before .before .before .before .before .loop-test .taken) (c .before .before .before .before .out-of .ensures .0) (c .before .before .before .before .before .before .before .before .before .before .pre .1 .1 .0)
+  ordering-next (c .before .before .before .before .before .before .loop .inv .3) (c .before .before .before .before
+      .before .loop-test .taken) (c .before .before .before .before .out-of .ensures .0) (c .before .before .before
+      .before .before .before .before .before .before .before .pre .1 .1 .0)
       (omega (arith, c .before .before .before .before .out-of .ensures .1)) refl (c .first-ready2 .ensures .1),
 )
 

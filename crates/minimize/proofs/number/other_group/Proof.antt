@@ -1,5 +1,5 @@
-use mathlib.Core.Path.{_∙_, sym}
 -- `number::other_group` meets its contract: what it answers yes to has another child count or label.
+use mathlib.Core.Path.{_∙_, sym}
 use borrow.Author.Tests.{eqb-false, not-true}
 use native.Mathlib.Omega.{arith}
 use mathlib.Core.Bool.{false≢true}
@@ -41,7 +41,8 @@ returns-3 : tie.Need-returns-3
 returns-3 c =
     λ e. record {
       found = omega arith;
-      other = λ a l. eqb-false _ _ (not-true _ e) (c .before .label-of .ensures .0 ∙ l ∙ sym (c .label-of2 .ensures .0));
+      other = λ a l. eqb-false _ _ (not-true _ e) (c .before .label-of .ensures .0 ∙ l ∙ sym (c .label-of2 .ensures
+          .0));
     }
 
 pub other-group-spec : {M : Type 1} → statement M

@@ -19,12 +19,17 @@ label-of-requires-2 c κs = search needs
 returns : tie.Need-returns
 returns c =
     let start = c .before .before .before .before .before .before in
-    precedes-by-arity (start .args .numbers .now) (start .args .transitions .now) (start .args .a) (start .args .b) (c .before .before .before .before .arity-of .ensures) (c .before .before .before .arity-of2 .ensures) (c .if1 .taken)
+    precedes-by-arity (start .args .numbers .now) (start .args .transitions .now) (start .args .a) (start .args .b) (c
+    .before .before .before .before .arity-of .ensures) (c .before .before .before .arity-of2 .ensures) (c .if1
+    .taken)
 
 returns-2 : tie.Need-returns-2
 returns-2 c =
     let start = c .before .before .before .before .before .before .before in
-    precedes-by-label (start .args .numbers .now) (start .args .transitions .now) (start .args .a) (start .args .b) (c .before .before .before .before .before .arity-of .ensures) (c .before .before .before .before .arity-of2 .ensures) (c .before .if1 .left) (c .before .before .before .label-of .ensures .0) (c .before .before .label-of2 .ensures .0) (c .if2 .taken)
+    precedes-by-label (start .args .numbers .now) (start .args .transitions .now) (start .args .a) (start .args .b) (c
+    .before .before .before .before .before .arity-of .ensures) (c .before .before .before .before .arity-of2
+    .ensures) (c .before .if1 .left) (c .before .before .before .label-of .ensures .0) (c .before .before .label-of2
+    .ensures .0) (c .if2 .taken)
 
 args-precede-requires : tie.Need-args-precede-requires
 args-precede-requires c κs = search needs
@@ -32,7 +37,10 @@ args-precede-requires c κs = search needs
 returns-3 : tie.Need-returns-3
 returns-3 c =
     let start = c .before .before .before .before .before .before .before .before in
-    precedes-by-args (start .args .numbers .now) (start .args .transitions .now) (start .args .a) (start .args .b) (c .before .before .before .before .before .before .arity-of .ensures) (c .before .before .before .before .before .arity-of2 .ensures) (c .before .before .if1 .left) (c .before .before .before .before .label-of .ensures .0) (c .before .before .before .label-of2 .ensures .0) (c .before .if2 .left) (c .args-precede .ensures)
+    precedes-by-args (start .args .numbers .now) (start .args .transitions .now) (start .args .a) (start .args .b) (c
+    .before .before .before .before .before .before .arity-of .ensures) (c .before .before .before .before .before
+    .arity-of2 .ensures) (c .before .before .if1 .left) (c .before .before .before .before .label-of .ensures .0) (c
+    .before .before .before .label-of2 .ensures .0) (c .before .if2 .left) (c .args-precede .ensures)
 
 pub precedes-by-spec : {M : Type 1} → statement M
 precedes-by-spec =

@@ -20,7 +20,8 @@ returns : tie.Need-returns
 returns c =
     let start = c .before .before .before .before in
     numbered-unready (start .args .numbers .now) (transitionAt (start .args .transitions .now) (start .args .at)) (ap
-    (marked (start .args .numbers .now)) (sym (c .before .before .out-of .ensures .0)) ∙ nonzero-true _ (c .if1 .taken))
+    (marked (start .args .numbers .now)) (sym (c .before .before .out-of .ensures .0)) ∙ nonzero-true _ (c .if1
+    .taken))
 
 args-marked-requires : tie.Need-args-marked-requires
 args-marked-requires c κs = search needs
@@ -28,8 +29,10 @@ args-marked-requires c κs = search needs
 returns-2 : tie.Need-returns-2
 returns-2 c =
     let start = c .before .before .before .before .before in
-    c .args-marked .ensures ∙ unnumbered-ready (start .args .numbers .now) (transitionAt (start .args .transitions .now)
-    (start .args .at)) (ap (marked (start .args .numbers .now)) (sym (c .before .before .before .out-of .ensures .0)) ∙
+    c .args-marked .ensures ∙ unnumbered-ready (start .args .numbers .now) (transitionAt (start .args .transitions
+    .now)
+    (start .args .at)) (ap (marked (start .args .numbers .now)) (sym (c .before .before .before .out-of .ensures .0))
+    ∙
     nonzero-false _ (c .before .if1 .left))
 
 pub ready-spec : {M : Type 1} → statement M

@@ -1,3 +1,4 @@
+-- `partition::agreeing::agrees` meets its contract: states of one part, and the parts of their outputs.
 use Rattle.partition.proofs.Marked.{agrees-other, agrees-same}
 use Rattle.fields.proofs.Transitions.{readable}
 use Rattle.fingerprints.specs.Fingerprints.{printOf}
@@ -42,7 +43,8 @@ element-copy-out-if1-2 c =
 returns : tie.Need-returns
 returns c =
     let start = c .before .before .before .before .before in
-    agrees-other (start .args .transitions .now) (start .args .count) ((printOf (start .args .prints .now))) (start .args .i) (start .args .k) (start .args .q) (c .before .before .before .arg-of .ensures .0) (c .if1 .taken)
+    agrees-other (start .args .transitions .now) (start .args .count) ((printOf (start .args .prints .now))) (start
+    .args .i) (start .args .k) (start .args .q) (c .before .before .before .arg-of .ensures .0) (c .if1 .taken)
 
 mul-out-of : tie.Need-mul-out-of
 mul-out-of c = search needs
@@ -85,7 +87,11 @@ returns-2 : tie.Need-returns-2
 returns-2 c =
     let start = c .before .before .before .before .before .before .before .before .before .before in
     let e : (start .args .q) % 256 ≡ (start .args .q) = omega (arith, start .pre .1 .1 .1 .1) in
-    agrees-same (start .args .transitions .now) (start .args .count) ((printOf (start .args .prints .now))) (start .args .i) (start .args .k) (start .args .q) (c .before .before .before .before .before .before .before .before .arg-of .ensures .0) (c .before .before .before .before .before .if1 .left) (c .before .before .before .before .out-of .ensures .0) (c .before .before .wide .ensures ∙ c .before .before .before .stepped .ensures ∙ ap (stepAt (start .args .transitions .now) (start .args .count) (11 * (start .args .i)) (start .args .k)) e)
+    agrees-same (start .args .transitions .now) (start .args .count) ((printOf (start .args .prints .now))) (start
+    .args .i) (start .args .k) (start .args .q) (c .before .before .before .before .before .before .before .before
+    .arg-of .ensures .0) (c .before .before .before .before .before .if1 .left) (c .before .before .before .before
+    .out-of .ensures .0) (c .before .before .wide .ensures ∙ c .before .before .before .stepped .ensures ∙ ap (stepAt
+    (start .args .transitions .now) (start .args .count) (11 * (start .args .i)) (start .args .k)) e)
 
 pub agrees-spec : {M : Type 1} → statement M
 agrees-spec =

@@ -1,3 +1,4 @@
+-- `partition::agreeing::place_agrees` meets its contract: a state alone in its part agrees with itself.
 use Rattle.partition.proofs.Congruence.{lone-agrees}
 use Rattle.marking.proofs.Sweeps.{nonzero-false}
 use Rattle.marking.specs.Marks.{marked}
@@ -28,9 +29,11 @@ element-copy-out-if1 c =
 returns : tie.Need-returns
 returns c =
     let start = c .before .before .before .before in
-    sym (lone-agrees (start .args .transitions .now) (start .args .n) (start .args .count) (start .pre .1 .0) (start .pre .1 .1 .0) (start .pre .0 .rises) (start .args .prints .now) (start .args .shared .now) (start .pre .1
+    sym (lone-agrees (start .args .transitions .now) (start .args .n) (start .args .count) (start .pre .1 .0) (start
+    .pre .1 .1 .0) (start .pre .0 .rises) (start .args .prints .now) (start .args .shared .now) (start .pre .1
     .1 .1 .1 .1) (start .args .i) (start .args .k) (start .pre .1 .1 .1 .0) (start .pre .1 .1 .1 .1 .0) (ap
-    (marked (start .args .shared .now)) (sym (c .before .before .arg-of .ensures .0)) ∙ nonzero-false _ (c .if1 .taken)))
+    (marked (start .args .shared .now)) (sym (c .before .before .arg-of .ensures .0)) ∙ nonzero-false _ (c .if1
+    .taken)))
 
 all-agree-at-requires : tie.Need-all-agree-at-requires
 all-agree-at-requires c κs =

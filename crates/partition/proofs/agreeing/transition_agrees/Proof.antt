@@ -1,3 +1,4 @@
+-- `partition::agreeing::transition_agrees` meets its contract: the answer is that of the places left.
 use Rattle.table.specs.Layout.{arityOf}
 use Rattle.partition.specs.Parts.{agreesPlace, agreesTransition}
 use Rattle.fingerprints.specs.Fingerprints.{printOf}
@@ -27,8 +28,11 @@ arity-of-requires c κs = search needs
 
 loop-holds : tie.Need-loop-holds Inv-loop μ-loop
 loop-holds c =
-    let start = c .before .before in
-    (c .arity-of .ensures, every-start (arityOf (start .args .transitions .now) (11 * (start .args) .i)) (omega arith))
+    let start = c .before .before in (
+      c .arity-of .ensures,
+      every-start (arityOf (start .args .transitions .now) (11 * (start .args) .i)) (omega
+          arith),
+    )
 
 place-agrees-requires : tie.Need-place-agrees-requires Inv-loop μ-loop
 place-agrees-requires c κs =
@@ -54,7 +58,8 @@ place-agrees-requires c κs =
 
 returns : tie.Need-returns Inv-loop μ-loop
 returns c =
-    every-broken (c .before .before .before .loop .inv .1) (omega (arith, c .before .before .before .loop .inv .0)) (sym (c .before .place-agrees .ensures) ∙ not-true _ (c .if1 .taken))
+    every-broken (c .before .before .before .loop .inv .1) (omega (arith, c .before .before .before .loop .inv .0))
+    (sym (c .before .place-agrees .ensures) ∙ not-true _ (c .if1 .taken))
 
 add-k : tie.Need-add-k Inv-loop μ-loop
 add-k c = search needs
@@ -65,7 +70,8 @@ loop-less c = search needs
 loop-again : tie.Need-loop-again Inv-loop μ-loop
 loop-again c = (
   c .before .before .before .loop .inv .0,
-  every-next (c .before .before .before .loop .inv .1) (omega (arith, c .before .before .before .loop .inv .0)) (sym (c .before .place-agrees .ensures) ∙ not-false _ (c .if1 .left)),
+  every-next (c .before .before .before .loop .inv .1) (omega (arith, c .before .before .before .loop .inv .0)) (sym
+      (c .before .place-agrees .ensures) ∙ not-false _ (c .if1 .left)),
 )
 
 returns-2 : tie.Need-returns-2 Inv-loop μ-loop

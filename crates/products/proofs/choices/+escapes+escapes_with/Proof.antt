@@ -2,7 +2,8 @@
 -- candidates passed make nothing but subtrees. The measure is the number of places left.
 use Rattle.format.proofs.wide.Reads as wide-reads
 use Rattle.products.proofs.Entries.{put-entry}
-use Rattle.products.proofs.Choosing.{NoneTo, escapes-found, escapes-last, escapes-no, escapes-none, escapes-same, next-with, none-next, none-start, with-next}
+use Rattle.products.proofs.Choosing.{NoneTo, escapes-found, escapes-last, escapes-no, escapes-none}
+use Rattle.products.proofs.Choosing.{escapes-same, next-with, none-next, none-start, with-next}
 use Rattle.products.specs.Choices.{candidate}
 use Rattle.table.specs.Layout.{transitionsIn}
 use Rattle.marking.specs.Marks.{marked}
@@ -95,7 +96,8 @@ escapes-returns t c =
     let wide-call = c .before .before .arity-of in
     let T = transitionsIn (start .args .nodes .now) (start .args .found) in
     let cand = candidate (marked (start .args .marks .now)) (start .args .states .now) (start .args .n) in
-    escapes-last cand (start .args .m) T (start .args .t7) (start .args .k) (c .output .result) (c .before .if1 .taken ∙ wide-call .ensures) (c .output .ensures)
+    escapes-last cand (start .args .m) T (start .args .t7) (start .args .k) (c .output .result) (c .before .if1 .taken
+    ∙ wide-call .ensures) (c .output .ensures)
 
 escapes-loop-holds : (t : ℕ) → escapes-lts.Need-loop-holds (escapes-calls t) (escapes-at t) escapes.Post escapes-Inv-loop escapes-μ-loop
 escapes-loop-holds t c =
@@ -133,7 +135,8 @@ escapes-returns-2 t c =
     let loop-test = c .before .before .loop-test in
     let T = transitionsIn (start .args .nodes .now) (start .args .found) in
     let cand = candidate (marked (start .args .marks .now)) (start .args .states .now) (start .args .n) in
-    escapes-found cand (start .args .m) T (start .args .t7) (start .args .k) (loop .x) (omega arith) (loop-test .taken) (c .before .escapes-with .ensures) (c .if2 .taken)
+    escapes-found cand (start .args .m) T (start .args .t7) (start .args .k) (loop .x) (omega arith) (loop-test
+    .taken) (c .before .escapes-with .ensures) (c .if2 .taken)
 
 escapes-add-x : (t : ℕ) → escapes-lts.Need-add-x (escapes-calls t) (escapes-at t) escapes.Post escapes-Inv-loop escapes-μ-loop
 escapes-add-x t c = search needs
@@ -154,7 +157,8 @@ escapes-returns-3 t c =
     let start = c .before .before .before .before .before .before in
     let T = transitionsIn (start .args .nodes .now) (start .args .found) in
     let cand = candidate (marked (start .args .marks .now)) (start .args .states .now) (start .args .n) in
-    escapes-none cand (start .args .m) T (start .args .t7) (start .args .k) (c .before .loop .x) (omega arith) (c .loop-test .left) (c .before .loop .inv)
+    escapes-none cand (start .args .m) T (start .args .t7) (start .args .k) (c .before .loop .x) (omega arith) (c
+    .loop-test .left) (c .before .loop .inv)
 
 escapes-with-slice-aggregate-arg-of : (t : ℕ) → escapes-with-lts.Need-slice-aggregate-arg-of (escapes-with-calls t) (escapes-with-at t) escapes-with.Post
 escapes-with-slice-aggregate-arg-of t c = search needs
@@ -173,7 +177,8 @@ escapes-with-returns t c =
     let start = c .before .before .before .before .before in
     let T = transitionsIn (start .args .nodes .now) (start .args .found) in
     let cand = candidate (marked (start .args .marks .now)) (start .args .states .now) (start .args .n) in
-    escapes-no cand (start .args .m) T (start .args .t7) (start .args .k) (start .args .x) (c .before .candidate .result)
+    escapes-no cand (start .args .m) T (start .args .t7) (start .args .k) (start .args .x) (c .before .candidate
+    .result)
     (rw (c .before .before .arg-of .ensures .0) at (c .before .candidate .ensures)) (c .if1 .taken)
 
 escapes-with-put-arg-requires : (t : ℕ) → escapes-with-lts.Need-put-arg-requires (escapes-with-calls t) (escapes-with-at t) escapes-with.Post
@@ -185,19 +190,40 @@ escapes-with-add-escapes t c = search needs
 
 escapes-with-escapes-requires : (t : ℕ) → escapes-with-lts.Need-escapes-requires (escapes-with-calls t) (escapes-with-at t) escapes-with.Post
 escapes-with-escapes-requires t c κs =
-    let put = c .put-arg .ensures in
-    (omega arith, (search needs, (search needs, (search needs, (omega (arith, put .arity), omega (arith, put .arity))))))
+    let put = c .put-arg .ensures in (
+      omega arith,
+      (
+        search needs,
+        (
+          search needs,
+          (
+            search needs,
+            (
+              omega (arith, put .arity),
+              omega (
+                arith,
+                put
+                    .arity,
+              ),
+            ),
+          ),
+        ),
+      ),
+    )
 
 escapes-with-returns-2 : (t : ℕ) → escapes-with-lts.Need-returns-2 (escapes-with-calls t) (escapes-with-at t) escapes-with.Post
 escapes-with-returns-2 t c =
     let start = c .before .before .before .before .before .before .before .before in
     let T = transitionsIn (start .args .nodes .now) (start .args .found) in
     let cand = candidate (marked (start .args .marks .now)) (start .args .states .now) (start .args .n) in
-    let is = rw (c .before .before .before .before .before .arg-of .ensures .0) at (c .before .before .before .before .candidate .ensures) in
+    let is = rw (c .before .before .before .before .before .arg-of .ensures .0) at (c .before .before .before .before
+    .candidate .ensures) in
     let put = c .before .put-arg .ensures in
     escapes-same cand (start .args .m) T
-    (next-with cand (start .args .m) (start .args .t7) (start .args .k) (omega arith) (omega arith) (start .args .x) (c .before .before .before .before .candidate .result) is (c .before .before .before .if1 .left) put)
-    (with-next cand (start .args .m) (start .args .t7) (start .args .k) (omega arith) (omega arith) (start .args .x) (c .before .before .before .before .candidate .result) is (c .before .before .before .if1 .left) put)
+    (next-with cand (start .args .m) (start .args .t7) (start .args .k) (omega arith) (omega arith) (start .args .x)
+    (c .before .before .before .before .candidate .result) is (c .before .before .before .if1 .left) put)
+    (with-next cand (start .args .m) (start .args .t7) (start .args .k) (omega arith) (omega arith) (start .args .x)
+    (c .before .before .before .before .candidate .result) is (c .before .before .before .if1 .left) put)
     (put .label) (c .escapes .ensures)
 
 pub +escapes+escapes-with-spec : {M : Type 1} → statement M

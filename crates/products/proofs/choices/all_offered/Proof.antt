@@ -46,7 +46,8 @@ returns : tie.Need-returns Inv-loop μ-loop
 returns c =
     let loop = c .before .before .before .before .before .loop in
     let arg = c .before .before .arg-of .ensures .0 in
-    every-broken (loop .inv .0) (omega arith) (sym (rw arg at (c .before .has-candidate .ensures)) ∙ not-true _ (c .if1 .taken))
+    every-broken (loop .inv .0) (omega arith) (sym (rw arg at (c .before .has-candidate .ensures)) ∙ not-true _ (c
+    .if1 .taken))
 
 add-k : tie.Need-add-k Inv-loop μ-loop
 add-k c = search needs
@@ -58,7 +59,8 @@ loop-again : tie.Need-loop-again Inv-loop μ-loop
 loop-again c =
     let loop = c .before .before .before .before .before .loop in
     let arg = c .before .before .arg-of .ensures .0 in (
-      every-next (loop .inv .0) (omega arith) (sym (rw arg at (c .before .has-candidate .ensures)) ∙ not-false _ (c .if1 .left)),
+      every-next (loop .inv .0) (omega arith) (sym (rw arg at (c .before .has-candidate .ensures)) ∙ not-false _ (c
+          .if1 .left)),
       loop .inv .1,
     )
 

@@ -51,7 +51,8 @@ expand-with-below t =
 
 abbrev expand-Inv-loop : expand-lts.InvT-loop
 expand-Inv-loop n m states nodes found marks k scratch₀ count entry made₀ x₀ scratch made x =
-    Added (SomeBelow (λ y. Over (ChosenWith (candidate (marked marks) states n) m entry k y) (transitionsIn nodes found)
+    Added (SomeBelow (λ y. Over (ChosenWith (candidate (marked marks) states n) m entry k y) (transitionsIn nodes
+    found)
     entry) x) scratch₀ scratch count made × (x ≤ m + 1)
 
 abbrev expand-μ-loop : expand-lts.MeasureT-loop
@@ -107,7 +108,8 @@ expand-loop-holds t c =
     let start = c .before .before .before .before .before in
     let T = transitionsIn (start .args .nodes .now) (start .args .found) in
     let cand = candidate (marked (start .args .marks .now)) (start .args .states .now) (start .args .n) in (
-      added-begin (λ y. Over (ChosenWith cand (start .args .m) (start .args .t7) (start .args .k) y) T (start .args .t7)) (start .pre .1 .1 .1 .1 .1 .1 .0),
+      added-begin (λ y. Over (ChosenWith cand (start .args .m) (start .args .t7) (start .args .k) y) T (start .args
+          .t7)) (start .pre .1 .1 .1 .1 .1 .1 .0),
       omega arith,
     )
 
@@ -159,7 +161,8 @@ expand-same-length-2 t c =
 
 expand-returns-2 : (t : ℕ) → expand-lts.Need-returns-2 (expand-calls t) (expand-at t) expand.Post expand-Inv-loop expand-μ-loop
 expand-returns-2 t c =
-    let start = c .before .before .before .before .before .before .before .before .before .before .before .before .before in
+    let start = c .before .before .before .before .before .before .before .before .before .before .before .before
+    .before in
     let wide-call = c .before .before .before .before .before .before .before .before .before .arity-of in
     let loop = c .before .before .before .before .before .before .before .loop in
     let expand-with-call = c .before .before .before .before .expand-with in
@@ -180,12 +183,16 @@ expand-loop-less t c = search needs
 
 expand-loop-again : (t : ℕ) → expand-lts.Need-loop-again (expand-calls t) (expand-at t) expand.Post expand-Inv-loop expand-μ-loop
 expand-loop-again t c =
-    let start = c .before .before .before .before .before .before .before .before .before .before .before .before .before .before in
+    let start = c .before .before .before .before .before .before .before .before .before .before .before .before
+    .before .before in
     let loop = c .before .before .before .before .before .before .before .before .loop in
     let expand-with-call = c .before .before .before .before .before .expand-with in
     let T = transitionsIn (start .args .nodes .now) (start .args .found) in
     let cand = candidate (marked (start .args .marks .now)) (start .args .states .now) (start .args .n) in (
-      added-next (λ y. Over (ChosenWith cand (start .args .m) (start .args .t7) (start .args .k) y) T (start .args .t7)) (loop .x) (loop .inv .0) (expand-with-call .ensures .done (c .before .more .given .0 .0) (c .before .more .given .1)),
+      added-next (λ y. Over (ChosenWith cand (start .args .m) (start .args .t7) (start .args .k) y) T (start .args
+          .t7)) (loop .x) (loop .inv .0) (expand-with-call .ensures .done (c .before .more .given .0 .0) (c .before
+          .more
+          .given .1)),
       omega arith,
     )
 
@@ -202,7 +209,8 @@ expand-returns-3 t c =
       arith,
       wide-call .ensures,
     )) (added-end (λ y. Over (ChosenWith cand (start .args .m) (start .args .t7) (start .args .k) y) T
-    (start .args .t7)) (c .before .loop .x) (start .args .m + 1) (c .before .loop .inv .1) (omega arith) (c .before .loop .inv .0)))
+    (start .args .t7)) (c .before .loop .x) (start .args .m + 1) (c .before .loop .inv .1) (omega arith) (c .before
+    .loop .inv .0)))
 
 expand-with-slice-aggregate-arg-of : (t : ℕ) → expand-with-lts.Need-slice-aggregate-arg-of (expand-with-calls t) (expand-with-at t) expand-with.Post
 expand-with-slice-aggregate-arg-of t c = search needs
@@ -222,11 +230,18 @@ expand-with-returns t c =
     let T = transitionsIn (start .args .nodes .now) (start .args .found) in
     let cand = candidate (marked (start .args .marks .now)) (start .args .states .now) (start .args .n) in
     over-no cand (start .args .m) T (start .args .t7) (start .args .k) (start .args .x) (c .before .candidate .result)
-    (rw (c .before .before .arg-of .ensures .0) at (c .before .candidate .ensures)) (c .if1 .taken) (start .pre .1 .1 .1 .1 .1 .1 .1 .0)
+    (rw (c .before .before .arg-of .ensures .0) at (c .before .candidate .ensures)) (c .if1 .taken) (start .pre .1 .1
+    .1 .1 .1 .1 .1 .0)
 
 expand-with-put-arg-requires : (t : ℕ) → expand-with-lts.Need-put-arg-requires (expand-with-calls t) (expand-with-at t) expand-with.Post
-expand-with-put-arg-requires t c κs =
-    (omega (arith, c .before .before .before .before .before .before .before .good), omega (arith, c .before .before .before .before .before .before .before .pre .1 .1 .1 .1 .0 .narrow))
+expand-with-put-arg-requires t c κs = (
+  omega (arith, c .before .before .before .before .before .before .before .good),
+  omega (
+    arith,
+    c .before .before
+        .before .before .before .before .before .pre .1 .1 .1 .1 .0 .narrow,
+  ),
+)
 
 expand-with-add-expand : (t : ℕ) → expand-with-lts.Need-add-expand (expand-with-calls t) (expand-with-at t) expand-with.Post
 expand-with-add-expand t c = search needs
@@ -243,7 +258,8 @@ expand-with-expand-requires t c κs =
           (
             search needs,
             (
-              put-entry (start .args .t7) (start .args .k) (c .before .before .before .before .candidate .result) put (start .pre .1 .1 .1 .1 .0),
+              put-entry (start .args .t7) (start .args .k) (c .before .before .before .before .candidate .result) put
+                  (start .pre .1 .1 .1 .1 .0),
               (omega (arith, put .arity), (search needs, search needs)),
             ),
           ),
@@ -260,7 +276,10 @@ expand-with-returns-2 t c =
     let T = transitionsIn (start .args .nodes .now) (start .args .found) in
     let cand = candidate (marked (start .args .marks .now)) (start .args .states .now) (start .args .n) in
     over-next cand (start .args .m) T (start .args .t7) (start .args .k) (omega arith) (omega arith) (start .args .x)
-    (c .before .before .before .before .before .before .before .candidate .result) (rw (c .before .before .before .before .before .before .before .before .arg-of .ensures .0) at (c .before .before .before .before .before .before .before .candidate .ensures)) (c .before .before .before .before .before .before .if1 .left) (c .before .before .before .before .put-arg .ensures) (c .before .before .expand .ensures)
+    (c .before .before .before .before .before .before .before .candidate .result) (rw (c .before .before .before
+    .before .before .before .before .before .arg-of .ensures .0) at (c .before .before .before .before .before .before
+    .before .candidate .ensures)) (c .before .before .before .before .before .before .if1 .left) (c .before .before
+    .before .before .put-arg .ensures) (c .before .before .expand .ensures)
 
 pub +expand+expand-with-spec : {M : Type 1} → statement M
 +expand+expand-with-spec = close μ-expand μ-expand-with (λ t. expand-lts.spec (expand-calls t)

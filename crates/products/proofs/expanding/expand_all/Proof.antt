@@ -1,5 +1,6 @@
 -- `products::expanding::expand_all` meets its contract: the transitions passed have their choices in the scratch.
-use Rattle.products.proofs.Growing.{added-begin, added-end, added-next, live-none, overflow-next, overflowed, returned}
+use Rattle.products.proofs.Growing.{added-begin, added-end, added-next, live-none, overflow-next, overflowed}
+use Rattle.products.proofs.Growing.{returned}
 use Rattle.products.proofs.Choosing.{over-first}
 use Rattle.products.specs.Growth.{Added, SomeBelow}
 use Rattle.products.specs.Choices.{candidate, nthExpands}
@@ -27,7 +28,8 @@ loop-holds c =
     let start = c .before .before .before in
     let T = transitionsIn (start .args .nodes .now) (start .args .found) in
     let cand = candidate (marked (start .args .marks .now)) (start .args .states .now) (start .args .n) in (
-      added-begin (nthExpands (start .args .transitions .now) cand (start .args .m) T) (live-none (start .args .scratch .now)),
+      added-begin (nthExpands (start .args .transitions .now) cand (start .args .m) T) (live-none (start .args
+          .scratch .now)),
       omega arith,
     )
 
@@ -40,7 +42,9 @@ entry-at-requires c κs = search needs
 expand-requires : tie.Need-expand-requires Inv-loop μ-loop
 expand-requires c κs =
     let start = c .before .before .before .before .before .before .before in
-    let is = copied-is (start .args .transitions .now) (transitionBytes * c .before .before .before .loop .i) (c .before .entry-at .ensures) (start .pre .0 .runs .narrow (c .before .before .before .loop .i) (c .before .before .loop-test .taken)) in
+    let is = copied-is (start .args .transitions .now) (transitionBytes * c .before .before .before .loop .i) (c
+    .before .entry-at .ensures) (start .pre .0 .runs .narrow (c .before .before .before .loop .i) (c .before .before
+    .loop-test .taken)) in
     let loop = c .before .before .before .loop in
     let loop-test = c .before .before .loop-test in (
       start .pre .1 .0,
@@ -79,14 +83,20 @@ same-length c =
 returns : tie.Need-returns Inv-loop μ-loop
 returns c =
     let start = c .before .before .before .before .before .before .before .before .before .before .before .before in
-    let is = copied-is (start .args .transitions .now) (transitionBytes * c .before .before .before .before .before .before .before .before .loop .i) (c .before .before .before .before .before .before .entry-at .ensures) (start .pre .0 .runs .narrow (c .before .before .before .before .before .before .before .before .loop .i) (c .before .before .before .before .before .before .before .loop-test .taken)) in
+    let is = copied-is (start .args .transitions .now) (transitionBytes * c .before .before .before .before .before
+    .before .before .before .loop .i) (c .before .before .before .before .before .before .entry-at .ensures) (start
+    .pre .0 .runs .narrow (c .before .before .before .before .before .before .before .before .loop .i) (c .before
+    .before .before .before .before .before .before .loop-test .taken)) in
     let loop = c .before .before .before .before .before .before .before .before .loop in
     let loop-test = c .before .before .before .before .before .before .before .loop-test in
     let expand-call = c .before .before .before .before .expand in
     let T = transitionsIn (start .args .nodes .now) (start .args .found) in
     let cand = candidate (marked (start .args .marks .now)) (start .args .states .now) (start .args .n) in
-    overflowed (overflow-next (nthExpands (start .args .transitions .now) cand (start .args .m) T) (loop .i) (start .args .count) (loop-test .taken) (loop .inv .0) (over-first cand (start .args .m) T (c .before .before .before .before .before .before .entry-at .result)
-    (nthTransition (start .args .transitions .now) (loop .i)) is (expand-call .ensures) .over (c .enum-told .given .1)))
+    overflowed (overflow-next (nthExpands (start .args .transitions .now) cand (start .args .m) T) (loop .i) (start
+    .args .count) (loop-test .taken) (loop .inv .0) (over-first cand (start .args .m) T (c .before .before .before
+    .before .before .before .entry-at .result)
+    (nthTransition (start .args .transitions .now) (loop .i)) is (expand-call .ensures) .over (c .enum-told .given
+    .1)))
 
 add-i : tie.Need-add-i Inv-loop μ-loop
 add-i c = search needs
@@ -96,14 +106,20 @@ loop-less c = search needs
 
 loop-again : tie.Need-loop-again Inv-loop μ-loop
 loop-again c =
-    let start = c .before .before .before .before .before .before .before .before .before .before .before .before .before in
-    let is = copied-is (start .args .transitions .now) (transitionBytes * c .before .before .before .before .before .before .before .before .before .loop .i) (c .before .before .before .before .before .before .before .entry-at .ensures) (start .pre .0 .runs .narrow (c .before .before .before .before .before .before .before .before .before .loop .i) (c .before .before .before .before .before .before .before .before .loop-test .taken)) in
+    let start = c .before .before .before .before .before .before .before .before .before .before .before .before
+    .before in
+    let is = copied-is (start .args .transitions .now) (transitionBytes * c .before .before .before .before .before
+    .before .before .before .before .loop .i) (c .before .before .before .before .before .before .before .entry-at
+    .ensures) (start .pre .0 .runs .narrow (c .before .before .before .before .before .before .before .before .before
+    .loop .i) (c .before .before .before .before .before .before .before .before .loop-test .taken)) in
     let loop = c .before .before .before .before .before .before .before .before .before .loop in
     let expand-call = c .before .before .before .before .before .expand in
     let T = transitionsIn (start .args .nodes .now) (start .args .found) in
     let cand = candidate (marked (start .args .marks .now)) (start .args .states .now) (start .args .n) in (
-      added-next (nthExpands (start .args .transitions .now) cand (start .args .m) T) (loop .i) (loop .inv .0) (over-first
-          cand (start .args .m) T (c .before .before .before .before .before .before .before .entry-at .result) (nthTransition (start .args .transitions .now) (loop .i))
+      added-next (nthExpands (start .args .transitions .now) cand (start .args .m) T) (loop .i) (loop .inv .0)
+          (over-first
+          cand (start .args .m) T (c .before .before .before .before .before .before .before .entry-at .result)
+          (nthTransition (start .args .transitions .now) (loop .i))
           is (expand-call .ensures) .done (c .before .more .given .0 .0) (c .before .more .given
           .1)),
       omega arith,
@@ -117,7 +133,8 @@ returns-2 c =
     let start = c .before .before .before .before .before in
     let T = transitionsIn (start .args .nodes .now) (start .args .found) in
     let cand = candidate (marked (start .args .marks .now)) (start .args .states .now) (start .args .n) in
-    returned (added-end (nthExpands (start .args .transitions .now) cand (start .args .m) T) (c .before .loop .i) (start .args .count) (c .before .loop .inv .1) (c .loop-test .left) (c .before .loop .inv .0))
+    returned (added-end (nthExpands (start .args .transitions .now) cand (start .args .m) T) (c .before .loop .i)
+    (start .args .count) (c .before .loop .inv .1) (c .loop-test .left) (c .before .loop .inv .0))
 
 pub expand-all-spec : {M : Type 1} → statement M
 expand-all-spec =

@@ -27,7 +27,8 @@ returns c =
     let emit-call = c .before .before .emit in
     let T = transitionsIn (start .args .nodes .now) (start .args .found) in
     subst (λ (σ : Transition). Outcome (Is σ) (start .args .scratch .now) (emit-call .last .0) (start .args .count)
-    (emit-call .result)) (sym (finish-state T (start .args .entry) (output-call .result) (output-call .ensures) (if1 .taken))) (emit-call .ensures)
+    (emit-call .result)) (sym (finish-state T (start .args .entry) (output-call .result) (output-call .ensures) (if1
+    .taken))) (emit-call .ensures)
 
 put-out-requires : tie.Need-put-out-requires
 put-out-requires c κs = search needs
@@ -39,7 +40,10 @@ emit-requires-2 c κs =
       search needs,
       (
         search needs,
-        finish-entry T (start .args .entry) (c .before .before .before .before .output .result) (c .before .before .before .before .output .ensures) (c .before .before .before .if1 .left) (c .before .put-out .ensures) (start .pre .1 .0),
+        finish-entry T (start .args .entry) (c .before .before .before .before .output .result) (c .before .before
+            .before .before .output .ensures) (c .before .before .before .if1 .left) (c .before .put-out .ensures)
+            (start
+            .pre .1 .0),
       ),
     )
 
@@ -52,7 +56,9 @@ returns-2 c =
     let emit2-call = c .before .before .emit2 in
     let T = transitionsIn (start .args .nodes .now) (start .args .found) in
     subst (λ (σ : Transition). Outcome (Is σ) (start .args .scratch .now) (emit2-call .last .0) (start .args .count)
-    (emit2-call .result)) (finish-node T (start .args .entry) (c .before .before .before .before .before .before .before .output .result) (c .before .before .before .before .before .before .before .output .ensures) (c .before .before .before .before .before .before .if1 .left)
+    (emit2-call .result)) (finish-node T (start .args .entry) (c .before .before .before .before .before .before
+    .before .output .result) (c .before .before .before .before .before .before .before .output .ensures) (c .before
+    .before .before .before .before .before .if1 .left)
     (c .before .before .before .before .put-out .ensures) (start .pre .1 .0 .narrow)) (emit2-call .ensures)
 
 pub finish-spec : {M : Type 1} → statement M

@@ -27,7 +27,8 @@ out-of-requires c κs = search needs
 element-copy-out-if1 : tie.Need-element-copy-out-if1
 element-copy-out-if1 c =
     let start = c .before .before .before .before .before in
-    let is = copied-is (start .args .transitions .now) (transitionBytes * (start .args) .i) (c .before .before .entry-at .ensures) (start .pre .0 .narrow) in
+    let is = copied-is (start .args .transitions .now) (transitionBytes * (start .args) .i) (c .before .before
+    .entry-at .ensures) (start .pre .0 .narrow) in
     omega (
       arith,
       (copied-out (start .args .transitions .now) (11 * (start .args) .i) (c .before .before .entry-at .result) is),
@@ -37,7 +38,8 @@ element-copy-out-if1 c =
 returns : tie.Need-returns
 returns c =
     let start = c .before .before .before .before .before .before .before in
-    let is = copied-is (start .args .transitions .now) (transitionBytes * (start .args) .i) (c .before .before .before .before .entry-at .ensures) (start .pre .0 .narrow) in
+    let is = copied-is (start .args .transitions .now) (transitionBytes * (start .args) .i) (c .before .before .before
+    .before .entry-at .ensures) (start .pre .0 .narrow) in
     let T = transitionsIn (start .args .nodes .now) (start .args .found) in
     marked-already (start .args .states .now) (start .args .n) (start .args .m) T (start .args .marks .now)
     (c .before .before .before .before .entry-at .result) is (c .before .before .out-of .ensures .0) (c .if1 .taken)
@@ -45,7 +47,8 @@ returns c =
 all-offered-requires : tie.Need-all-offered-requires
 all-offered-requires c κs =
     let start = c .before .before .before .before .before .before .before .before in
-    let is = copied-is (start .args .transitions .now) (transitionBytes * (start .args) .i) (c .before .before .before .before .before .entry-at .ensures) (start .pre .0 .narrow) in (
+    let is = copied-is (start .args .transitions .now) (transitionBytes * (start .args) .i) (c .before .before .before
+    .before .before .entry-at .ensures) (start .pre .0 .narrow) in (
       search needs,
       (
         search needs,
@@ -61,15 +64,18 @@ all-offered-requires c κs =
 returns-2 : tie.Need-returns-2
 returns-2 c =
     let start = c .before .before .before .before .before .before .before .before .before .before in
-    let is = copied-is (start .args .transitions .now) (transitionBytes * (start .args) .i) (c .before .before .before .before .before .before .before .entry-at .ensures) (start .pre .0 .narrow) in
+    let is = copied-is (start .args .transitions .now) (transitionBytes * (start .args) .i) (c .before .before .before
+    .before .before .before .before .entry-at .ensures) (start .pre .0 .narrow) in
     let T = transitionsIn (start .args .nodes .now) (start .args .found) in
     mark-unready (start .args .states .now) (start .args .n) (start .args .m) T (start .args .marks .now)
-    (c .before .before .before .before .before .before .before .entry-at .result) is (sym (c .before .all-offered .ensures) ∙ not-true _ (c .if2 .taken))
+    (c .before .before .before .before .before .before .before .entry-at .result) is (sym (c .before .all-offered
+    .ensures) ∙ not-true _ (c .if2 .taken))
 
 escapes-requires : tie.Need-escapes-requires
 escapes-requires c κs =
     let start = c .before .before .before .before .before .before .before .before .before .before .before in
-    let is = copied-is (start .args .transitions .now) (transitionBytes * (start .args) .i) (c .before .before .before .before .before .before .before .before .entry-at .ensures) (start .pre .0 .narrow) in (
+    let is = copied-is (start .args .transitions .now) (transitionBytes * (start .args) .i) (c .before .before .before
+    .before .before .before .before .before .entry-at .ensures) (start .pre .0 .narrow) in (
       search needs,
       (
         search needs,
@@ -78,7 +84,8 @@ escapes-requires c κs =
           (
             omega (
               arith,
-              (copied-arity (start .args .transitions .now) (11 * (start .args) .i) (c .before .before .before .before .before .before .before .before .entry-at .result) is),
+              (copied-arity (start .args .transitions .now) (11 * (start .args) .i) (c .before .before .before .before
+                  .before .before .before .before .entry-at .result) is),
               start .pre .0 .narrow,
             ),
             omega arith,
@@ -89,34 +96,44 @@ escapes-requires c κs =
 
 returns-3 : tie.Need-returns-3
 returns-3 c =
-    let start = c .before .before .before .before .before .before .before .before .before .before .before .before .before in
-    let is = copied-is (start .args .transitions .now) (transitionBytes * (start .args) .i) (c .before .before .before .before .before .before .before .before .before .before .entry-at .ensures) (start .pre .0 .narrow) in
+    let start = c .before .before .before .before .before .before .before .before .before .before .before .before
+    .before in
+    let is = copied-is (start .args .transitions .now) (transitionBytes * (start .args) .i) (c .before .before .before
+    .before .before .before .before .before .before .before .entry-at .ensures) (start .pre .0 .narrow) in
     let T = transitionsIn (start .args .nodes .now) (start .args .found) in
     mark-none (start .args .states .now) (start .args .n) (start .args .m) T (start .args .marks .now)
-    (c .before .before .before .before .before .before .before .before .before .before .entry-at .result) is (c .before .escapes .ensures) (not-true _ (c .if3 .taken))
+    (c .before .before .before .before .before .before .before .before .before .before .entry-at .result) is (c
+    .before .escapes .ensures) (not-true _ (c .if3 .taken))
 
 element-write-marks : tie.Need-element-write-marks
 element-write-marks c =
-    let start = c .before .before .before .before .before .before .before .before .before .before .before .before .before in
-    let is = copied-is (start .args .transitions .now) (transitionBytes * (start .args) .i) (c .before .before .before .before .before .before .before .before .before .before .entry-at .ensures) (start .pre .0 .narrow) in
+    let start = c .before .before .before .before .before .before .before .before .before .before .before .before
+    .before in
+    let is = copied-is (start .args .transitions .now) (transitionBytes * (start .args) .i) (c .before .before .before
+    .before .before .before .before .before .before .before .entry-at .ensures) (start .pre .0 .narrow) in
     omega (
       arith,
-      (copied-out (start .args .transitions .now) (11 * (start .args) .i) (c .before .before .before .before .before .before .before .before .before .before .entry-at .result)
+      (copied-out (start .args .transitions .now) (11 * (start .args) .i) (c .before .before .before .before .before
+          .before .before .before .before .before .entry-at .result)
           is),
       c .before .before .before .before .before .before .before .before .out-of .ensures .0,
     )
 
 returns-4 : tie.Need-returns-4
 returns-4 c =
-    let start = c .before .before .before .before .before .before .before .before .before .before .before .before .before in
-    let is = copied-is (start .args .transitions .now) (transitionBytes * (start .args) .i) (c .before .before .before .before .before .before .before .before .before .before .entry-at .ensures) (start .pre .0 .narrow) in
+    let start = c .before .before .before .before .before .before .before .before .before .before .before .before
+    .before in
+    let is = copied-is (start .args .transitions .now) (transitionBytes * (start .args) .i) (c .before .before .before
+    .before .before .before .before .before .before .before .entry-at .ensures) (start .pre .0 .narrow) in
     let if1 = c .before .before .before .before .before .before .if1 in
     let T = transitionsIn (start .args .nodes .now) (start .args .found) in
     mark-new (start .args .states .now) (start .args .n) (start .args .m) T (start .args .marks .now)
-    (c .before .before .before .before .before .before .before .before .before .before .entry-at .result) is (c .before .escapes .ensures) (not-false _ (c .if3 .left))
+    (c .before .before .before .before .before .before .before .before .before .before .entry-at .result) is (c
+    .before .escapes .ensures) (not-false _ (c .if3 .left))
     (c .before .before .before .before .before .before .before .before .out-of .ensures .0) (omega (
       arith,
-      (copied-out (start .args .transitions .now) (11 * (start .args) .i) (c .before .before .before .before .before .before .before .before .before .before .entry-at .result) is),
+      (copied-out (start .args .transitions .now) (11 * (start .args) .i) (c .before .before .before .before .before
+          .before .before .before .before .before .entry-at .result) is),
       c .before .before .before .before .before .before .before .before .out-of .ensures .0,
       start .pre .1 .1 .1 .1,
     )) (if1 .left)
