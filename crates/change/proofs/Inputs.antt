@@ -5,7 +5,7 @@ use Prim.Native.Nat.{_-_, _≤_, ℕ}
 use native.Mathlib.Omega.{arith}
 use lib.ListN.{length}
 use Rattle.automata.specs.Automaton.{Automaton, Fits}
-use Rattle.fields.specs.Fields.{InTable, HasTransitionsOver}
+use Rattle.fields.specs.Fields.{InTable, HoldsTransitionsOver}
 use Rattle.format.specs.Format.{AllBytes, headBytes, maxStates, tableBytes}
 use Rattle.products.specs.Result.{Holds}
 use Rattle.subtrees.specs.Store.{Lists, bottomUp}
@@ -26,7 +26,7 @@ pub record Table (b : List ℕ) (k n : ℕ) : Type 0 where
   pub size : length b ≡ tableBytes
   pub states : n ≡ stateCount b
   pub few : n ≤ maxStates
-  pub over : HasTransitionsOver (part b headBytes) k n
+  pub over : HoldsTransitionsOver (part b headBytes) k n
   pub transitions : decode b .transitions ≡ transitionsIn (part b headBytes) k
   pub fits : Fits (decode b)
 
@@ -39,8 +39,8 @@ given-table b e k n c m = record {
   size = passes .length;
   states = m;
   few = omega (arith, in-table .states);
-  over = subst₂ (λ (s : List ℕ) (j : ℕ). HasTransitionsOver s j n) (sym (part-body b)) (sym c)
-      (subst (λ (i : ℕ). HasTransitionsOver (body b) (transitionCount b) i) (sym m) (in-table .over));
+  over = subst₂ (λ (s : List ℕ) (j : ℕ). HoldsTransitionsOver s j n) (sym (part-body b)) (sym c)
+      (subst (λ (i : ℕ). HoldsTransitionsOver (body b) (transitionCount b) i) (sym m) (in-table .over));
   transitions = decoded-transitions b ∙ ap₂ transitionsIn (sym (part-body b)) (sym c);
   fits = ranged-fits (decode b) (passes .valid .ranged);
 }

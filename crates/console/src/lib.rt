@@ -3,7 +3,8 @@
 ghost use mathlib.Core.Path.{_≡_};
 ghost use Prim.Native.Nat.{_+_, _<_, _^_, _≤_};
 ghost use lib.ListN.{length};
-ghost use Rattle.console.specs.Buffers.{ClosedTo, FedTo, LineKept, Moved, Buffered, ProgressRoom, emptyScratch, emptyTable};
+ghost use Rattle.console.specs.Buffers.{ClosedTo, FedTo, LineKept, Moved, Buffered, ProgressRoom, emptyScratch};
+ghost use Rattle.console.specs.Buffers.{emptyTable};
 ghost use Rattle.console.specs.Buffers.{outBytes, console};
 ghost use Rattle.console.specs.Console.{heldBytes, inputEnded, lineEnded, stepped};
 use format::MAX_LINE;

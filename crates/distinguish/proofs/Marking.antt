@@ -12,7 +12,7 @@ use Rattle.automata.specs.Automaton.{Automaton, accepting, lookup}
 use Rattle.distinguish.specs.Separating.{Seed, Separate, eitherWay, pairAt, slotAt, stepAt}
 use Rattle.distinguish.specs.Separating.{apart, unmarked}
 use Rattle.fields.specs.Entries.{HasFields, putAt}
-use Rattle.fields.specs.Fields.{HasTransitionsOver}
+use Rattle.fields.specs.Fields.{HoldsTransitionsOver}
 use Rattle.fields.specs.View.{viewed}
 use Rattle.format.specs.Format.{bytePairs, maxArity, transitionBytes}
 use Rattle.lists.specs.Positions.{upFrom}
@@ -128,7 +128,7 @@ replaced-output s c at k q is h small x =
 pub step-none : (s : List ℕ) (c at k : ℕ) → _≡_ {A = ℕ} 0 (stepAt s c at k 0)
 step-none s c at k = sym (step-zero (viewed [] s 0 c) (labelOf s at) (slotAt s at k .before) (slotAt s at k .after))
 
-pub step-some : (s : List ℕ) (c n i k q : ℕ) → HasTransitionsOver s c n → i < c → k < arityOf s (transitionBytes * i) → q ≢ 0 →
+pub step-some : (s : List ℕ) (c n i k q : ℕ) → HoldsTransitionsOver s c n → i < c → k < arityOf s (transitionBytes * i) → q ≢ 0 →
     {x : ℕ} → x ≡ lookup (labelOf s (transitionBytes * i))
     (slotAt s (transitionBytes * i) k .before ++ (q ∷ slotAt s (transitionBytes * i) k .after)) (transitionsIn s c) →
     x ≡ stepAt s c (transitionBytes * i) k q

@@ -3,7 +3,7 @@
 ghost use mathlib.Core.Path.{_≡_};
 ghost use Prim.Native.Nat.{_<_, _≤_};
 ghost use lib.ListN.{length};
-ghost use Rattle.fields.specs.Fields.{HasTransitionsOver};
+ghost use Rattle.fields.specs.Fields.{HoldsTransitionsOver};
 ghost use Rattle.sorted.specs.Sorted.{Sorted};
 ghost use Rattle.marking.specs.Spread.{Led, UpTo};
 ghost use Rattle.distinguish.specs.Separating.{nthSeparate};
@@ -43,7 +43,7 @@ fn deepen(
     i: usize,
     depths: &mut [u8; BYTE_VALUES],
 ) -> bool
-    requires { ⌜ HasTransitionsOver (now transitions) count n ⌝ }
+    requires { ⌜ HoldsTransitionsOver (now transitions) count n ⌝ }
     requires { ⌜ n ≤ 255 ⌝ }
     requires { ⌜ i < count ⌝ }
     requires { ⌜ length (now depths) ≡ byteValues ⌝ }
@@ -63,7 +63,7 @@ fn deepen(
 }
 
 fn deepen_all(transitions: &[u8], count: usize, n: usize, depths: &mut [u8; BYTE_VALUES]) -> bool
-    requires { ⌜ HasTransitionsOver (now transitions) count n ⌝ }
+    requires { ⌜ HoldsTransitionsOver (now transitions) count n ⌝ }
     requires { ⌜ n ≤ 255 ⌝ }
     requires { ⌜ length (now depths) ≡ byteValues ⌝ }
     ensures { λ _. ⌜ length (now (depths .exit)) ≡ byteValues ⌝ }
@@ -89,7 +89,7 @@ fn separate_there(
     marks: &mut [u8; BYTE_PAIRS],
 )
     requires { ⌜ Sorted (now transitions) count ⌝ }
-    requires { ⌜ HasTransitionsOver (now transitions) count n ⌝ }
+    requires { ⌜ HoldsTransitionsOver (now transitions) count n ⌝ }
     requires { ⌜ n ≤ 255 ⌝ }
     requires { ⌜ i < count ⌝ }
     requires { ⌜ length (now marks) ≡ bytePairs ⌝ }
@@ -112,10 +112,11 @@ fn separate_level(
     marks: &mut [u8; BYTE_PAIRS],
 )
     requires { ⌜ Sorted (now transitions) count ⌝ }
-    requires { ⌜ HasTransitionsOver (now transitions) count n ⌝ }
+    requires { ⌜ HoldsTransitionsOver (now transitions) count n ⌝ }
     requires { ⌜ n ≤ 255 ⌝ }
     requires { ⌜ length (now marks) ≡ bytePairs ⌝ }
-    ensures { λ _. ⌜ Led (UpTo (nthSeparate (now (transitions .entry)) count n) count) (now (marks .entry)) (now (marks .exit)) ⌝ }
+    ensures { λ _. ⌜ Led (UpTo (nthSeparate (now (transitions .entry)) count n) count) (now (marks .entry)) (now
+        (marks .exit)) ⌝ }
 {
     let mut i = 0;
     while i < count {
@@ -133,10 +134,11 @@ fn separate_levels(
     marks: &mut [u8; BYTE_PAIRS],
 )
     requires { ⌜ Sorted (now transitions) count ⌝ }
-    requires { ⌜ HasTransitionsOver (now transitions) count n ⌝ }
+    requires { ⌜ HoldsTransitionsOver (now transitions) count n ⌝ }
     requires { ⌜ n ≤ 255 ⌝ }
     requires { ⌜ length (now marks) ≡ bytePairs ⌝ }
-    ensures { λ _. ⌜ Led (UpTo (nthSeparate (now (transitions .entry)) count n) count) (now (marks .entry)) (now (marks .exit)) ⌝ }
+    ensures { λ _. ⌜ Led (UpTo (nthSeparate (now (transitions .entry)) count n) count) (now (marks .entry)) (now
+        (marks .exit)) ⌝ }
 {
     let mut depth = 0;
     while depth < BYTE_VALUES {
@@ -148,10 +150,11 @@ fn separate_levels(
 // Twice: the first pass also separates every state from 0, which can separate pairs already visited.
 pub fn separate_in_order(transitions: &[u8], count: usize, n: usize, marks: &mut [u8; BYTE_PAIRS])
     requires { ⌜ Sorted (now transitions) count ⌝ }
-    requires { ⌜ HasTransitionsOver (now transitions) count n ⌝ }
+    requires { ⌜ HoldsTransitionsOver (now transitions) count n ⌝ }
     requires { ⌜ n ≤ 255 ⌝ }
     requires { ⌜ length (now marks) ≡ bytePairs ⌝ }
-    ensures { λ _. ⌜ Led (UpTo (nthSeparate (now (transitions .entry)) count n) count) (now (marks .entry)) (now (marks .exit)) ⌝ }
+    ensures { λ _. ⌜ Led (UpTo (nthSeparate (now (transitions .entry)) count n) count) (now (marks .entry)) (now
+        (marks .exit)) ⌝ }
 {
     let mut depths = [0u8; BYTE_VALUES];
     let mut turn = 0;

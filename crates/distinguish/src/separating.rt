@@ -2,7 +2,7 @@
 ghost use mathlib.Core.Path.{_≡_};
 ghost use Prim.Native.Nat.{_*_, _+_, _<_, _≤_};
 ghost use lib.ListN.{length};
-ghost use Rattle.fields.specs.Fields.{HasTransitionsOver};
+ghost use Rattle.fields.specs.Fields.{HoldsTransitionsOver};
 ghost use Rattle.format.specs.Format.{bytePairs, transitionBytes};
 ghost use Rattle.sorted.specs.Sorted.{Sorted};
 ghost use Rattle.table.specs.Layout.{arityOf};
@@ -31,12 +31,13 @@ fn separate(
     marks: &mut [u8; BYTE_PAIRS],
 ) -> bool
     requires { ⌜ Sorted (now transitions) count ⌝ }
-    requires { ⌜ HasTransitionsOver (now transitions) count n ⌝ }
+    requires { ⌜ HoldsTransitionsOver (now transitions) count n ⌝ }
     requires { ⌜ n ≤ 255 ⌝ }
     requires { ⌜ i < count ⌝ }
     requires { ⌜ k < arityOf (now transitions) (transitionBytes * i) ⌝ }
     requires { ⌜ length (now marks) ≡ bytePairs ⌝ }
-    ensures { λ r. ⌜ Spread (Separate (now (transitions .entry)) count (transitionBytes * i) k q) (now (marks .entry)) (now
+    ensures { λ r. ⌜ Spread (Separate (now (transitions .entry)) count (transitionBytes * i) k q) (now (marks .entry))
+        (now
         (marks .exit)) r ⌝ }
 {
     let a = arg_of(transitions, TRANSITION_BYTES * i, k);
@@ -63,12 +64,13 @@ fn separate_arg(
     marks: &mut [u8; BYTE_PAIRS],
 ) -> bool
     requires { ⌜ Sorted (now transitions) count ⌝ }
-    requires { ⌜ HasTransitionsOver (now transitions) count n ⌝ }
+    requires { ⌜ HoldsTransitionsOver (now transitions) count n ⌝ }
     requires { ⌜ n ≤ 255 ⌝ }
     requires { ⌜ i < count ⌝ }
     requires { ⌜ k < arityOf (now transitions) (transitionBytes * i) ⌝ }
     requires { ⌜ length (now marks) ≡ bytePairs ⌝ }
-    ensures { λ r. ⌜ Spread (SeparateArg (now (transitions .entry)) count n (transitionBytes * i) k) (now (marks .entry)) (now
+    ensures { λ r. ⌜ Spread (SeparateArg (now (transitions .entry)) count n (transitionBytes * i) k) (now
+        (marks .entry)) (now
         (marks .exit)) r ⌝ }
 {
     let mut changed = false;
@@ -89,11 +91,12 @@ pub fn separate_at(
     marks: &mut [u8; BYTE_PAIRS],
 ) -> bool
     requires { ⌜ Sorted (now transitions) count ⌝ }
-    requires { ⌜ HasTransitionsOver (now transitions) count n ⌝ }
+    requires { ⌜ HoldsTransitionsOver (now transitions) count n ⌝ }
     requires { ⌜ n ≤ 255 ⌝ }
     requires { ⌜ i < count ⌝ }
     requires { ⌜ length (now marks) ≡ bytePairs ⌝ }
-    ensures { λ r. ⌜ Spread (nthSeparate (now (transitions .entry)) count n i) (now (marks .entry)) (now (marks .exit)) r ⌝ }
+    ensures { λ r. ⌜ Spread (nthSeparate (now (transitions .entry)) count n i) (now (marks .entry)) (now
+        (marks .exit)) r ⌝ }
 {
     let arity = arity_of(transitions, TRANSITION_BYTES * i);
     let mut changed = false;
@@ -109,10 +112,11 @@ pub fn separate_at(
 // Every transition, from the last back. Returns whether a mark is new.
 pub fn sweep(transitions: &[u8], count: usize, n: usize, marks: &mut [u8; BYTE_PAIRS]) -> bool
     requires { ⌜ Sorted (now transitions) count ⌝ }
-    requires { ⌜ HasTransitionsOver (now transitions) count n ⌝ }
+    requires { ⌜ HoldsTransitionsOver (now transitions) count n ⌝ }
     requires { ⌜ n ≤ 255 ⌝ }
     requires { ⌜ length (now marks) ≡ bytePairs ⌝ }
-    ensures { λ r. ⌜ Spread (UpTo (nthSeparate (now (transitions .entry)) count n) count) (now (marks .entry)) (now (marks
+    ensures { λ r. ⌜ Spread (UpTo (nthSeparate (now (transitions .entry)) count n) count) (now (marks .entry)) (now
+        (marks
         .exit)) r ⌝ }
 {
     let mut changed = false;

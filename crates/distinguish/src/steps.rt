@@ -3,7 +3,7 @@ ghost use mathlib.Core.List.{_++_, _∷_};
 ghost use mathlib.Core.Path.{_≡_};
 ghost use Prim.Native.Nat.{_*_, _<_, _≤_};
 ghost use Rattle.automata.specs.Automaton.{lookup};
-ghost use Rattle.fields.specs.Fields.{Readable, HasTransitionsOver};
+ghost use Rattle.fields.specs.Fields.{Readable, HoldsTransitionsOver};
 ghost use Rattle.format.specs.Format.{transitionBytes};
 ghost use Rattle.sorted.specs.Sorted.{Sorted};
 ghost use Rattle.table.specs.Layout.{arityOf, labelOf, transitionsIn};
@@ -18,7 +18,8 @@ fn replaced(transitions: &[u8], count: usize, at: usize, k: usize, q: u8) -> u8
     requires { ⌜ Sorted (now transitions) count ⌝ }
     requires { ⌜ Readable (now transitions) at ⌝ }
     requires { ⌜ k < arityOf (now transitions) at ⌝ }
-    ensures { λ r. ⌜ r ≡ lookup (labelOf (now (transitions .entry)) at) (slotAt (now (transitions .entry)) at k .before ++ (q ∷
+    ensures { λ r. ⌜ r ≡ lookup (labelOf (now (transitions .entry)) at) (slotAt (now
+        (transitions .entry)) at k .before ++ (q ∷
         slotAt (now (transitions .entry)) at k .after)) (transitionsIn (now (transitions .entry)) count) ⌝ }
 {
     let mut entry = entry_at(transitions, at);
@@ -29,7 +30,7 @@ fn replaced(transitions: &[u8], count: usize, at: usize, k: usize, q: u8) -> u8
 // The same, if q may be 0: "no state" gives none.
 pub fn stepped(transitions: &[u8], count: usize, n: usize, i: usize, k: usize, q: u8) -> u8
     requires { ⌜ Sorted (now transitions) count ⌝ }
-    requires { ⌜ HasTransitionsOver (now transitions) count n ⌝ }
+    requires { ⌜ HoldsTransitionsOver (now transitions) count n ⌝ }
     requires { ⌜ i < count ⌝ }
     requires { ⌜ k < arityOf (now transitions) (transitionBytes * i) ⌝ }
     ensures { λ r. ⌜ r ≡ stepAt (now (transitions .entry)) count (transitionBytes * i) k q ⌝ }

@@ -7,7 +7,7 @@ use native.Mathlib.Nat.{zero-add}
 use native.Mathlib.Omega.{arith}
 use lib.ListN.{getD, length, length-drop}
 use Rattle.automata.specs.Automaton.{Transition}
-use Rattle.fields.specs.Fields.{InTable, Readable, HasTransitions, HasTransitionsOver}
+use Rattle.fields.specs.Fields.{InTable, Readable, HoldsTransitions, HoldsTransitionsOver}
 use Rattle.format.specs.Format.{headBytes, maxTransitions, tableBytes, transitionBytes}
 use Rattle.lists.specs.Positions.{upFrom}
 use Rattle.lists.specs.Tests.{_∈_, every}
@@ -37,7 +37,7 @@ unfolding transitionsIn
 transitionsIn-suc s n =
     tabulated-suc (nthTransition s) 0 n ∙ ap (λ i. transitionsIn s n ++ (nthTransition s i ∷ [])) (zero-add n)
 
-pub readable : {s : List ℕ} {n : ℕ} → HasTransitions s n → (i : ℕ) → i < n → Readable s (transitionBytes * i)
+pub readable : {s : List ℕ} {n : ℕ} → HoldsTransitions s n → (i : ℕ) → i < n → Readable s (transitionBytes * i)
 readable r i h = record { inside = omega (arith, r .inside); narrow = r .narrow i h }
 
 -- ---- the arguments of a transition
@@ -85,7 +85,7 @@ layout-in-table b size fits =
     inside : transitionBytes * transitionCount b ≤ length (body b)
     inside = omega (arith, body-length b size, laid .count)
 
-    over : HasTransitionsOver (body b) (transitionCount b) (stateCount b)
+    over : HoldsTransitionsOver (body b) (transitionCount b) (stateCount b)
     over = record {
       runs = record { inside = inside; few = omega (arith, laid .count); narrow = λ i h. at i h .arity };
       label = λ i h. at i h .label;
@@ -95,5 +95,5 @@ layout-in-table b size fits =
       out-state = λ i h. at i h .out .1;
     }
 
-pub layout-runs : (b : List ℕ) → length b ≡ tableBytes → layoutFits b ≡ true → HasTransitions (body b) (transitionCount b)
+pub layout-runs : (b : List ℕ) → length b ≡ tableBytes → layoutFits b ≡ true → HoldsTransitions (body b) (transitionCount b)
 layout-runs b size fits = layout-in-table b size fits .over .runs

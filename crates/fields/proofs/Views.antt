@@ -8,7 +8,7 @@ use lib.Dec.{leb}
 use borrow.Author.Tests.{leb-false, leb-true}
 use Rattle.automata.specs.Automaton.{Automaton, Transition, accepting, states}
 use Rattle.automata.specs.Valid.{inRange, statesInRange}
-use Rattle.fields.specs.Fields.{HasTransitionsOver}
+use Rattle.fields.specs.Fields.{HoldsTransitionsOver}
 use Rattle.fields.specs.View.{viewed}
 use Rattle.format.specs.Format.{transitionBytes}
 use Rattle.lists.specs.Tests.{_∈_, every}
@@ -45,7 +45,7 @@ module _ (cl s : List ℕ) (n c : ℕ) where
       go true d = leb-true (suc q) n d
       go false d = absurd (true≢false (sym e ∙ viewed-beyond (suc q) (leb-false (suc q) n d)))
 
-  module _ (over : HasTransitionsOver s c n) where
+  module _ (over : HoldsTransitionsOver s c n) where
     pub viewed-arg : (i : ℕ) → i < c → (q : ℕ) → q ∈ nthTransition s i .args → (1 ≤ q) × (q ≤ n)
     viewed-arg i h q j = go (in-args s (transitionBytes * i) q j)
       where

@@ -26,14 +26,14 @@ abbrev pub firstArgs : List ℕ → ℕ → ℕ → List ℕ
 firstArgs s at n = map (argOf s at) (upFrom 0 n)
 
 -- the run has n transitions that can be read
-pub record HasTransitions (s : List ℕ) (n : ℕ) : Type 0 where
+pub record HoldsTransitions (s : List ℕ) (n : ℕ) : Type 0 where
   pub inside : transitionBytes * n ≤ length s
   pub few : n ≤ maxProduct
   pub narrow : (i : ℕ) → i < n → arityOf s (transitionBytes * i) ≤ maxArity
 
 -- the run has n transitions over the states 1 to m
-pub record HasTransitionsOver (s : List ℕ) (n m : ℕ) : Type 0 where
-  pub runs : HasTransitions s n
+pub record HoldsTransitionsOver (s : List ℕ) (n m : ℕ) : Type 0 where
+  pub runs : HoldsTransitions s n
   pub label : (i : ℕ) → i < n → 1 ≤ labelOf s (transitionBytes * i)
   pub arg-some : (i k : ℕ) → i < n → k < arityOf s (transitionBytes * i) → 1 ≤ argOf s (transitionBytes * i) k
   pub arg-state : (i k : ℕ) → i < n → k < arityOf s (transitionBytes * i) → argOf s (transitionBytes * i) k ≤ m
@@ -45,7 +45,7 @@ pub record InTable (b : List ℕ) : Type 0 where
   pub size : length b ≡ tableBytes
   pub states : stateCount b ≤ maxStates
   pub transitions : transitionCount b ≤ maxTransitions
-  pub over : HasTransitionsOver (body b) (transitionCount b) (stateCount b)
+  pub over : HoldsTransitionsOver (body b) (transitionCount b) (stateCount b)
 
 -- the state that a search found; 0 if it found nothing
 abbrev pub foundState : Found → ℕ

@@ -4,7 +4,7 @@ use mathlib.Core.List.{List, map}
 use Prim.Native.Nat.{_<_, _≤_, ℕ}
 use lib.ListN.{length}
 use Rattle.automata.specs.Automaton.{Automaton}
-use Rattle.fields.specs.Fields.{HasTransitionsOver}
+use Rattle.fields.specs.Fields.{HoldsTransitionsOver}
 use Rattle.lists.specs.Positions.{upFrom}
 use Rattle.table.specs.Layout.{classAt, transitionsIn}
 
@@ -14,6 +14,6 @@ viewed cl s n c = record { classes = map (classAt cl) (upFrom 1 n); transitions 
 
 -- what reading such an automaton needs: a byte numbers a state, and each state has a class
 pub record Viewed (cl s : List ℕ) (n c : ℕ) : Type 0 where
-  pub over : HasTransitionsOver s c n
+  pub over : HoldsTransitionsOver s c n
   pub states : n ≤ 255
   pub classes : n < length cl

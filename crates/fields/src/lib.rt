@@ -13,7 +13,7 @@ ghost use Rattle.lists.specs.Positions.{upFrom};
 ghost use Rattle.lists.specs.Tests.{any, every};
 ghost use Rattle.table.specs.Layout.{argFits, classFits, layoutFits, nthFits, transitionAt, transitionCount};
 ghost use Rattle.table.specs.Layout.{stateCount, transitionFits, transitionsIn, zeroAt};
-ghost use Rattle.fields.specs.Fields.{Readable, HasTransitions, atMost, firstArgs, foundState, isFound};
+ghost use Rattle.fields.specs.Fields.{Readable, HoldsTransitions, atMost, firstArgs, foundState, isFound};
 use format::COUNT_AT;
 use format::HEAD_BYTES;
 use format::MAX_ARITY;
@@ -149,7 +149,8 @@ fn transitions_fit(transitions: &[u8], states: usize, count: usize) -> bool
 
 // Whether the bytes from one on are all 0.
 fn zeros_from(transitions: &[u8], start: usize) -> bool
-    ensures { λ r. ⌜ r ≡ every (zeroAt (now (transitions .entry))) (upFrom start (length (now (transitions .entry)) - start)) ⌝ }
+    ensures { λ r. ⌜ r ≡ every (zeroAt (now (transitions .entry))) (upFrom start (length (now
+        (transitions .entry)) - start)) ⌝ }
 {
     at_most(transitions, start, transitions.len(), 0)
 }
@@ -200,7 +201,8 @@ fn args_precede(transitions: &[u8], a: usize, b: usize, n: usize) -> bool
 fn precedes_at(transitions: &[u8], a: usize, b: usize) -> bool
     requires { ⌜ Readable (now transitions) a ⌝ }
     requires { ⌜ Readable (now transitions) b ⌝ }
-    ensures { λ r. ⌜ r ≡ precedes (transitionAt (now (transitions .entry)) a) (transitionAt (now (transitions .entry)) b) ⌝ }
+    ensures { λ r. ⌜ r ≡ precedes (transitionAt (now (transitions .entry)) a) (transitionAt (now
+        (transitions .entry)) b) ⌝ }
 {
     let n = arity_of(transitions, a);
     let m = arity_of(transitions, b);
@@ -217,7 +219,7 @@ fn precedes_at(transitions: &[u8], a: usize, b: usize) -> bool
 
 // Condition 8: each transition comes before the next.
 pub fn rises(transitions: &[u8], count: usize) -> bool
-    requires { ⌜ HasTransitions (now transitions) count ⌝ }
+    requires { ⌜ HoldsTransitions (now transitions) count ⌝ }
     ensures { λ r. ⌜ r ≡ rising (transitionsIn (now (transitions .entry)) count) ⌝ }
 {
     let mut i = 0;
@@ -242,10 +244,11 @@ pub fn find(
     arity: usize,
     args: [u8; MAX_ARITY],
 ) -> Found
-    requires { ⌜ HasTransitions (now transitions) count ⌝ }
+    requires { ⌜ HoldsTransitions (now transitions) count ⌝ }
     requires { ⌜ arity ≤ maxArity ⌝ }
     ensures { λ r. ⌜ foundState r ≡ lookup label (take arity args) (transitionsIn (now (transitions .entry)) count) ⌝ }
-    ensures { λ r. ⌜ isFound r ≡ any (matches label (take arity args)) (transitionsIn (now (transitions .entry)) count) ⌝ }
+    ensures { λ r. ⌜ isFound r ≡ any (matches label (take arity args)) (transitionsIn (now
+        (transitions .entry)) count) ⌝ }
 {
     let mut i = 0;
     let answer = 'search: loop {

@@ -12,7 +12,7 @@ use borrow.Author.Tests.{eqb-false, eqb-true}
 use Rattle.automata.specs.Automaton.{Transition, accepting}
 use Rattle.automata.specs.Coaccessible.{coaccessible}
 use Rattle.automata.specs.Distinguishable.{Slot}
-use Rattle.fields.specs.Fields.{HasTransitionsOver}
+use Rattle.fields.specs.Fields.{HoldsTransitionsOver}
 use Rattle.fields.specs.View.{viewed}
 use Rattle.fingerprints.specs.Fingerprints.{ClassPrints, Gained, Prints, Round, UsefulMarks, cubed, fingerprint}
 use Rattle.fingerprints.specs.Fingerprints.{folded, gain, usefulGain}
@@ -262,7 +262,7 @@ class-end c h = record { prints = c .prints; none = c .none; each = λ p a b. c 
 
 -- ---- a round
 
-pub round-is : (cl s : List ℕ) (n c : ℕ) (u : List ℕ) (h : ℕ → ℕ) {m m' : List ℕ} → HasTransitionsOver s c n →
+pub round-is : (cl s : List ℕ) (n c : ℕ) (u : List ℕ) (h : ℕ → ℕ) {m m' : List ℕ} → HoldsTransitionsOver s c n →
     UsefulMarks (viewed cl s n c) u → ClassPrints cl n m → Gained (gains (transitionsIn s c) (marked u) h) m m' →
     Round (viewed cl s n c) h m'
 unfolding fingerprint

@@ -4,7 +4,7 @@ ghost use mathlib.Core.Path.{_≡_};
 ghost use Prim.Native.Nat.{_*_, _<_, _≤_};
 ghost use lib.ListN.{length};
 ghost use Rattle.lists.specs.Tests.{bit};
-ghost use Rattle.fields.specs.Fields.{HasTransitionsOver};
+ghost use Rattle.fields.specs.Fields.{HoldsTransitionsOver};
 ghost use Rattle.fields.specs.View.{Viewed, viewed};
 ghost use Rattle.marking.specs.Marks.{marked};
 ghost use Rattle.table.specs.Layout.{classAt, nthTransition, transitionsIn};
@@ -41,11 +41,12 @@ fn add_uses(
     x: usize,
     prints: &mut [usize; BYTE_VALUES],
 )
-    requires { ⌜ HasTransitionsOver (now transitions) count n ⌝ }
+    requires { ⌜ HoldsTransitionsOver (now transitions) count n ⌝ }
     requires { ⌜ n ≤ 255 ⌝ }
     requires { ⌜ i < count ⌝ }
     requires { ⌜ Prints (now prints) ⌝ }
-    ensures { λ _. ⌜ Gained (gain (nthTransition (now (transitions .entry)) i) x) (now (prints .entry)) (now (prints .exit)) ⌝ }
+    ensures { λ _. ⌜ Gained (gain (nthTransition (now (transitions .entry)) i) x) (now (prints .entry)) (now
+        (prints .exit)) ⌝ }
 {
     let arity = arity_of(transitions, TRANSITION_BYTES * i);
     let s = salt(widened(label_of(transitions, TRANSITION_BYTES * i)), x);
@@ -71,7 +72,7 @@ fn add_useful(
     seen: &[usize; BYTE_VALUES],
     prints: &mut [usize; BYTE_VALUES],
 )
-    requires { ⌜ HasTransitionsOver (now transitions) count n ⌝ }
+    requires { ⌜ HoldsTransitionsOver (now transitions) count n ⌝ }
     requires { ⌜ n ≤ 255 ⌝ }
     requires { ⌜ i < count ⌝ }
     requires { ⌜ Prints (now prints) ⌝ }
@@ -94,7 +95,7 @@ fn add_all_uses(
     seen: &[usize; BYTE_VALUES],
     prints: &mut [usize; BYTE_VALUES],
 )
-    requires { ⌜ HasTransitionsOver (now transitions) count n ⌝ }
+    requires { ⌜ HoldsTransitionsOver (now transitions) count n ⌝ }
     requires { ⌜ n ≤ 255 ⌝ }
     requires { ⌜ Prints (now prints) ⌝ }
     ensures { λ _. ⌜ Gained (gains (transitionsIn (now (transitions .entry)) count) (marked (now (useful .entry)))

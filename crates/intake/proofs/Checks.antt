@@ -16,7 +16,7 @@ use Rattle.automata.specs.Coaccessible.{allCoaccessible}
 use Rattle.automata.specs.Distinguishable.{allDistinguishable}
 use Rattle.automata.specs.Numbered.{firstOpen, numbered}
 use Rattle.automata.specs.Order.{rising}
-use Rattle.fields.specs.Fields.{HasTransitions, HasTransitionsOver}
+use Rattle.fields.specs.Fields.{HoldsTransitions, HoldsTransitionsOver}
 use Rattle.fields.specs.View.{Viewed, viewed}
 use Rattle.format.specs.Format.{headBytes, tableBytes}
 use Rattle.lists.specs.Conditions.{firstBroken}
@@ -40,7 +40,7 @@ module _ (cl s : List ℕ) (n c : ℕ) where
       ap (λ (m : ℕ). every (λ k. eqb (firstOpen k (transitionsIn s c)) (suc k)) (upFrom 0 m))
       (viewed-states [] s n c ∙ sym (viewed-states cl s n c))
 
-  module _ (over : HasTransitionsOver s c n) where
+  module _ (over : HoldsTransitionsOver s c n) where
     pub numbered-reached : numbered (viewed [] s n c) ≡ true → true ≡ allAccessible (viewed cl s n c)
     numbered-reached e =
         sym (numbered-accessible (viewed cl s n c) (viewed-ranged cl s n c over) (sym numbered-any ∙ e))
@@ -118,8 +118,8 @@ right-length b h e = rw (eq-eqb (length b) tableBytes h) e
 -- ---- a table's own automaton, as the part of the table that code passes on
 
 pub table-runs : (b : List ℕ) {k : ℕ} → length b ≡ tableBytes → layoutFits b ≡ true → k ≡ transitionCount b →
-    HasTransitions (part b headBytes) k
-table-runs b h e c = subst₂ HasTransitions (sym (part-body b)) (sym c) (layout-runs b h e)
+    HoldsTransitions (part b headBytes) k
+table-runs b h e c = subst₂ HoldsTransitions (sym (part-body b)) (sym c) (layout-runs b h e)
 
 pub table-rises : (b : List ℕ) {k : ℕ} {r : Bool} → k ≡ transitionCount b →
     r ≡ rising (transitionsIn (part b headBytes) k) →

@@ -7,7 +7,7 @@ ghost use lib.ListN.{length};
 ghost use Rattle.automata.specs.Accessible.{allAccessible};
 ghost use Rattle.automata.specs.Numbered.{numbered};
 ghost use Rattle.automata.specs.Order.{rising};
-ghost use Rattle.fields.specs.Fields.{HasTransitionsOver};
+ghost use Rattle.fields.specs.Fields.{HoldsTransitionsOver};
 ghost use Rattle.fields.specs.View.{Viewed, viewed};
 ghost use Rattle.format.specs.Format.{tableBytes};
 ghost use Rattle.lists.specs.Conditions.{firstBroken};
@@ -27,7 +27,7 @@ use validity::numbered;
 
 // Condition 9. If the states are numbered by the rule it holds, and no search is needed.
 fn reached(transitions: &[u8], count: usize, n: usize, in_order: bool) -> bool
-    requires { ⌜ HasTransitionsOver (now transitions) count n ⌝ }
+    requires { ⌜ HoldsTransitionsOver (now transitions) count n ⌝ }
     requires { ⌜ n ≤ 255 ⌝ }
     requires { ⌜ in_order ≡ numbered (viewed [] (now transitions) n count) ⌝ }
     ensures { λ r. ⌜ ((cl : List ℕ) → r ≡ allAccessible (viewed cl (now (transitions .entry)) n count)) ⌝ }

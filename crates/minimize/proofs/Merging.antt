@@ -11,7 +11,7 @@ use lib.ListN.{getD, length}
 use borrow.Author.Tests.{eq-eqb, ltb-false, ltb-true, ne-eqb}
 use Rattle.automata.specs.Automaton.{Transition}
 use Rattle.automata.specs.Renumber.{renumberBy}
-use Rattle.fields.specs.Fields.{Readable, HasTransitions}
+use Rattle.fields.specs.Fields.{Readable, HoldsTransitions}
 use Rattle.format.specs.Format.{labelBytes, maxArity, outAt, transitionBytes}
 use Rattle.lists.specs.Tests.{filter}
 use Rattle.minimize.specs.Merged.{entryOf, mergedBy, nameIn, hasOutput}
@@ -69,7 +69,7 @@ merging-start s count names = record {
 }
 
 module _ {s run : List ℕ} {count : ℕ} {names : List ℕ} {kept i : ℕ} (inv : Merging s run count names kept i)
-    (runs : HasTransitions s count) where
+    (runs : HoldsTransitions s count) where
   unread-bytes : SameBytes run (transitionBytes * i) s (transitionBytes * i)
   unread-bytes = record { byte = λ k h. inv .unread (transitionBytes * i + k) (omega arith) }
 
@@ -79,7 +79,7 @@ module _ {s run : List ℕ} {count : ℕ} {names : List ℕ} {kept i : ℕ} (inv
     narrow = omega (arith, same-arity unread-bytes, runs .narrow i h);
   }
 
-  pub merging-runs : count ≤ i → HasTransitions run kept
+  pub merging-runs : count ≤ i → HoldsTransitions run kept
   merging-runs h = record {
     inside = omega (arith, inv .size, inv .behind, inv .within, runs .inside);
     few = omega (arith, inv .behind, inv .within, runs .few);

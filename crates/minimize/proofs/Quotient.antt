@@ -12,7 +12,7 @@ use Rattle.automata.specs.Automaton.{Automaton, Transition, states, step}
 use Rattle.automata.specs.Distinguishable.{distinguishablePairs}
 use Rattle.automata.specs.Minimal.{first, merge, quotient, representative}
 use Rattle.automata.specs.Renumber.{renumberBy}
-use Rattle.fields.specs.Fields.{HasTransitionsOver}
+use Rattle.fields.specs.Fields.{HoldsTransitionsOver}
 use Rattle.fields.specs.View.{viewed}
 use Rattle.format.specs.Format.{transitionBytes}
 use Rattle.lists.specs.Closure.{elem}
@@ -44,7 +44,7 @@ unfolding chosen
 chosen-le m n p = first-le (unmarked m p) (upFrom 0 (suc n)) n (λ x i. omega (arith, upFrom-in 0 (suc n) x i))
 
 -- names count for the states of a run only
-pub merged-names : {s : List ℕ} {n count : ℕ} → HasTransitionsOver s count n → (f : ℕ → ℕ) {names : List ℕ} →
+pub merged-names : {s : List ℕ} {n count : ℕ} → HoldsTransitionsOver s count n → (f : ℕ → ℕ) {names : List ℕ} →
     Named names f n → mergedBy (nameIn names) (transitionsIn s count) ≡ mergedBy f (transitionsIn s count)
 merged-names {s} {n} {count} over f {names} named =
     ap (filter hasOutput)

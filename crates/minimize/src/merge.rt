@@ -4,7 +4,7 @@ ghost use mathlib.Core.Path.{_≡_};
 ghost use Prim.Native.Nat.{_*_, _+_, _<_, _≤_};
 ghost use lib.ListN.{length};
 ghost use Rattle.automata.specs.Renumber.{renumberBy};
-ghost use Rattle.fields.specs.Fields.{Readable, HasTransitions, HasTransitionsOver};
+ghost use Rattle.fields.specs.Fields.{Readable, HoldsTransitions, HoldsTransitionsOver};
 ghost use Rattle.format.specs.Format.{byteValues, transitionBytes};
 ghost use Rattle.sorted.specs.Sorted.{Written};
 ghost use Rattle.table.specs.Layout.{transitionAt, transitionsIn};
@@ -62,7 +62,8 @@ pub fn representatives(marks: &[u8; BYTE_PAIRS], n: usize, names: &mut [u8; BYTE
 // The bytes of a transition whose states have other names.
 pub fn renamed(transitions: &[u8], at: usize, names: &[u8; BYTE_VALUES]) -> [u8; TRANSITION_BYTES]
     requires { ⌜ Readable (now transitions) at ⌝ }
-    ensures { λ r. ⌜ r ≡ entryOf (renumberBy (nameIn (now (names .entry))) (transitionAt (now (transitions .entry)) at)) ⌝ }
+    ensures { λ r. ⌜ r ≡ entryOf (renumberBy (nameIn (now (names .entry))) (transitionAt (now
+        (transitions .entry)) at)) ⌝ }
 {
     let n = arity_of(transitions, at);
     let out = out_of(transitions, at);
@@ -81,8 +82,8 @@ pub fn renamed(transitions: &[u8], at: usize, names: &[u8; BYTE_VALUES]) -> [u8;
 
 // Renames the states of the transitions, and leaves out the transitions whose output is then 0: how many stay.
 pub fn merge(transitions: &mut [u8], count: usize, names: &[u8; BYTE_VALUES]) -> usize
-    requires { ⌜ HasTransitions (now transitions) count ⌝ }
-    ensures { λ r. ⌜ HasTransitions (now (transitions .exit)) r ⌝ }
+    requires { ⌜ HoldsTransitions (now transitions) count ⌝ }
+    ensures { λ r. ⌜ HoldsTransitions (now (transitions .exit)) r ⌝ }
     ensures { λ r. ⌜ transitionsIn (now (transitions .exit)) r ≡
         mergedBy (nameIn (now (names .entry))) (transitionsIn (now (transitions .entry)) count) ⌝ }
 {
@@ -107,9 +108,9 @@ pub fn merge_equivalent(
     n: usize,
     marks: &[u8; BYTE_PAIRS],
 ) -> usize
-    requires { ⌜ HasTransitionsOver (now transitions) count n ⌝ }
+    requires { ⌜ HoldsTransitionsOver (now transitions) count n ⌝ }
     requires { ⌜ n < byteValues ⌝ }
-    ensures { λ r. ⌜ HasTransitions (now (transitions .exit)) r ⌝ }
+    ensures { λ r. ⌜ HoldsTransitions (now (transitions .exit)) r ⌝ }
     ensures { λ r. ⌜ transitionsIn (now (transitions .exit)) r ≡
         mergedBy (chosen (now (marks .entry)) n) (transitionsIn (now (transitions .entry)) count) ⌝ }
 {

@@ -8,7 +8,7 @@ ghost use Prim.Native.Nat.{_<_, _≤_, ℕ};
 ghost use lib.ListN.{length};
 ghost use Rattle.automata.specs.Order.{lex, precedes};
 ghost use Rattle.automata.specs.Renumber.{best, renumberBy};
-ghost use Rattle.fields.specs.Fields.{Readable, HasTransitions, firstArgs};
+ghost use Rattle.fields.specs.Fields.{Readable, HoldsTransitions, firstArgs};
 ghost use Rattle.format.specs.Format.{byteValues, maxArity};
 ghost use Rattle.lists.specs.Tests.{every};
 ghost use Rattle.marking.specs.Marks.{marked};
@@ -68,7 +68,8 @@ fn args_precede(
 fn precedes_by(transitions: &[u8], a: usize, b: usize, numbers: &[u8; BYTE_VALUES]) -> bool
     requires { ⌜ Readable (now transitions) a ⌝ }
     requires { ⌜ Readable (now transitions) b ⌝ }
-    ensures { λ r. ⌜ r ≡ precedes (renumberBy (nameIn (now (numbers .entry))) (transitionAt (now (transitions .entry)) a))
+    ensures { λ r. ⌜ r ≡ precedes (renumberBy (nameIn (now (numbers .entry))) (transitionAt (now
+        (transitions .entry)) a))
         (renumberBy (nameIn (now (numbers .entry))) (transitionAt (now (transitions .entry)) b)) ⌝ }
 {
     let n = arity_of(transitions, a);
@@ -92,7 +93,7 @@ fn improves_on(
     i: usize,
     numbers: &[u8; BYTE_VALUES],
 ) -> bool
-    requires { ⌜ HasTransitions (now transitions) count ⌝ }
+    requires { ⌜ HoldsTransitions (now transitions) count ⌝ }
     requires { ⌜ best ≤ count ⌝ }
     requires { ⌜ i < count ⌝ }
     ensures { λ r. ⌜ ((o : List ℕ) → NumbersOf (now (numbers .entry)) o →
@@ -114,7 +115,7 @@ fn improves_on(
 
 // Whether there is a first ready one so far and transition i has another child count or label.
 fn other_group(transitions: &[u8], count: usize, best: usize, i: usize) -> bool
-    requires { ⌜ HasTransitions (now transitions) count ⌝ }
+    requires { ⌜ HoldsTransitions (now transitions) count ⌝ }
     requires { ⌜ best ≤ count ⌝ }
     requires { ⌜ i < count ⌝ }
     ensures { λ r. ⌜ (r ≡ true → OtherGroup (now (transitions .entry)) count best i) ⌝ }
@@ -132,7 +133,7 @@ fn other_group(transitions: &[u8], count: usize, best: usize, i: usize) -> bool
 
 // The first ready transition; `count` if none is ready. Those before `start` are not.
 fn first_ready(transitions: &[u8], start: usize, count: usize, numbers: &[u8; BYTE_VALUES]) -> usize
-    requires { ⌜ HasTransitions (now transitions) count ⌝ }
+    requires { ⌜ HoldsTransitions (now transitions) count ⌝ }
     requires { ⌜ Grouped (now transitions) count ⌝ }
     requires { ⌜ start ≤ count ⌝ }
     requires { ⌜ Settled (now transitions) start (now numbers) ⌝ }
@@ -163,7 +164,7 @@ fn first_unsettled(
     count: usize,
     numbers: &[u8; BYTE_VALUES],
 ) -> usize
-    requires { ⌜ HasTransitions (now transitions) count ⌝ }
+    requires { ⌜ HoldsTransitions (now transitions) count ⌝ }
     requires { ⌜ start ≤ count ⌝ }
     requires { ⌜ Settled (now transitions) start (now numbers) ⌝ }
     ensures { λ r. ⌜ r ≤ count ⌝ }
@@ -187,13 +188,14 @@ pub fn number(
     order: &mut [u8; BYTE_VALUES],
     numbers: &mut [u8; BYTE_VALUES],
 ) -> usize
-    requires { ⌜ HasTransitions (now transitions) count ⌝ }
+    requires { ⌜ HoldsTransitions (now transitions) count ⌝ }
     requires { ⌜ Grouped (now transitions) count ⌝ }
     requires { ⌜ Outputs (now transitions) count ⌝ }
     requires { ⌜ length (now order) ≡ byteValues ⌝ }
     requires { ⌜ length (now numbers) ≡ byteValues ⌝ }
     requires { ⌜ Unnumbered (now numbers) ⌝ }
-    ensures { λ r. ⌜ NumberingHeld (transitionsIn (now (transitions .entry)) count) (now (order .exit)) (now (numbers .exit)) r ⌝ }
+    ensures { λ r. ⌜ NumberingHeld (transitionsIn (now (transitions .entry)) count) (now (order .exit)) (now
+        (numbers .exit)) r ⌝ }
 {
     let mut k = 0;
     let mut start = 0;

@@ -16,7 +16,7 @@ use Rattle.automata.specs.Distinguishable.{stepSlot}
 use Rattle.automata.specs.Order.{rising}
 use Rattle.automata.specs.Valid.{statesInRange}
 use Rattle.distinguish.specs.Separating.{MarksOf, stepAt}
-use Rattle.fields.specs.Fields.{HasTransitionsOver}
+use Rattle.fields.specs.Fields.{HoldsTransitionsOver}
 use Rattle.fields.specs.View.{Viewed, viewed}
 use Rattle.fingerprints.specs.Fingerprints.{Round, Sound, differs, fingerprint, gain, gains, printOf, slotValue, total}
 use Rattle.fingerprints.specs.Fingerprints.{allDiffer, differsAbove, places, valueAt}
@@ -81,10 +81,10 @@ fingerprinted A ranged rises h s r = record {
 -- ---- a part of one state
 
 -- the steps of a run do not ask for classes
-any-view : {s : List ℕ} {n c : ℕ} → HasTransitionsOver s c n → n ≤ 255 → Viewed (replicate 256 0) s n c
+any-view : {s : List ℕ} {n c : ℕ} → HoldsTransitionsOver s c n → n ≤ 255 → Viewed (replicate 256 0) s n c
 any-view over h = record { over = over; states = h; classes = omega (arith, length-replicate {A = ℕ} 256 0) }
 
-module _ (s : List ℕ) (n c : ℕ) (over : HasTransitionsOver s c n) (few : n ≤ 255) (rises : rising (transitionsIn s c) ≡ true)
+module _ (s : List ℕ) (n c : ℕ) (over : HoldsTransitionsOver s c n) (few : n ≤ 255) (rises : rising (transitionsIn s c) ≡ true)
     (m f : List ℕ) (marks : SharedMarks m n f) (i k : ℕ) (h : i < c) (l : k < arityOf s (transitionBytes * i)) where
   a : ℕ
   a = argOf s (transitionBytes * i) k

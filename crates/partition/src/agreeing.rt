@@ -1,7 +1,7 @@
 // Whether the parts are a congruence: an argument's part decides the output's.
 ghost use mathlib.Core.Path.{_≡_};
 ghost use Prim.Native.Nat.{_*_, _<_, _≤_};
-ghost use Rattle.fields.specs.Fields.{HasTransitionsOver};
+ghost use Rattle.fields.specs.Fields.{HoldsTransitionsOver};
 ghost use Rattle.fingerprints.specs.Fingerprints.{printOf};
 ghost use Rattle.format.specs.Format.{transitionBytes};
 ghost use Rattle.sorted.specs.Sorted.{Sorted};
@@ -26,7 +26,7 @@ fn agrees(
     prints: &[usize; BYTE_VALUES],
 ) -> bool
     requires { ⌜ Sorted (now transitions) count ⌝ }
-    requires { ⌜ HasTransitionsOver (now transitions) count n ⌝ }
+    requires { ⌜ HoldsTransitionsOver (now transitions) count n ⌝ }
     requires { ⌜ i < count ⌝ }
     requires { ⌜ k < arityOf (now transitions) (transitionBytes * i) ⌝ }
     requires { ⌜ q ≤ 255 ⌝ }
@@ -51,7 +51,7 @@ fn all_agree_at(
     prints: &[usize; BYTE_VALUES],
 ) -> bool
     requires { ⌜ Sorted (now transitions) count ⌝ }
-    requires { ⌜ HasTransitionsOver (now transitions) count n ⌝ }
+    requires { ⌜ HoldsTransitionsOver (now transitions) count n ⌝ }
     requires { ⌜ n ≤ 255 ⌝ }
     requires { ⌜ i < count ⌝ }
     requires { ⌜ k < arityOf (now transitions) (transitionBytes * i) ⌝ }
@@ -78,7 +78,7 @@ fn place_agrees(
     shared: &[u8; BYTE_VALUES],
 ) -> bool
     requires { ⌜ Sorted (now transitions) count ⌝ }
-    requires { ⌜ HasTransitionsOver (now transitions) count n ⌝ }
+    requires { ⌜ HoldsTransitionsOver (now transitions) count n ⌝ }
     requires { ⌜ n ≤ 255 ⌝ }
     requires { ⌜ i < count ⌝ }
     requires { ⌜ k < arityOf (now transitions) (transitionBytes * i) ⌝ }
@@ -102,7 +102,7 @@ fn transition_agrees(
     shared: &[u8; BYTE_VALUES],
 ) -> bool
     requires { ⌜ Sorted (now transitions) count ⌝ }
-    requires { ⌜ HasTransitionsOver (now transitions) count n ⌝ }
+    requires { ⌜ HoldsTransitionsOver (now transitions) count n ⌝ }
     requires { ⌜ n ≤ 255 ⌝ }
     requires { ⌜ i < count ⌝ }
     requires { ⌜ SharedMarks (now prints) n (now shared) ⌝ }
@@ -128,7 +128,7 @@ pub fn all_agree(
     shared: &[u8; BYTE_VALUES],
 ) -> bool
     requires { ⌜ Sorted (now transitions) count ⌝ }
-    requires { ⌜ HasTransitionsOver (now transitions) count n ⌝ }
+    requires { ⌜ HoldsTransitionsOver (now transitions) count n ⌝ }
     requires { ⌜ n ≤ 255 ⌝ }
     requires { ⌜ SharedMarks (now prints) n (now shared) ⌝ }
     ensures { λ r. ⌜ r ≡ allAgree (now (transitions .entry)) count n (printOf (now (prints .entry))) ⌝ }

@@ -15,7 +15,7 @@ ghost use Rattle.automata.specs.Coaccessible.{allCoaccessible};
 ghost use Rattle.automata.specs.Distinguishable.{allDistinguishable};
 ghost use Rattle.automata.specs.Order.{rising};
 ghost use Rattle.distinguish.specs.Separating.{MarksOf, unmarked};
-ghost use Rattle.fields.specs.Fields.{HasTransitionsOver};
+ghost use Rattle.fields.specs.Fields.{HoldsTransitionsOver};
 ghost use Rattle.fields.specs.View.{Viewed, viewed};
 ghost use Rattle.fingerprints.specs.Fingerprints.{Sound, UsefulMarks, printOf};
 ghost use Rattle.sorted.specs.Sorted.{Sorted};
@@ -71,7 +71,7 @@ fn rounds(
 // Whether the parts pass the test.
 fn parts_agree(transitions: &[u8], count: usize, n: usize, prints: &[usize; BYTE_VALUES]) -> bool
     requires { ⌜ Sorted (now transitions) count ⌝ }
-    requires { ⌜ HasTransitionsOver (now transitions) count n ⌝ }
+    requires { ⌜ HoldsTransitionsOver (now transitions) count n ⌝ }
     requires { ⌜ n ≤ 255 ⌝ }
     ensures { λ r. ⌜ r ≡ allAgree (now (transitions .entry)) count n (printOf (now (prints .entry))) ⌝ }
 {

@@ -13,7 +13,7 @@ use Rattle.automata.specs.Automaton.{Automaton, Transition, states}
 use Rattle.automata.specs.Change.{collect, collects, productTransitions, subtrees}
 use Rattle.automata.specs.Order.{rising}
 use Rattle.automata.specs.ProductView.{PairStep, ProductView}
-use Rattle.fields.specs.Fields.{HasTransitionsOver}
+use Rattle.fields.specs.Fields.{HoldsTransitionsOver}
 use Rattle.format.specs.Format.{maxProduct, scratchBytes, transitionBytes}
 use Rattle.lists.specs.Closure.{elem}
 use Rattle.lists.specs.Tests.{_∈_}
@@ -86,7 +86,7 @@ lists-nodes h = record {
 }
 
 module _ {A : Automaton} {t : Tree} {run : List ℕ} {count n : ℕ} {s : Subtrees} (H : Holds A t run count n s)
-    (over : HasTransitionsOver run count n) where
+    (over : HoldsTransitionsOver run count n) where
   holds-in : (τ : Transition) → τ ∈ A .transitions → (i : ℕ) × (i < count) × (τ ≡ nthTransition run i)
   holds-in τ i = transitionsIn-in run count τ (subst (λ (T : List Transition). τ ∈ T) (H .transitions) i)
 
@@ -223,7 +223,7 @@ module _ {A : Automaton} {t : Tree} {run : List ℕ} {count n : ℕ} {s : Subtre
                 subst (λ (u : Tree). Legal u) (H .lists .stored .tree j h)
                 (collect-legal t [] (H .legal) (λ x i. absurd i) _ there) .0 .label .0
 
-        runs-over : HasTransitionsOver scratch' r (n + s .count)
+        runs-over : HoldsTransitionsOver scratch' r (n + s .count)
         runs-over = record {
           runs = grown .live .sorted .runs;
           label = λ i h. label-some _ (added-only grown _ (in-transitionsIn scratch' r i h));

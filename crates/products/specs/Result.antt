@@ -9,7 +9,7 @@ use Rattle.automata.specs.Automaton.{Automaton, states}
 use Rattle.automata.specs.Change.{productTransitions}
 use Rattle.automata.specs.Order.{rising}
 use Rattle.automata.specs.ProductView.{ProductView}
-use Rattle.fields.specs.Fields.{HasTransitionsOver}
+use Rattle.fields.specs.Fields.{HoldsTransitionsOver}
 use Rattle.format.specs.Format.{maxProduct, scratchBytes}
 use Rattle.products.specs.Pairs.{inUse, pairOf}
 use Rattle.products.specs.declared.Produced.{Produced}
@@ -38,7 +38,7 @@ numberUsed A t n s = inUse A t (bottomUp t) n (s .count) (s .states)
 -- the scratch has the r transitions of the product
 pub record Holding (A : Automaton) (t : Tree) (n : ℕ) (s : Subtrees) (scratch : List ℕ) (r : ℕ) : Type 0 where
   pub size : length scratch ≡ scratchBytes
-  pub over : HasTransitionsOver scratch r (n + s .count)
+  pub over : HoldsTransitionsOver scratch r (n + s .count)
   pub exact : r ≡ productTransitions A t
   pub view : (P : Automaton) → states P ≡ n + s .count → P .transitions ≡ transitionsIn scratch r →
       ProductView A t (pairNumbered t n s) (numberUsed A t n s) P

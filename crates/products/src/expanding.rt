@@ -3,7 +3,7 @@
 ghost use mathlib.Core.Path.{_≡_};
 ghost use Prim.Native.Nat.{_<_, _≤_};
 ghost use lib.ListN.{length};
-ghost use Rattle.fields.specs.Fields.{HasTransitionsOver};
+ghost use Rattle.fields.specs.Fields.{HoldsTransitionsOver};
 ghost use Rattle.format.specs.Format.{maxNodes, maxStates, scratchBytes};
 ghost use Rattle.marking.specs.Marks.{marked};
 ghost use Rattle.sorted.specs.Sorted.{Sorted};
@@ -178,13 +178,14 @@ pub fn expand_all(
     marks: &[u8; BYTE_VALUES],
     scratch: &mut [u8],
 ) -> Produced
-    requires { ⌜ HasTransitionsOver (now transitions) count n ⌝ }
+    requires { ⌜ HoldsTransitionsOver (now transitions) count n ⌝ }
     requires { ⌜ n ≤ maxStates ⌝ }
     requires { ⌜ m ≤ maxNodes ⌝ }
     requires { ⌜ Sorted (now nodes) found ⌝ }
     requires { ⌜ length (now scratch) ≡ scratchBytes ⌝ }
     ensures { λ r. ⌜ Outcome
-        (SomeBelow (nthExpands (now (transitions .entry)) (candidate (marked (now (marks .entry))) (now (states .entry)) n) m
+        (SomeBelow (nthExpands (now (transitions .entry)) (candidate (marked (now (marks .entry))) (now
+        (states .entry)) n) m
         (transitionsIn (now (nodes .entry)) found)) count) (now (scratch .entry)) (now (scratch .exit)) 0 r ⌝ }
 {
     let mut made = 0;

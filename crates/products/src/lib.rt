@@ -9,7 +9,7 @@ ghost use mathlib.Core.Path.{_≡_};
 ghost use Prim.Native.Nat.{_≤_};
 ghost use lib.ListN.{length};
 ghost use Rattle.automata.specs.Automaton.{Automaton};
-ghost use Rattle.fields.specs.Fields.{HasTransitionsOver};
+ghost use Rattle.fields.specs.Fields.{HoldsTransitionsOver};
 ghost use Rattle.format.specs.Format.{maxStates, scratchBytes};
 ghost use Rattle.trees.specs.Tree.{Tree};
 ghost use Rattle.products.specs.Pairs.{Nodes};
@@ -36,7 +36,7 @@ pub fn product(
     s: Subtrees,
     scratch: &mut [u8],
 ) -> Produced
-    requires { ⌜ HasTransitionsOver (now transitions) count n ⌝ }
+    requires { ⌜ HoldsTransitionsOver (now transitions) count n ⌝ }
     requires { ⌜ n ≤ maxStates ⌝ }
     requires { ⌜ Nodes (s .count) (s .labels) (s .arities) (s .children) ⌝ }
     requires { ⌜ length (now scratch) ≡ scratchBytes ⌝ }

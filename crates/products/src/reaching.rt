@@ -3,7 +3,7 @@
 ghost use mathlib.Core.Path.{_≡_};
 ghost use Prim.Native.Nat.{_*_, _≤_};
 ghost use lib.ListN.{length};
-ghost use Rattle.fields.specs.Fields.{Readable, HasTransitions};
+ghost use Rattle.fields.specs.Fields.{Readable, HoldsTransitions};
 ghost use Rattle.format.specs.Format.{byteValues, maxNodes, maxStates, transitionBytes};
 ghost use Rattle.sorted.specs.Sorted.{Sorted};
 ghost use Rattle.table.specs.Layout.{transitionsIn};
@@ -63,13 +63,14 @@ fn mark_all(
     found: usize,
     marks: &mut [u8; BYTE_VALUES],
 ) -> bool
-    requires { ⌜ HasTransitions (now transitions) count ⌝ }
+    requires { ⌜ HoldsTransitions (now transitions) count ⌝ }
     requires { ⌜ n ≤ maxStates ⌝ }
     requires { ⌜ m ≤ maxNodes ⌝ }
     requires { ⌜ Sorted (now nodes) found ⌝ }
     requires { ⌜ length (now marks) ≡ byteValues ⌝ }
     ensures { λ r. ⌜ Spread
-        (UpTo (nthReaches (now (transitions .entry)) (now (states .entry)) n m (transitionsIn (now (nodes .entry)) found))
+        (UpTo (nthReaches (now (transitions .entry)) (now (states .entry)) n m (transitionsIn (now
+        (nodes .entry)) found))
         count)
         (now (marks .entry)) (now (marks .exit)) r ⌝ }
 {
@@ -94,13 +95,14 @@ pub fn reach(
     found: usize,
     marks: &mut [u8; BYTE_VALUES],
 )
-    requires { ⌜ HasTransitions (now transitions) count ⌝ }
+    requires { ⌜ HoldsTransitions (now transitions) count ⌝ }
     requires { ⌜ n ≤ maxStates ⌝ }
     requires { ⌜ m ≤ maxNodes ⌝ }
     requires { ⌜ Sorted (now nodes) found ⌝ }
     requires { ⌜ length (now marks) ≡ byteValues ⌝ }
     ensures { λ _. ⌜ Reached
-        (UpTo (nthReaches (now (transitions .entry)) (now (states .entry)) n m (transitionsIn (now (nodes .entry)) found))
+        (UpTo (nthReaches (now (transitions .entry)) (now (states .entry)) n m (transitionsIn (now
+        (nodes .entry)) found))
         count)
         (now (marks .entry)) (now (marks .exit)) ⌝ }
 {

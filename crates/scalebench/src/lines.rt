@@ -57,7 +57,8 @@ fn line_number(line: Parsed) -> u64
 #[no_mangle]
 pub extern "C" fn scalebench_read(line: &[u8], listing: &mut [u8]) -> u64
     ensures answer { λ r. ⌜ r ≡
-        cond (eqb (length (now (listing .entry))) listingBytes) (lineNumber (parsed (readLine (now (line .entry))))) 0 ⌝ }
+        cond (eqb (length (now (listing .entry))) listingBytes) (lineNumber (parsed (readLine (now
+        (line .entry))))) 0 ⌝ }
     ensures left { λ _. ⌜ now (listing .exit) ≡
         cond (eqb (length (now (listing .entry))) listingBytes) (listed (readLine (now (line .entry))))
         (now (listing .entry)) ⌝ }

@@ -6,7 +6,7 @@ ghost use Prim.Native.Nat.{_*_, _+_, _<_, _≤_};
 ghost use lib.Dec.{eqb};
 ghost use lib.ListN.{length, take};
 ghost use Rattle.automata.specs.Automaton.{Automaton, lookup};
-ghost use Rattle.fields.specs.Fields.{HasTransitions};
+ghost use Rattle.fields.specs.Fields.{HoldsTransitions};
 ghost use Rattle.format.specs.Format.{maxArity, maxLabel, maxNodes};
 ghost use Rattle.lists.specs.Positions.{byteFrom, upFrom};
 ghost use Rattle.lists.specs.Tests.{any, every};
@@ -160,7 +160,7 @@ fn some_none(arity: usize, args: [u8; MAX_ARITY]) -> bool
 
 // The output of the first transition with this label and these arguments; 0 if there is none.
 fn output(transitions: &[u8], count: usize, label: u16, arity: usize, args: [u8; MAX_ARITY]) -> u8
-    requires { ⌜ HasTransitions (now transitions) count ⌝ }
+    requires { ⌜ HoldsTransitions (now transitions) count ⌝ }
     requires { ⌜ arity ≤ maxArity ⌝ }
     ensures { λ r. ⌜ r ≡ lookup label (take arity args) (transitionsIn (now (transitions .entry)) count) ⌝ }
 {
@@ -172,7 +172,7 @@ fn output(transitions: &[u8], count: usize, label: u16, arity: usize, args: [u8;
 
 // The state of a node with this label whose children have these states.
 fn state(transitions: &[u8], count: usize, label: u16, arity: usize, args: [u8; MAX_ARITY]) -> u8
-    requires { ⌜ HasTransitions (now transitions) count ⌝ }
+    requires { ⌜ HoldsTransitions (now transitions) count ⌝ }
     requires { ⌜ arity ≤ maxArity ⌝ }
     ensures { λ r. ⌜ r ≡ stateFrom (transitionsIn (now (transitions .entry)) count) label (take arity args) ⌝ }
 {
@@ -207,14 +207,15 @@ fn enter(
     arity: u8,
     numbers: [u8; MAX_ARITY],
 ) -> Place
-    requires { ⌜ HasTransitions (now transitions) count ⌝ }
+    requires { ⌜ HoldsTransitions (now transitions) count ⌝ }
     requires { ⌜ Sized (now labels) (now arities) (now children) (now states) ⌝ }
     requires { ⌜ found < maxNodes ⌝ }
     requires { ⌜ label ≤ maxLabel ⌝ }
     requires { ⌜ Children numbers arity found ⌝ }
     ensures { λ r. ⌜ Sized (now (labels .exit)) (now (arities .exit)) (now (children .exit)) (now (states .exit)) ⌝ }
     ensures { λ r. ⌜ NumberGiven found (r .found) (r .number) ⌝ }
-    ensures { λ r. ⌜ ((A : Automaton) (ts : List Tree) → A .transitions ≡ transitionsIn (now (transitions .entry)) count →
+    ensures { λ r. ⌜ ((A : Automaton) (ts : List Tree) → A .transitions ≡ transitionsIn (now
+        (transitions .entry)) count →
         Stored A ts found (now (labels .entry)) (now (arities .entry)) (now (children .entry)) (now (states .entry)) →
         Entered A ts (node label (treesNumbered ts (take arity numbers))) (r .found) (r .number)
         (now (labels .exit)) (now (arities .exit)) (now (children .exit)) (now (states .exit))) ⌝ }
@@ -244,7 +245,7 @@ fn enter(
 // The distinct subtrees of the tree that is listed, and their states over the transitions.
 pub fn collect(tree: &[u8], transitions: &[u8], count: usize) -> Subtrees
     requires { ⌜ listingRefusal (now tree) ≡ 0 ⌝ }
-    requires { ⌜ HasTransitions (now transitions) count ⌝ }
+    requires { ⌜ HoldsTransitions (now transitions) count ⌝ }
     ensures { λ r. ⌜ ((A : Automaton) → A .transitions ≡ transitionsIn (now (transitions .entry)) count →
         Lists A (readTree (now (tree .entry))) (bottomUp (readTree (now (tree .entry)))) r) ⌝ }
 {

@@ -12,7 +12,7 @@ use Rattle.automata.specs.Accessible.{accessible, accessibleRule, allAccessible
 use Rattle.automata.specs.Acyclic.{acyclic}
 use Rattle.automata.specs.Automaton.{Automaton, Transition, accepting, states}
 use Rattle.automata.specs.Coaccessible.{allCoaccessible, coaccessible, coaccessibleRule}
-use Rattle.fields.specs.Fields.{HasTransitionsOver}
+use Rattle.fields.specs.Fields.{HoldsTransitionsOver}
 use Rattle.fields.specs.View.{viewed}
 use Rattle.format.specs.Format.{byteValues, transitionBytes}
 use Rattle.lists.specs.Closure.{elem}
@@ -39,7 +39,7 @@ pub record Using (A : Automaton) (m : List ℕ) : Type 0 where
   pub growing : Growing byteValues (coaccessible A) m
   pub started : (q : ℕ) → accepting A q ≡ true → marked m q ≡ true
 
-module _ (cl s : List ℕ) (n c : ℕ) (over : HasTransitionsOver s c n) where
+module _ (cl s : List ℕ) (n c : ℕ) (over : HoldsTransitionsOver s c n) where
   abbrev A : Automaton
   A = viewed cl s n c
 

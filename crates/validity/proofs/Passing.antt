@@ -12,7 +12,7 @@ use lib.Seq.{getD-set-other, getD-set-same}
 use borrow.Author.Tests.{eqb-false, eqb-true, leb-false, leb-true}
 use Rattle.automata.specs.Automaton.{Transition}
 use Rattle.automata.specs.Numbered.{Passed, firstOpen, numbered, top}
-use Rattle.fields.specs.Fields.{HasTransitionsOver}
+use Rattle.fields.specs.Fields.{HoldsTransitionsOver}
 use Rattle.fields.specs.View.{viewed}
 use Rattle.format.specs.Format.{byteValues, transitionBytes}
 use Rattle.lists.specs.Positions.{upFrom}
@@ -173,7 +173,7 @@ firstOpen-later s k j i (suc c) h e = go (λ l. firstOpen-later s k j i c l e) (
 
 module _ (cl s : List ℕ) (n c : ℕ) where
   -- a transition that breaks the rule
-  pub pass-broken : HasTransitionsOver s c n → (i : ℕ) {m : List ℕ} → i < c → NumbersRead s i m false →
+  pub pass-broken : HoldsTransitionsOver s c n → (i : ℕ) {m : List ℕ} → i < c → NumbersRead s i m false →
       false ≡ numbered (viewed cl s n c)
   pass-broken over i h r = go (r .broken refl)
     where

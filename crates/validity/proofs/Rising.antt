@@ -9,7 +9,7 @@ use borrow.Author.Tests.{ltb-true}
 use Rattle.automata.specs.Acyclic.{Feeds, Leads, acyclic, more, once}
 use Rattle.automata.specs.Automaton.{Automaton}
 use Rattle.automata.specs.Valid.{statesInRange}
-use Rattle.fields.specs.Fields.{HasTransitionsOver}
+use Rattle.fields.specs.Fields.{HoldsTransitionsOver}
 use Rattle.fields.specs.View.{viewed}
 use Rattle.lists.specs.Tests.{every}
 use Rattle.table.specs.Layout.{outOf, transitionAt, transitionsIn}
@@ -40,7 +40,7 @@ module _ (A : Automaton) (f : ℕ → ℕ) (rises : every (risesBy f) (A .transi
   rises-acyclic ranged = acyclic-iff A ranged .1 (λ q l. omega (arith, leads-rise l))
 
 -- the answer of condition 11 if the ranks rise
-pub ranks-acyclic : (s : List ℕ) (n c : ℕ) (m : List ℕ) {r : Bool} → HasTransitionsOver s c n →
+pub ranks-acyclic : (s : List ℕ) (n c : ℕ) (m : List ℕ) {r : Bool} → HoldsTransitionsOver s c n →
     r ≡ every (risesBy (rankOf m)) (transitionsIn s c) → r ≡ true → (cl : List ℕ) → true ≡ acyclic (viewed cl s n c)
 ranks-acyclic s n c m over e h cl =
     sym (rises-acyclic (viewed cl s n c) (rankOf m) (sym e ∙ h) (viewed-ranged cl s n c over))

@@ -6,7 +6,7 @@ ghost use Prim.Native.Nat.{_*_, _+_, _<_, _≤_, ℕ};
 ghost use lib.ListN.{length};
 ghost use Rattle.automata.specs.Acyclic.{acyclic};
 ghost use Rattle.format.specs.Format.{byteValues, transitionBytes};
-ghost use Rattle.fields.specs.Fields.{Readable, HasTransitions, HasTransitionsOver};
+ghost use Rattle.fields.specs.Fields.{Readable, HoldsTransitions, HoldsTransitionsOver};
 ghost use Rattle.fields.specs.View.{viewed};
 ghost use Rattle.validity.specs.Rules.{Blocks, Ground, Unblocked};
 ghost use Rattle.marking.specs.Spread.{Spread, UpTo};
@@ -39,7 +39,7 @@ fn block_all(
     marks: &[u8; BYTE_VALUES],
     blocked: &mut [u8; BYTE_VALUES],
 )
-    requires { ⌜ HasTransitions (now transitions) count ⌝ }
+    requires { ⌜ HoldsTransitions (now transitions) count ⌝ }
     requires { ⌜ Blocks (now transitions) (now marks) 0 (now blocked) ⌝ }
     ensures { λ _. ⌜ Blocks (now (transitions .entry)) (now (marks .entry)) count (now (blocked .exit)) ⌝ }
 {
@@ -83,10 +83,11 @@ fn ground_unblocked(blocked: &[u8; BYTE_VALUES], n: usize, marks: &mut [u8; BYTE
 }
 
 fn ground_all(transitions: &[u8], count: usize, n: usize, marks: &mut [u8; BYTE_VALUES]) -> bool
-    requires { ⌜ HasTransitions (now transitions) count ⌝ }
+    requires { ⌜ HoldsTransitions (now transitions) count ⌝ }
     requires { ⌜ n < byteValues ⌝ }
     requires { ⌜ length (now marks) ≡ byteValues ⌝ }
-    ensures { λ r. ⌜ Spread (UpTo (Ground (now (transitions .entry)) count) n) (now (marks .entry)) (now (marks .exit)) r ⌝ }
+    ensures { λ r. ⌜ Spread (UpTo (Ground (now (transitions .entry)) count) n) (now (marks .entry)) (now
+        (marks .exit)) r ⌝ }
 {
     let mut blocked = [0u8; BYTE_VALUES];
     block_all(transitions, count, marks, &mut blocked);
@@ -95,7 +96,7 @@ fn ground_all(transitions: &[u8], count: usize, n: usize, marks: &mut [u8; BYTE_
 
 // Condition 11 by marks, whatever the table.
 fn all_grounded(transitions: &[u8], count: usize, n: usize) -> bool
-    requires { ⌜ HasTransitionsOver (now transitions) count n ⌝ }
+    requires { ⌜ HoldsTransitionsOver (now transitions) count n ⌝ }
     requires { ⌜ n ≤ 255 ⌝ }
     ensures { λ r. ⌜ ((cl : List ℕ) → r ≡ acyclic (viewed cl (now (transitions .entry)) n count)) ⌝ }
 {
@@ -107,7 +108,7 @@ fn all_grounded(transitions: &[u8], count: usize, n: usize) -> bool
 // Condition 11: no state comes back to itself going from arguments to outputs. If it holds, ranks show it; the marks
 // decide if they do not.
 pub fn acyclic(transitions: &[u8], count: usize, n: usize) -> bool
-    requires { ⌜ HasTransitionsOver (now transitions) count n ⌝ }
+    requires { ⌜ HoldsTransitionsOver (now transitions) count n ⌝ }
     requires { ⌜ n ≤ 255 ⌝ }
     ensures { λ r. ⌜ ((cl : List ℕ) → r ≡ acyclic (viewed cl (now (transitions .entry)) n count)) ⌝ }
 {

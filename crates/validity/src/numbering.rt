@@ -10,7 +10,7 @@ ghost use Rattle.lists.specs.Positions.{upFrom};
 ghost use Rattle.lists.specs.Tests.{every};
 ghost use Rattle.marking.specs.Marks.{marked};
 ghost use Rattle.table.specs.Layout.{transitionAt, transitionsIn};
-ghost use Rattle.fields.specs.Fields.{Readable, HasTransitionsOver};
+ghost use Rattle.fields.specs.Fields.{Readable, HoldsTransitionsOver};
 ghost use Rattle.fields.specs.View.{viewed};
 ghost use Rattle.validity.specs.Rules.{NumbersRead, Spans};
 use crate::marks::all_marked;
@@ -89,7 +89,7 @@ fn read(transitions: &[u8], i: usize, seen: &mut [u8; BYTE_VALUES]) -> bool
 
 // Condition 13: the states are numbered by the rule.
 pub fn numbered(transitions: &[u8], count: usize, n: usize) -> bool
-    requires { ⌜ HasTransitionsOver (now transitions) count n ⌝ }
+    requires { ⌜ HoldsTransitionsOver (now transitions) count n ⌝ }
     requires { ⌜ n ≤ 255 ⌝ }
     ensures { λ r. ⌜ ((cl : List ℕ) → r ≡ numbered (viewed cl (now (transitions .entry)) n count)) ⌝ }
 {

@@ -4,7 +4,7 @@ ghost use mathlib.Core.Path.{_≡_};
 ghost use Prim.Native.Nat.{_*_, _+_, _<_, _≤_};
 ghost use lib.Dec.{ltb};
 ghost use lib.ListN.{getD, length};
-ghost use Rattle.fields.specs.Fields.{Readable, HasTransitions};
+ghost use Rattle.fields.specs.Fields.{Readable, HoldsTransitions};
 ghost use Rattle.format.specs.Format.{byteValues, maxProduct};
 ghost use Rattle.lists.specs.Tests.{every};
 ghost use Rattle.table.specs.Layout.{transitionAt, transitionsIn};
@@ -24,7 +24,8 @@ const SEEN: u8 = 255;
 // Whether the arguments of the transition that starts at a byte all rank below a bound.
 fn args_below(transitions: &[u8], at: usize, ranks: &[u8; BYTE_VALUES], bound: u8) -> bool
     requires { ⌜ Readable (now transitions) at ⌝ }
-    ensures { λ r. ⌜ r ≡ every (λ q. ltb (rankOf (now (ranks .entry)) q) bound) (transitionAt (now (transitions .entry)) at
+    ensures { λ r. ⌜ r ≡ every (λ q. ltb (rankOf (now (ranks .entry)) q) bound) (transitionAt (now
+        (transitions .entry)) at
         .args) ⌝ }
 {
     let arity = arity_of(transitions, at);
@@ -41,8 +42,9 @@ fn args_below(transitions: &[u8], at: usize, ranks: &[u8; BYTE_VALUES], bound: u
 
 // Whether in every transition the output ranks above the arguments.
 pub fn ranks_rise(transitions: &[u8], count: usize, ranks: &[u8; BYTE_VALUES]) -> bool
-    requires { ⌜ HasTransitions (now transitions) count ⌝ }
-    ensures { λ r. ⌜ r ≡ every (risesBy (rankOf (now (ranks .entry)))) (transitionsIn (now (transitions .entry)) count) ⌝ }
+    requires { ⌜ HoldsTransitions (now transitions) count ⌝ }
+    ensures { λ r. ⌜ r ≡ every (risesBy (rankOf (now (ranks .entry)))) (transitionsIn (now
+        (transitions .entry)) count) ⌝ }
 {
     let mut i = 0;
     while i < count {
@@ -74,7 +76,7 @@ fn link(
     first: &mut [u16; BYTE_VALUES],
     others: &mut [u16; MAX_PRODUCT],
 )
-    requires { ⌜ HasTransitions (now transitions) count ⌝ }
+    requires { ⌜ HoldsTransitions (now transitions) count ⌝ }
     requires { ⌜ length (now first) ≡ byteValues ⌝ }
     requires { ⌜ length (now others) ≡ maxProduct ⌝ }
     ensures { λ _. ⌜ length (now (first .exit)) ≡ byteValues ⌝ }
@@ -148,7 +150,7 @@ fn rank_all(
     others: &[u16; MAX_PRODUCT],
     ranks: &mut [u8; BYTE_VALUES],
 )
-    requires { ⌜ HasTransitions (now transitions) count ⌝ }
+    requires { ⌜ HoldsTransitions (now transitions) count ⌝ }
     requires { ⌜ n ≤ 255 ⌝ }
     requires { ⌜ length (now first) ≡ byteValues ⌝ }
     requires { ⌜ length (now ranks) ≡ byteValues ⌝ }
@@ -193,7 +195,7 @@ fn rank_all(
 
 // Ranks that rise from arguments to outputs, if no state comes back to itself.
 pub fn depth_first(transitions: &[u8], count: usize, n: usize) -> [u8; BYTE_VALUES]
-    requires { ⌜ HasTransitions (now transitions) count ⌝ }
+    requires { ⌜ HoldsTransitions (now transitions) count ⌝ }
     requires { ⌜ n ≤ 255 ⌝ }
 {
     let mut first = [0u16; BYTE_VALUES];

@@ -4,7 +4,7 @@ ghost use mathlib.Core.List.{List};
 ghost use Prim.Native.Nat.{_≤_, ℕ};
 ghost use lib.ListN.{length};
 ghost use Rattle.automata.specs.Accessible.{allAccessible};
-ghost use Rattle.fields.specs.Fields.{Readable, HasTransitions, HasTransitionsOver};
+ghost use Rattle.fields.specs.Fields.{Readable, HoldsTransitions, HoldsTransitionsOver};
 ghost use Rattle.fields.specs.View.{viewed};
 ghost use Rattle.validity.specs.Rules.{Up, nthUp};
 ghost use Rattle.marking.specs.Spread.{Spread, UpTo};
@@ -33,9 +33,10 @@ fn mark_output(transitions: &[u8], at: usize, marks: &mut [u8; BYTE_VALUES]) -> 
 }
 
 fn mark_outputs(transitions: &[u8], count: usize, marks: &mut [u8; BYTE_VALUES]) -> bool
-    requires { ⌜ HasTransitions (now transitions) count ⌝ }
+    requires { ⌜ HoldsTransitions (now transitions) count ⌝ }
     requires { ⌜ length (now marks) ≡ byteValues ⌝ }
-    ensures { λ r. ⌜ Spread (UpTo (nthUp (now (transitions .entry))) count) (now (marks .entry)) (now (marks .exit)) r ⌝ }
+    ensures { λ r. ⌜ Spread (UpTo (nthUp (now (transitions .entry))) count) (now (marks .entry)) (now
+        (marks .exit)) r ⌝ }
 {
     let mut changed = false;
     let mut i = 0;
@@ -49,7 +50,7 @@ fn mark_outputs(transitions: &[u8], count: usize, marks: &mut [u8; BYTE_VALUES])
 
 // Condition 9: some tree runs to each state.
 pub fn all_accessible(transitions: &[u8], count: usize, n: usize) -> bool
-    requires { ⌜ HasTransitionsOver (now transitions) count n ⌝ }
+    requires { ⌜ HoldsTransitionsOver (now transitions) count n ⌝ }
     requires { ⌜ n ≤ 255 ⌝ }
     ensures { λ r. ⌜ ((cl : List ℕ) → r ≡ allAccessible (viewed cl (now (transitions .entry)) n count)) ⌝ }
 {

@@ -7,7 +7,7 @@ ghost use lib.ListN.{length};
 ghost use Rattle.lists.specs.Tests.{bit};
 ghost use Rattle.automata.specs.Automaton.{accepting};
 ghost use Rattle.automata.specs.Coaccessible.{allCoaccessible, coaccessible};
-ghost use Rattle.fields.specs.Fields.{Readable, HasTransitions};
+ghost use Rattle.fields.specs.Fields.{Readable, HoldsTransitions};
 ghost use Rattle.fields.specs.View.{Viewed, viewed};
 ghost use Rattle.marking.specs.Marks.{marked};
 ghost use Rattle.table.specs.Layout.{outOf};
@@ -57,9 +57,10 @@ fn use_transition(transitions: &[u8], at: usize, marks: &mut [u8; BYTE_VALUES]) 
 
 // All transitions, the last first: most states are used by later transitions than those that give them.
 fn use_all(transitions: &[u8], count: usize, marks: &mut [u8; BYTE_VALUES]) -> bool
-    requires { ⌜ HasTransitions (now transitions) count ⌝ }
+    requires { ⌜ HoldsTransitions (now transitions) count ⌝ }
     requires { ⌜ length (now marks) ≡ byteValues ⌝ }
-    ensures { λ r. ⌜ Spread (UpTo (nthDown (now (transitions .entry))) count) (now (marks .entry)) (now (marks .exit)) r ⌝ }
+    ensures { λ r. ⌜ Spread (UpTo (nthDown (now (transitions .entry))) count) (now (marks .entry)) (now
+        (marks .exit)) r ⌝ }
 {
     let mut changed = false;
     let mut j = 0;

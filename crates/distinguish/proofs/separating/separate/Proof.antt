@@ -1,4 +1,4 @@
--- `distinguish::separating::separate` meets its contract: a mark is set where the outputs are separated.
+-- `distinguish::separating::separate` meets its contract: a mark is set if the outputs are separated.
 use Rattle.distinguish.proofs.Marking.{separates-new, separates-not, separates-old}
 use Rattle.fields.proofs.Transitions.{readable}
 use Prim.Native.Nat.{_*_}
