@@ -1,4 +1,4 @@
-// The fields of the transition that starts at a byte, read and written. Only this file and crate table know if
+// The fields of the transition that starts at a byte, read and written. Only this file and crate table know where
 // they stand. An entry is the bytes of one transition.
 ghost use mathlib.Core.Path.{_≡_};
 ghost use Prim.Native.Nat.{_+_, _<_, _≤_};

@@ -70,7 +70,7 @@ Reaches q n m T σ used =
 
 -- ---- the transitions that choices make
 
--- σ over other arguments: it goes to the subtree that they make, else if σ goes
+-- σ over other arguments: it goes to the subtree that they make, else where σ goes
 abbrev pub outOver : List Transition → ℕ → List ℕ → ℕ → ℕ
 outOver T a ps q = cond (eqb (lookup a ps T) 0) q (lookup a ps T)
 
