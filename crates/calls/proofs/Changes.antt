@@ -48,19 +48,25 @@ module _ (c : Change) (s b w : List ℕ) where
   unfolding changeResult
   change-done = outcome-done (changeRefusal c s b w) (changed c (decode b)) b w
 
+  -- a done change takes a table that is in step with a model to one in step with the changed model
+  module _ (a : Model) (X : InStep b a) where
+    pub done-unrefused : (n m : ℕ) → changeResult c s b w .answer ≡ Done n m → modelRefusal a c s w ≡ 0
+    done-unrefused n m e = sym (change-refusal b a X c s w) ∙ change-done n m e
+
+    pub done-in-step : AllBytes s → changedTree c ≡ readTree s → (n m : ℕ) →
+        changeResult c s b w .answer ≡ Done n m → InStep (changeResult c s b w .table) (withChange c a)
+    done-in-step bytes tree n m e =
+        subst (λ (t : Bool). InStep (changeResult c s b w .table) (cond t (withChange c a) a))
+        (eq-eqb (modelRefusal a c s w) 0 (done-unrefused n m e)) (change-in-step b a X c s w bytes tree)
+
   change-accepts : AllBytes s → AllBytes b → changedTree c ≡ readTree s → (n m : ℕ) →
       changeResult c s b w .answer ≡ Done n m → (u : Tree) →
       accepts (decode (changeResult c s b w .table)) u ≡ changedSet c (accepts (decode b)) u
   unfolding modelOf member
   change-accepts bytes table tree n m e u =
-      let z = change-done n m e in
-      let X = passed-in-step b table (early-passed c s b w (change-passed c s b w z .0) .1) in
-      let y : eqb (modelRefusal (modelOf b) c s w) 0 ≡ true =
-      eq-eqb (modelRefusal (modelOf b) c s w) 0 (sym (change-refusal b (modelOf b) X c s w) ∙ z) in
-      let Y : InStep (changeResult c s b w .table) (withChange c (modelOf b)) =
-      subst (λ (t : Bool). InStep (changeResult c s b w .table) (cond t (withChange c (modelOf b)) (modelOf b))) y
-      (change-in-step b (modelOf b) X c s w bytes tree) in
-      in-step-accepts (changeResult c s b w .table) (withChange c (modelOf b)) Y u
+      let X = passed-in-step b table (early-passed c s b w (change-passed c s b w (change-done n m e) .0) .1) in
+      in-step-accepts (changeResult c s b w .table) (withChange c (modelOf b))
+      (done-in-step (modelOf b) X bytes tree n m e) u
 
 module _ (s b w : List ℕ) where
   pub added-accepts : AllBytes s → AllBytes b → (n m : ℕ) → addResult s b w .answer ≡ Done n m → (u : Tree) →
