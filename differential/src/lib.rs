@@ -6,4 +6,5 @@ pub mod dice;
 pub mod library;
 pub mod lines;
 pub mod series;
+pub mod swaps;
 pub mod tally;
