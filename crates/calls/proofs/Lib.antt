@@ -3,4 +3,5 @@ pub mod Conditions
 pub mod Model
 pub mod Series
 pub mod Changes
+pub mod Sum
 pub mod Answers

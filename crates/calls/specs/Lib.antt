@@ -2,4 +2,5 @@ pub mod Calls
 pub mod Answers
 pub mod Series
 pub mod Claim
+pub mod Sum
 pub mod Samples
