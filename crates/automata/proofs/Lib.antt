@@ -34,3 +34,4 @@ pub mod Useless
 pub mod ConditionLaws
 pub mod NumberedPass
 pub mod Grounded
+pub mod NoSmaller

@@ -7,6 +7,7 @@ pub mod Distinguishable
 pub mod Order
 pub mod Numbered
 pub mod Canonical
+pub mod AnyAutomaton
 pub mod Renumber
 pub mod Minimal
 pub mod Product

@@ -5,3 +5,4 @@ pub mod Series
 pub mod Changes
 pub mod Sum
 pub mod Answers
+pub mod NoRoom

@@ -2,7 +2,7 @@
 use mathlib.Core.Bool.{Bool, _||_, cond, false, true}
 use mathlib.Core.List.{List, [], _++_, _∷_, map}
 use mathlib.Core.Logic.{_⊎_, inl, inr}
-use mathlib.Core.Path.{_≡_, ap, refl, subst, sym}
+use mathlib.Core.Path.{_∙_, _≡_, ap, refl, subst, sym}
 use Prim.Native.Nat.{_≤_, suc, zero, ℕ}
 use native.Mathlib.Omega.{arith}
 use lib.ListN.{length, length-append}
@@ -32,23 +32,37 @@ module _ {A : Type 0} where
       go (inl i) = d .0 i
       go (inr i) = h x (inl refl) i
 
-  -- a list without duplicates is no longer than a list that holds all its elements
-  pub distinct-length : (xs ys : List A) → Distinct xs → ((x : A) → x ∈ xs → x ∈ ys) → length xs ≤ length ys
-  distinct-length [] ys d h = omega arith
-  distinct-length (x ∷ xs) ys d h = go (in-split ys x (h x (inl refl))) (λ zs k. distinct-length xs zs (d .1) k)
+-- a list without duplicates is no longer than a list that has a partner for each of its elements, none for two
+module _ {A B : Type 0} (R : A → B → Type 0) (own : (x y : A) (z : B) → R x z → R y z → x ≡ y) where
+  pub partners-length : (xs : List A) (zs : List B) → Distinct xs →
+      ((x : A) → x ∈ xs → (z : B) × (z ∈ zs) × R x z) → length xs ≤ length zs
+  partners-length [] zs d h = omega arith
+  partners-length (x ∷ xs) zs d h = go (h x (inl refl)) (λ ys k. partners-length xs ys (d .1) k)
     where
-      go : (l : List A) × (r : List A) × (ys ≡ l ++ (x ∷ r)) →
-          ((zs : List A) → ((y : A) → y ∈ xs → y ∈ zs) → length xs ≤ length zs) → suc (length xs) ≤ length ys
-      go (l, r, e) ih =
-          omega (arith, ih (l ++ r) rest, ap length e, length-append l (x ∷ r), length-append l r)
+      go : (z : B) × (z ∈ zs) × R x z →
+          ((ys : List B) → ((y : A) → y ∈ xs → (z : B) × (z ∈ ys) × R y z) → length xs ≤ length ys) →
+          suc (length xs) ≤ length zs
+      go (z, m, r) ih = split (in-split zs z m)
         where
-          rest : (y : A) → y ∈ xs → y ∈ (l ++ r)
-          rest y i = side (append-in l (x ∷ r) y (subst (λ (zs : List A). y ∈ zs) e (h y (inr i))))
+          split : (a : List B) × (b : List B) × (zs ≡ a ++ (z ∷ b)) → suc (length xs) ≤ length zs
+          split (a, b, e) =
+              omega (arith, ih (a ++ b) rest, ap length e, length-append a (z ∷ b), length-append a b)
             where
-              side : (y ∈ l) ⊎ (y ∈ (x ∷ r)) → y ∈ (l ++ r)
-              side (inl j) = in-append-left l r y j
-              side (inr (inl q)) = absurd (d .0 (rw (sym q) i))
-              side (inr (inr j)) = in-append-right l r y j
+              rest : (y : A) → y ∈ xs → (w : B) × (w ∈ (a ++ b)) × R y w
+              rest y i = let (w, j, s) = h y (inr i) in
+                  (w, side w s (append-in a (z ∷ b) w (subst (λ (l : List B). w ∈ l) e j)), s)
+                where
+                  side : (w : B) → R y w → (w ∈ a) ⊎ (w ∈ (z ∷ b)) → w ∈ (a ++ b)
+                  side w s (inl j) = in-append-left a b w j
+                  side w s (inr (inl q)) =
+                      absurd (d .0 (rw (own x y z r (subst (R y) q s)) i))
+                  side w s (inr (inr j)) = in-append-right a b w j
+
+-- a list without duplicates is no longer than a list that holds all its elements
+pub distinct-length : {A : Type 0} (xs ys : List A) → Distinct xs → ((x : A) → x ∈ xs → x ∈ ys) →
+    length xs ≤ length ys
+distinct-length {A} xs ys d h =
+    partners-length (λ (x y : A). x ≡ y) (λ x y z p q. p ∙ sym q) xs ys d (λ x i. (x, h x i, refl))
 
 module _ {A B : Type 0} where
   pub map-distinct : (f : A → B) (xs : List A) →
