@@ -35,3 +35,6 @@ pub mod ConditionLaws
 pub mod NumberedPass
 pub mod Grounded
 pub mod NoSmaller
+pub mod General
+pub mod Others
+pub mod TwoOutputs

@@ -15,7 +15,8 @@ pub record AnyAutomaton : Type 0 where
   pub transitions : List Transition
   pub accepting : ℕ → Bool
 
--- a tree runs to a state if its children run to the arguments of a transition that has its label and this output
+-- a tree runs to a state if its children run to the arguments of a transition that has its label and this output; trees
+-- run to states one by one
 abbrev mutual
   pub RunsTo : AnyAutomaton → Tree → ℕ → Type 0
   RunsTo B (node a f) q =

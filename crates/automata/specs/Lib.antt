@@ -8,6 +8,7 @@ pub mod Order
 pub mod Numbered
 pub mod Canonical
 pub mod AnyAutomaton
+pub mod General
 pub mod Renumber
 pub mod Minimal
 pub mod Product
@@ -16,3 +17,4 @@ pub mod ProductView
 pub mod TreePairs
 pub mod Valid
 pub mod Example
+pub mod Others

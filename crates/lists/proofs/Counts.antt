@@ -64,3 +64,8 @@ module _ {A B : Type 0} where
             back x p =
                 let (z, i, e) = map-in f L (f x) (subst (λ (zs : List B). f x ∈ zs) (sym d) (there x p)) in
                 subst (λ (w : A). w ∈ L) (sym (injective x z p (all z i) e)) i
+
+-- a list that holds exactly the elements with a property counts them
+pub exactly-counts : {A : Type 0} (P : A → Type 0) (L : List A) → Exactly P L → Counts P (length L)
+exactly-counts P L E =
+    counts-mapped (λ x. x) P L (E .once) (λ x y p q e. e) (λ x. E .members x .1) (λ x i. (x, E .members x .0 i, refl))
