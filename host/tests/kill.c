@@ -191,7 +191,7 @@ static int one_command(const char *program, const char *option, const char *comm
 
 int main(int count, char **arguments)
 {
-    char folder[] = "/tmp/scalebench-kill-XXXXXX";
+    char folder[] = P_tmpdir "/scalebench-kill-XXXXXX";
     unsigned within = 0, ahead = 0, kills = count == 3 ? (unsigned)atoi(arguments[2]) : 0;
     const char *program = arguments[1];
     if (kills == 0 || !mkdtemp(folder) || chdir(folder) != 0)
