@@ -1,4 +1,5 @@
 pub mod Automaton
+pub mod NodeStates
 pub mod ContextRun
 pub mod Accessible
 pub mod Coaccessible

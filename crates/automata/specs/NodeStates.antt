@@ -1,0 +1,10 @@
+-- The state of each node of a tree (02, order 3).
+use mathlib.Core.List.{List, map}
+use Prim.Native.Nat.{ℕ}
+use Rattle.automata.specs.Automaton.{Automaton, run}
+use Rattle.trees.specs.Preorder.{preorder}
+use Rattle.trees.specs.Tree.{Tree}
+
+-- the states that the subtrees of a tree run to, in the order of its listing; 0 for none
+unfoldable pub nodeStates : Automaton → Tree → List ℕ
+nodeStates A t = map (run A) (preorder t)
