@@ -1,5 +1,6 @@
 pub mod Example
 pub mod Steps
+pub mod NodeStates
 pub mod Order
 pub mod Accessible
 pub mod Coaccessible

@@ -1,7 +1,7 @@
 -- Trees that bytes start with: the first of them and the others, a root and its children.
 use mathlib.Core.List.{List, _++_, _∷_, append-assoc, append-nil}
 use mathlib.Core.Path.{_∙_, _≡_, ap, refl, subst, sym}
-use Prim.Native.Nat.{_+_, _-_, _<_, _≤_, suc, ℕ}
+use Prim.Native.Nat.{_*_, _+_, _-_, _<_, _≤_, suc, ℕ}
 use native.Mathlib.Omega.{arith}
 use lib.ListN.{drop, getD, length, length-append}
 use lib.Seq.{drop-at}
@@ -9,21 +9,31 @@ use Rattle.format.specs.Format.{labelBytes, maxArity, maxNodes, nodeBytes}
 use Rattle.running.specs.Running.{Ahead}
 use Rattle.trees.specs.Legal.{AllLegal, Legal, LegalNode}
 use Rattle.trees.specs.Listing.{firstTree, firstTrees, listing, listings, readTree, readTrees}
+use Rattle.trees.specs.Preorder.{preorder, preorders}
 use Rattle.trees.specs.Tree.{Forest, Tree, cons, count, nil, node}
 use Rattle.lists.proofs.Parts.{part, part-drop, part-length}
 use Rattle.trees.proofs.Forests.{first-whole}
 use Rattle.trees.proofs.Listing.{read-trees}
 use Rattle.trees.proofs.ListingRefusal.{listing-least}
+use Rattle.trees.proofs.Preorder.{preorder-bytes, preorders-bytes}
+
+-- the children from place k on are one and those after it
+pub one-more : {k n : ℕ} → k ≤ n → (k ≡ n → ⊥) → n - k ≡ suc (n - (k + 1))
+one-more h d = omega arith
 
 -- the trees ahead are those that are read
-pub ahead-first : {s : List ℕ} {k depth : ℕ} (v : Ahead s k depth) → firstTrees k (readTrees s) ≡ v .trees
+pub ahead-first : {s : List ℕ} {k at : ℕ} (v : Ahead s k at) → firstTrees k (readTrees s) ≡ v .trees
 ahead-first v =
     rw (v .bytes, read-trees (v .trees) (v .rest), ← v .many) (first-whole (v .trees) (readTrees (v .rest)))
 
-pub ahead-within : {s : List ℕ} {k depth : ℕ} → Ahead s k depth →
+ahead-within : {s : List ℕ} {k at : ℕ} → Ahead s k at →
     length (listings (firstTrees k (readTrees s))) ≤ length s
 ahead-within v =
     rw (ahead-first v) (omega (arith, simp length-append at (ap length (v .bytes))))
+
+pub ahead-nodes : {s : List ℕ} {k at : ℕ} → Ahead s k at →
+    nodeBytes * length (preorders (firstTrees k (readTrees s))) ≤ length s
+ahead-nodes {s} {k} v = omega (arith, ahead-within v, preorders-bytes (firstTrees k (readTrees s)))
 
 -- the first tree, and i others
 pub record Split (s : List ℕ) (i : ℕ) : Type 0 where
@@ -36,7 +46,7 @@ pub record Split (s : List ℕ) (i : ℕ) : Type 0 where
   pub bytes : s ≡ listing tree ++ (listings others ++ rest)
   pub reads : readTree s ≡ tree
 
-pub split : {s : List ℕ} {i depth : ℕ} → Ahead s (suc i) depth → Split s i
+pub split : {s : List ℕ} {i at : ℕ} → Ahead s (suc i) at → Split s i
 split {s} {i} v = go (v .trees) (v .many) (v .legal) (v .bytes)
   where
     go : (f : Forest) → count f ≡ suc i → AllLegal f → s ≡ listings f ++ v .rest → Split s i
@@ -53,11 +63,11 @@ split {s} {i} v = go (v .trees) (v .many) (v .legal) (v .bytes)
     }
 
 -- trees ahead, the first split off: j of them are one and i
-module _ {s : List ℕ} {j depth : ℕ} (v : Ahead s j depth) (i : ℕ) (e : j ≡ suc i) where
+module _ {s : List ℕ} {j at : ℕ} (v : Ahead s j at) (i : ℕ) (e : j ≡ suc i) where
   parts : Split s i
-  parts = split (subst (λ n. Ahead s n depth) e v)
+  parts = split (subst (λ n. Ahead s n at) e v)
 
-  pub first-ahead : Ahead s 1 depth
+  pub first-ahead : Ahead s 1 at
   first-ahead = record {
     trees = cons (parts .tree) nil;
     rest = listings (parts .others) ++ parts .rest;
@@ -67,39 +77,43 @@ module _ {s : List ℕ} {j depth : ℕ} (v : Ahead s j depth) (i : ℕ) (e : j �
     room = v .room;
   }
 
-  -- after the first tree, whose bytes are m
-  module _ (m : ℕ) (d : m ≡ length (listing (readTree s))) where
-    behind : part s m ≡ listings (parts .others) ++ parts .rest
-    behind =
-        part-drop s m ∙ ap (drop m) (parts .bytes) ∙
-        drop-at (listing (parts .tree)) _ m (ap (λ t. length (listing t)) (sym (parts .reads)) ∙ sym d)
+  -- after the first tree, which has m nodes
+  module _ (m : ℕ) (d : m ≡ length (preorder (readTree s))) where
+    first-bytes : length (listing (readTree s)) ≡ nodeBytes * m
+    first-bytes = preorder-bytes (readTree s) ∙ ap (λ n. nodeBytes * n) (sym d)
 
-    pub first-within : m ≤ length s
+    behind : part s (nodeBytes * m) ≡ listings (parts .others) ++ parts .rest
+    behind =
+        part-drop s (nodeBytes * m) ∙ ap (drop (nodeBytes * m)) (parts .bytes) ∙
+        drop-at (listing (parts .tree)) _ (nodeBytes * m) (ap (λ t. length (listing t)) (sym (parts .reads)) ∙ first-bytes)
+
+    pub first-within : nodeBytes * m ≤ length s
     first-within =
         let l = ap (λ t. length (listing t)) (parts .reads) in
-        omega (arith, d, simp length-append at (ap length (parts .bytes)))
+        omega (arith, first-bytes, simp length-append at (ap length (parts .bytes)))
 
-    pub first-some : nodeBytes ≤ m
-    first-some = omega (arith, d, listing-least (readTree s))
+    pub first-some : 1 ≤ m
+    first-some = omega (arith, first-bytes, listing-least (readTree s))
 
-    pub others-ahead : Ahead (part s m) i depth
+    pub others-ahead : Ahead (part s (nodeBytes * m)) i (at + m)
     others-ahead = record {
       trees = parts .others;
       rest = parts .rest;
       many = parts .many;
       legal = parts .others-legal;
       bytes = behind;
-      room = omega (arith, part-length s m, v .room);
+      room = omega (arith, part-length s (nodeBytes * m), first-within, v .room);
     }
 
-    pub first-others : firstTrees j (readTrees s) ≡ cons (readTree s) (firstTrees i (readTrees (part s m)))
+    pub first-others :
+        firstTrees j (readTrees s) ≡ cons (readTree s) (firstTrees i (readTrees (part s (nodeBytes * m))))
     first-others =
         let whole = ap readTrees (parts .bytes) ∙ ap readTrees (sym (append-assoc (listing (parts .tree)) _ _))
         ∙ read-trees (cons (parts .tree) (parts .others)) (parts .rest) in
         rw (e, whole, behind, read-trees (parts .others) (parts .rest))
 
 -- a tree ahead: its root, and its children in the part after that
-module _ {s : List ℕ} {depth : ℕ} (v : Ahead s 1 depth) where
+module _ {s : List ℕ} {at : ℕ} (v : Ahead s 1 at) where
   pub record Root : Type 0 where
     pub children : Forest
     pub rest : List ℕ
@@ -133,12 +147,12 @@ module _ {s : List ℕ} {depth : ℕ} (v : Ahead s 1 depth) where
   pub root-arity : getD s labelBytes 0 ≤ maxArity
   root-arity = omega (arith, arity-count, root .label .arity)
 
-  pub root-row : depth < maxNodes
+  pub root-row : at < maxNodes
   root-row = omega (arith, root-size, v .room)
 
   -- k is the number of children
   module _ (k : ℕ) (e : k ≡ getD s labelBytes 0) where
-    pub children-ahead : Ahead (part s nodeBytes) k (depth + 1)
+    pub children-ahead : Ahead (part s nodeBytes) k (at + 1)
     children-ahead = record {
       trees = root .children;
       rest = root .rest;
@@ -151,3 +165,9 @@ module _ {s : List ℕ} {depth : ℕ} (v : Ahead s 1 depth) where
     pub root-reads : readTree s ≡ node (getD s 0 0) (firstTrees k (readTrees (part s nodeBytes)))
     unfolding children-ahead
     root-reads = root .reads ∙ ap (node (getD s 0 0)) (sym (ahead-first children-ahead))
+
+-- the nodes of a tree ahead have their rows and bytes
+pub few-nodes : {s : List ℕ} → Ahead s 1 0 → length (preorder (readTree s)) ≤ maxNodes
+few-nodes {s} v =
+    let within = first-within v 0 refl (length (preorder (readTree s))) refl in
+    omega (arith, v .room)

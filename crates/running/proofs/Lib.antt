@@ -1,6 +1,7 @@
 pub mod Answers
 pub mod Ahead
 pub mod ChildRows
+pub mod NodeBytes
 pub mod Nodes
 pub mod Tables
 pub mod Parts

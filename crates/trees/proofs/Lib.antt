@@ -3,3 +3,4 @@ pub mod Forests
 pub mod Legal
 pub mod Listing
 pub mod ListingRefusal
+pub mod Preorder

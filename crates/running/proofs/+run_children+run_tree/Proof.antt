@@ -1,60 +1,74 @@
--- A tree is run by its root, then its children one after another. What is left of the bytes falls: twice their
--- number, and one more for the children.
-use mathlib.Core.Path.{_≡_}
-use Prim.Native.Nat.{_*_, _+_, _-_, _<_, suc, ℕ}
+use mathlib.Core.List.{_∷_}
+use mathlib.Core.Path.{_∙_, _≡_, ap, refl, sym}
 use native.Mathlib.Omega.{arith}
-use lib.ListN.{getD, length}
-use borrow.Author.Needs.{needs}
-use borrow.Fn.Kinds.{In}
-use borrow.Fn.PlainCycle.{Measures, and, falls, is}
-use Rattle.format.specs.Format.{labelBytes, maxNodes, nodeBytes}
+use lib.Seq.{length-sets}
+use Rattle.automata.specs.Automaton.{run}
+use Rattle.automata.specs.NodeStates.{nodeStates}
+use Rattle.running.specs.Running.{over, ranState}
+use Rattle.trees.specs.Listing.{readTree}
+use Rattle.format.specs.Format.{labelBytes, maxArity, maxNodes, nodeBytes}
 use Rattle.lists.proofs.Parts.{part-length}
-use Rattle.running.proofs.+run_children+run_tree.{statement}
-use Rattle.running.proofs.+run_children+run_tree.Tie.{close}
-use Rattle.running.proofs.Ahead.{children-ahead, first-ahead, first-some, first-within, others-ahead}
-use Rattle.running.proofs.Ahead.{root-arity, root-row, root-size}
-use Rattle.running.proofs.ChildRows.{noted-lost, noted-next, noted-none, rows-put}
-use Rattle.running.proofs.Nodes.{child-bytes, child-lost, child-states, children-lost, children-none}
-use Rattle.running.proofs.Nodes.{children-row, children-short, children-within, states-none, tree-lost}
-use Rattle.running.proofs.Nodes.{tree-short, tree-state, tree-within}
+use Rattle.running.proofs.Ahead.{ahead-nodes, children-ahead, first-ahead, first-some, first-within}
+use Rattle.running.proofs.Ahead.{one-more, others-ahead, root-arity, root-row, root-size}
+use Rattle.running.proofs.Answers.{ran-to}
+use Rattle.running.proofs.ChildRows.{noted-next, noted-none, rows-put}
+use Rattle.running.proofs.Nodes.{bytes-none, child-states, children-none, children-ran, children-states, states-none, tree-ran, tree-states}
+use borrow.Author.Needs.{needs}
+use Prim.Native.Nat.{_*_, _+_, _<_, ℕ, _-_, suc}
+use lib.ListN.{getD, length}
+use borrow.Fn.Kinds.{In}
+use borrow.Fn.PlainCycle.{Measures, is, falls, and}
 use Rattle.running.proofs.run_children.Reads as run-children
 use Rattle.running.proofs.run_children.Kinds as run-children-kinds
 use Rattle.running.proofs.+run_children+run_tree.Lts-run_children as run-children-lts
 use Rattle.running.proofs.run_tree.Reads as run-tree
 use Rattle.running.proofs.run_tree.Kinds as run-tree-kinds
 use Rattle.running.proofs.+run_children+run_tree.Lts-run_tree as run-tree-lts
-use Rattle.fields.proofs.find.Reads as find-reads
 use Rattle.format.proofs.wide.Reads as wide-reads
 use Rattle.listing.proofs.children_at.Reads as children-at-reads
 use Rattle.listing.proofs.label_at.Reads as label-at-reads
+use Rattle.running.proofs.join.Reads as join-reads
+use Rattle.running.proofs.run_node.Reads as run-node-reads
+use Rattle.running.proofs.state_byte.Reads as state-byte-reads
+use Rattle.running.proofs.+run_children+run_tree.{statement}
+use Rattle.running.proofs.+run_children+run_tree.Tie.{close}
 
-abbrev μ-run-children : Measures 3 run-children-kinds.ps ℕ
+abbrev μ-run-children : Measures 4 run-children-kinds.ps ℕ
 μ-run-children κs a = 2 * length (a .0 .now) + 1
 
-abbrev μ-run-tree : Measures 3 run-tree-kinds.ps ℕ
+abbrev μ-run-tree : Measures 4 run-tree-kinds.ps ℕ
 μ-run-tree κs a = 2 * length (a .0 .now)
 
-abbrev run-children-at : ℕ → In 3 run-children-kinds.ps
+abbrev run-children-at : ℕ → In 4 run-children-kinds.ps
 run-children-at t =
-    and 3 run-children-kinds.ps (is 3 run-children-kinds.ps μ-run-children t) run-children.Pre
+    and 4 run-children-kinds.ps (is 4 run-children-kinds.ps μ-run-children t) run-children.Pre
 
-abbrev run-children-below : ℕ → In 3 run-children-kinds.ps
+abbrev run-children-below : ℕ → In 4 run-children-kinds.ps
 run-children-below t =
     and
-    3
+    4
     run-children-kinds.ps
-    (falls 3 run-children-kinds.ps _<_ μ-run-children t)
+    (falls 4 run-children-kinds.ps _<_ μ-run-children t)
     run-children.Pre
 
-abbrev run-tree-at : ℕ → In 3 run-tree-kinds.ps
-run-tree-at t = and 3 run-tree-kinds.ps (is 3 run-tree-kinds.ps μ-run-tree t) run-tree.Pre
+abbrev run-tree-at : ℕ → In 4 run-tree-kinds.ps
+run-tree-at t = and 4 run-tree-kinds.ps (is 4 run-tree-kinds.ps μ-run-tree t) run-tree.Pre
 
-abbrev run-tree-below : ℕ → In 3 run-tree-kinds.ps
+abbrev run-tree-below : ℕ → In 4 run-tree-kinds.ps
 run-tree-below t =
-    and 3 run-tree-kinds.ps (falls 3 run-tree-kinds.ps _<_ μ-run-tree t) run-tree.Pre
+    and 4 run-tree-kinds.ps (falls 4 run-tree-kinds.ps _<_ μ-run-tree t) run-tree.Pre
 
 abbrev run-children-calls : ℕ → run-children-lts.Claims
-run-children-calls t = (run-tree-below t, run-tree.Post, run-children-below t, run-children.Post)
+run-children-calls t = (
+  run-tree-below t,
+  run-tree.Post,
+  state-byte-reads.Asked,
+  state-byte-reads.Learnt,
+  run-children-below t,
+  run-children.Post,
+  join-reads.Asked,
+  join-reads.Learnt,
+)
 
 abbrev run-tree-calls : ℕ → run-tree-lts.Claims
 run-tree-calls t = (
@@ -66,48 +80,38 @@ run-tree-calls t = (
   run-children.Post,
   label-at-reads.Asked,
   label-at-reads.Learnt,
-  find-reads.Asked,
-  find-reads.Learnt,
+  run-node-reads.Asked,
+  run-node-reads.Learnt,
+  state-byte-reads.Asked,
+  state-byte-reads.Learnt,
 )
 
 run-children-returns : (t : ℕ) → run-children-lts.Need-returns (run-children-calls t) (run-children-at t) run-children.Post
 run-children-returns t c =
-    let a = c .before .before .before .args in
-    let p = c .before .before .before .pre .1 in
-    let j = a .arity - a .k in
-    let none = states-none (a .transitions .now) (a .count) (a .s .now) j (omega arith) in (
-      children-none (a .transitions .now) (a .count) (a .s .now) j (omega arith),
-      noted-none (p .1 .1 .0) (c .if1 .taken) none,
+    let start = c .before .before .before in
+    let a = start .args in
+    let τs = a .transitions .now in
+    let j = a .arity - a .k in (
+      children-none τs (a .count) (a .s .now) j (omega arith),
+      (
+        noted-none (start .pre .1 .1 .1 .0) (c .if1 .taken) (states-none τs (a .count) (a .s .now) j (omega arith)),
+        bytes-none τs (a .count) (a .s .now) j (a .node) (a .states .now) (omega arith),
+      ),
     )
-
-run-children-add-run-tree : (t : ℕ) → run-children-lts.Need-add-run-tree (run-children-calls t) (run-children-at t) run-children.Post
-run-children-add-run-tree t c = search needs
 
 run-children-run-tree-requires : (t : ℕ) → run-children-lts.Need-run-tree-requires (run-children-calls t) (run-children-at t) run-children.Post
 run-children-run-tree-requires t c κs =
-    let a = c .before .before .before .before .args in
-    let p = c .before .before .before .before .pre .1 in
+    let at-if1 = c .before .before in
+    let start = c .before .before .before .before .before in
+    let a = start .args in
+    let v = start .pre .1 .1 .0 in
     let i = a .arity - (a .k + 1) in
-    let e : a .arity - a .k ≡ suc i = omega arith in
-    (omega (arith, c .before .before .before .before .pre .0), (p .0, (first-ahead (p .1 .0) i e, p .1 .1 .0)))
+    let e = one-more (start .pre .1 .1 .1 .1 .1 .1 .0) (at-if1 .if1 .left) in
+    let p = start .pre .1 in
+    (omega (arith, start .pre .0), (p .0, (first-ahead v i e, (p .1 .1 .0, p .1 .1 .1 .0))))
 
-run-children-enum-known-q : (t : ℕ) → run-children-lts.Need-enum-known-q (run-children-calls t) (run-children-at t) run-children.Post
-run-children-enum-known-q t c = search needs
-
-run-children-enum-told : (t : ℕ) → run-children-lts.Need-enum-told (run-children-calls t) (run-children-at t) run-children.Post
-run-children-enum-told t c = search needs
-
-run-children-returns-2 : (t : ℕ) → run-children-lts.Need-returns-2 (run-children-calls t) (run-children-at t) run-children.Post
-run-children-returns-2 t c =
-    let a = c .before .before .before .before .before .before .before .args in
-    let p = c .before .before .before .before .before .before .before .pre .1 in
-    let i = a .arity - (a .k + 1) in
-    let e : a .arity - a .k ≡ suc i = omega arith in
-    let t = c .before .before .run-tree .ensures in
-    let z = c .enum-told .given .1 in (
-      children-lost (a .transitions .now) (a .count) (p .1 .0) i e (t .0) z,
-      noted-lost (t .1) (child-lost (a .transitions .now) (a .count) (p .1 .0) i e (t .0) z),
-    )
+run-children-state-byte-requires : (t : ℕ) → run-children-lts.Need-state-byte-requires (run-children-calls t) (run-children-at t) run-children.Post
+run-children-state-byte-requires t c κs = search needs
 
 run-children-mul-rows : (t : ℕ) → run-children-lts.Need-mul-rows (run-children-calls t) (run-children-at t) run-children.Post
 run-children-mul-rows t c = search needs
@@ -118,297 +122,253 @@ run-children-index-1-rows t c = search needs
 run-children-index-2-rows : (t : ℕ) → run-children-lts.Need-index-2-rows (run-children-calls t) (run-children-at t) run-children.Post
 run-children-index-2-rows t c = search needs
 
+run-children-mul-run-children : (t : ℕ) → run-children-lts.Need-mul-run-children (run-children-calls t) (run-children-at t) run-children.Post
+run-children-mul-run-children t c =
+    let at-run-tree = c .before in
+    let at-if1 = c .before .before .before .before in
+    let start = c .before .before .before .before .before .before .before in
+    let a = start .args in
+    let v = start .pre .1 .1 .0 in
+    let i = a .arity - (a .k + 1) in
+    let e = one-more (start .pre .1 .1 .1 .1 .1 .1 .0) (at-if1 .if1 .left) in
+    let m = at-run-tree .run-tree .result .nodes in
+    let ran = at-run-tree .run-tree .ensures .0 in
+    omega (arith, first-within v i e m (ran .nodes), start .good .0 .0)
+
 run-children-sub-run-children : (t : ℕ) → run-children-lts.Need-sub-run-children (run-children-calls t) (run-children-at t) run-children.Post
 run-children-sub-run-children t c =
-    let a = c .before .before .before .before .before .before .before .before .args in
-    let p = c .before .before .before .before .before .before .before .before .pre .1 in
+    let at-run-tree = c .before in
+    let at-if1 = c .before .before .before .before in
+    let start = c .before .before .before .before .before .before .before in
+    let a = start .args in
+    let v = start .pre .1 .1 .0 in
     let i = a .arity - (a .k + 1) in
-    let e : a .arity - a .k ≡ suc i = omega arith in
-    let t = c .before .before .before .run-tree .ensures in
-    let g = c .before .q .given in
-    let m = g .0 .1 .0 in
-    let d = child-bytes (a .transitions .now) (a .count) (p .1 .0) i e (t .0) (g .0 .0) m (g .1) in
-    first-within (p .1 .0) i e m d
+    let e = one-more (start .pre .1 .1 .1 .1 .1 .1 .0) (at-if1 .if1 .left) in
+    let m = at-run-tree .run-tree .result .nodes in
+    let ran = at-run-tree .run-tree .ensures .0 in
+    first-within v i e m (ran .nodes)
 
 run-children-part-run-children-start : (t : ℕ) → run-children-lts.Need-part-run-children-start (run-children-calls t) (run-children-at t) run-children.Post
 run-children-part-run-children-start t c =
-    let a = c .before .before .before .before .before .before .before .before .args in
-    let p = c .before .before .before .before .before .before .before .before .pre .1 in
+    let at-run-tree = c .before in
+    let at-if1 = c .before .before .before .before in
+    let start = c .before .before .before .before .before .before .before in
+    let a = start .args in
+    let v = start .pre .1 .1 .0 in
     let i = a .arity - (a .k + 1) in
-    let e : a .arity - a .k ≡ suc i = omega arith in
-    let t = c .before .before .before .run-tree .ensures in
-    let g = c .before .q .given in
-    let m = g .0 .1 .0 in
-    let d = child-bytes (a .transitions .now) (a .count) (p .1 .0) i e (t .0) (g .0 .0) m (g .1) in
-    first-within (p .1 .0) i e m d
+    let e = one-more (start .pre .1 .1 .1 .1 .1 .1 .0) (at-if1 .if1 .left) in
+    let m = at-run-tree .run-tree .result .nodes in
+    let ran = at-run-tree .run-tree .ensures .0 in
+    first-within v i e m (ran .nodes)
 
 run-children-part-run-children-end : (t : ℕ) → run-children-lts.Need-part-run-children-end (run-children-calls t) (run-children-at t) run-children.Post
 run-children-part-run-children-end t c = search needs
 
 run-children-add-run-children : (t : ℕ) → run-children-lts.Need-add-run-children (run-children-calls t) (run-children-at t) run-children.Post
-run-children-add-run-children t c = search needs
+run-children-add-run-children t c =
+    let at-run-tree = c .before .before .before .before in
+    let at-if1 = c .before .before .before .before .before .before .before in
+    let start = c .before .before .before .before .before .before .before .before .before .before in
+    let a = start .args in
+    let v = start .pre .1 .1 .0 in
+    let i = a .arity - (a .k + 1) in
+    let e = one-more (start .pre .1 .1 .1 .1 .1 .1 .0) (at-if1 .if1 .left) in
+    let m = at-run-tree .run-tree .result .nodes in
+    let ran = at-run-tree .run-tree .ensures .0 in
+    omega (arith, first-within v i e m (ran .nodes), v .room)
+
+run-children-add-run-children-2 : (t : ℕ) → run-children-lts.Need-add-run-children-2 (run-children-calls t) (run-children-at t) run-children.Post
+run-children-add-run-children-2 t c = search needs
 
 run-children-run-children-requires : (t : ℕ) → run-children-lts.Need-run-children-requires (run-children-calls t) (run-children-at t) run-children.Post
 run-children-run-children-requires t c κs =
-    let a = c .before .before .before .before .before .before .before .before .before .before .args in
-    let p = c .before .before .before .before .before .before .before .before .before .before .pre .1 in
+    let at-run-tree = c .before .before .before .before in
+    let at-if1 = c .before .before .before .before .before .before .before in
+    let start = c .before .before .before .before .before .before .before .before .before .before in
+    let a = start .args in
+    let v = start .pre .1 .1 .0 in
     let i = a .arity - (a .k + 1) in
-    let e : a .arity - a .k ≡ suc i = omega arith in
-    let t = c .before .before .before .before .before .run-tree .ensures in
-    let g = c .before .before .before .q .given in
-    let m = g .0 .1 .0 in
-    let d = child-bytes (a .transitions .now) (a .count) (p .1 .0) i e (t .0) (g .0 .0) m (g .1) in
-    let some = first-some (p .1 .0) i e m d in
-    let within = first-within (p .1 .0) i e m d in
-    let less = part-length (a .s .now) m in
-    let deep : a .depth < maxNodes = omega (arith, root-row (first-ahead (p .1 .0) i e)) in
-    let falls = c .before .before .before .before .before .before .before .before .before .before .pre .0 in
-    let rest = others-ahead (p .1 .0) i e m d in
-    (omega arith, (p .0, (rest, (rows-put (t .1 .rows) (a .depth) _ _ deep, (omega arith, p .1 .1 .1 .1)))))
-
-run-children-enum-known-more : (t : ℕ) → run-children-lts.Need-enum-known-more (run-children-calls t) (run-children-at t) run-children.Post
-run-children-enum-known-more t c = search needs
-
-run-children-enum-told-2 : (t : ℕ) → run-children-lts.Need-enum-told-2 (run-children-calls t) (run-children-at t) run-children.Post
-run-children-enum-told-2 t c = search needs
-
-run-children-returns-3 : (t : ℕ) → run-children-lts.Need-returns-3 (run-children-calls t) (run-children-at t) run-children.Post
-run-children-returns-3 t c =
-    let a = c .before .before .before .before .before .before .before .before .before .before .before .before .before
-    .args in
-    let p = c .before .before .before .before .before .before .before .before .before .before .before .before .before
-    .pre .1 in
-    let i = a .arity - (a .k + 1) in
-    let e : a .arity - a .k ≡ suc i = omega arith in
-    let t = c .before .before .before .before .before .before .before .before .run-tree .ensures in
-    let g = c .before .before .before .before .before .before .q .given in
-    let m = g .0 .1 .0 in
-    let h = c .before .before .run-children .ensures in
-    let deep : a .depth < maxNodes = omega (arith, root-row (first-ahead (p .1 .0) i e)) in
-    let states = child-states (a .transitions .now) (a .count) (p .1 .0) i e (t .0) (g .0 .0) m (g .1) in
-    let short = children-short (a .transitions .now) (a .count) (p .1 .0) i e (t .0) (g .0 .0) m (g .1) in
-    (short (h .0) (c .enum-told2 .given .1), noted-next deep (omega arith) states (t .1) (h .1))
-
-run-children-add-t14 : (t : ℕ) → run-children-lts.Need-add-t14 (run-children-calls t) (run-children-at t) run-children.Post
-run-children-add-t14 t c =
-    let a = c .before .before .before .before .before .before .before .before .before .before .before .before .before
-    .before .args in
-    let p = c .before .before .before .before .before .before .before .before .before .before .before .before .before
-    .before .pre .1 in
-    let i = a .arity - (a .k + 1) in
-    let e : a .arity - a .k ≡ suc i = omega arith in
-    let t = c .before .before .before .before .before .before .before .before .before .run-tree .ensures in
-    let g = c .before .before .before .before .before .before .before .q .given in
-    let m = g .0 .1 .0 in
-    let h = c .before .before .before .run-children .ensures in
-    let l = c .before .more .given in
-    let within = children-within (a .transitions .now) (a .count) (p .1 .0) i e (t .0) (g .0 .0) m (g .1)
-    (h .0) (l .0 .0) (l .1) in
-    omega (
-      arith,
-      c .before .before .before .before .before .before .before .before .before .before .before .before
-          .before .before .good .0 .0,
+    let e = one-more (start .pre .1 .1 .1 .1 .1 .1 .0) (at-if1 .if1 .left) in
+    let m = at-run-tree .run-tree .result .nodes in
+    let ran = at-run-tree .run-tree .ensures .0 in
+    let p = start .pre .1 in
+    let some = first-some v i e m (ran .nodes) in
+    let within = first-within v i e m (ran .nodes) in
+    let less = part-length (a .s .now) (nodeBytes * m) in
+    let here : a .parent < maxNodes = omega (arith, root-row (first-ahead v i e)) in
+    let rows = rows-put (at-run-tree .run-tree .ensures .1 .0 .rows) (a .parent) _ _ here in
+    let bytes = ap length (at-run-tree .run-tree .ensures .1 .1) ∙ length-sets (a .states .now) (a .node) (nodeStates (over (a .transitions .now) (a .count)) (readTree (a .s .now))) ∙ p .1 .1 .1 .0 in
+    (
+      omega (arith, start .pre .0),
+      (p .0, (others-ahead v i e m (ran .nodes), (rows, (bytes, (omega arith, (omega arith, p .1 .1 .1 .1 .1 .1)))))),
     )
 
-run-children-returns-4 : (t : ℕ) → run-children-lts.Need-returns-4 (run-children-calls t) (run-children-at t) run-children.Post
-run-children-returns-4 t c =
-    let a = c .before .before .before .before .before .before .before .before .before .before .before .before .before
-    .before .args in
-    let p = c .before .before .before .before .before .before .before .before .before .before .before .before .before
-    .before .pre .1 in
+run-children-join-requires : (t : ℕ) → run-children-lts.Need-join-requires (run-children-calls t) (run-children-at t) run-children.Post
+run-children-join-requires t c κs = search needs
+
+run-children-add-t20 : (t : ℕ) → run-children-lts.Need-add-t20 (run-children-calls t) (run-children-at t) run-children.Post
+run-children-add-t20 t c =
+    let at-run-children = c .before .before in
+    let at-run-tree = c .before .before .before .before .before .before .before in
+    let at-if1 = c .before .before .before .before .before .before .before .before .before .before in
+    let start = c .before .before .before .before .before .before .before .before .before .before .before .before .before in
+    let a = start .args in
+    let v = start .pre .1 .1 .0 in
     let i = a .arity - (a .k + 1) in
-    let e : a .arity - a .k ≡ suc i = omega arith in
-    let t = c .before .before .before .before .before .before .before .before .before .run-tree .ensures in
-    let g = c .before .before .before .before .before .before .before .q .given in
-    let m = g .0 .1 .0 in
-    let h = c .before .before .before .run-children .ensures in
-    let l = c .before .more .given in
-    let deep : a .depth < maxNodes = omega (arith, root-row (first-ahead (p .1 .0) i e)) in
-    let states = child-states (a .transitions .now) (a .count) (p .1 .0) i e (t .0) (g .0 .0) m (g .1) in
-    let row = children-row (a .transitions .now) (a .count) (p .1 .0) i e (t .0) (g .0 .0) m (g .1) in
-    (row (h .0) (l .0 .0) (l .1), noted-next deep (omega arith) states (t .1) (h .1))
+    let e = one-more (start .pre .1 .1 .1 .1 .1 .1 .0) (at-if1 .if1 .left) in
+    let m = at-run-tree .run-tree .result .nodes in
+    let ran = at-run-tree .run-tree .ensures .0 in
+    omega (
+      arith,
+      first-within v i e m (ran .nodes),
+      part-length (a .s .now) (nodeBytes * m),
+      ahead-nodes (others-ahead v i e m (ran .nodes)),
+      at-run-children .run-children .ensures .0 .nodes,
+      start .good .0 .0,
+    )
+
+run-children-returns-2 : (t : ℕ) → run-children-lts.Need-returns-2 (run-children-calls t) (run-children-at t) run-children.Post
+run-children-returns-2 t c =
+    let at-run-children = c .before .before in
+    let at-run-tree = c .before .before .before .before .before .before .before in
+    let at-if1 = c .before .before .before .before .before .before .before .before .before .before in
+    let start = c .before .before .before .before .before .before .before .before .before .before .before .before .before in
+    let a = start .args in
+    let v = start .pre .1 .1 .0 in
+    let i = a .arity - (a .k + 1) in
+    let e = one-more (start .pre .1 .1 .1 .1 .1 .1 .0) (at-if1 .if1 .left) in
+    let m = at-run-tree .run-tree .result .nodes in
+    let ran = at-run-tree .run-tree .ensures .0 in
+    let τs = a .transitions .now in
+    let here : a .parent < maxNodes = omega (arith, start .pre .1 .1 .1 .1 .1 .0, root-row (first-ahead v i e)) in
+    let place : a .k < maxArity = omega (arith, start .pre .1 .1 .1 .1 .1 .1, e) in
+    let byte = c .before .before .before .before .before .before .state-byte .ensures in
+    let others = at-run-children .run-children .ensures in
+    let head = child-states τs (a .count) v i e ran byte in (
+      children-ran τs (a .count) v i e ran (others .0) (c .before .join .ensures) refl,
+      (
+        noted-next here place (start .pre .1 .1 .1 .1 .1 .0) head (at-run-tree .run-tree .ensures .1 .0) (others .1 .0),
+        children-states τs (a .count) v i e ran (a .states .now) (at-run-tree .run-tree .ensures .1 .1) (others .1 .1),
+      ),
+    )
 
 run-tree-children-at-requires : (t : ℕ) → run-tree-lts.Need-children-at-requires (run-tree-calls t) (run-tree-at t) run-tree.Post
-run-tree-children-at-requires t c κs = root-size (c .before .before .pre .1 .1 .0)
+run-tree-children-at-requires t c κs =
+    root-size (c .before .before .pre .1 .1 .0)
 
 run-tree-wide-requires : (t : ℕ) → run-tree-lts.Need-wide-requires (run-tree-calls t) (run-tree-at t) run-tree.Post
 run-tree-wide-requires t c κs = search needs
 
 run-tree-sub-run-children : (t : ℕ) → run-tree-lts.Need-sub-run-children (run-tree-calls t) (run-tree-at t) run-tree.Post
-run-tree-sub-run-children t c = root-size (c .before .before .before .before .pre .1 .1 .0)
+run-tree-sub-run-children t c =
+    root-size (c .before .before .before .before .pre .1 .1 .0)
 
 run-tree-part-run-children-start : (t : ℕ) → run-tree-lts.Need-part-run-children-start (run-tree-calls t) (run-tree-at t) run-tree.Post
-run-tree-part-run-children-start t c = root-size (c .before .before .before .before .pre .1 .1 .0)
+run-tree-part-run-children-start t c =
+    root-size (c .before .before .before .before .pre .1 .1 .0)
 
 run-tree-part-run-children-end : (t : ℕ) → run-tree-lts.Need-part-run-children-end (run-tree-calls t) (run-tree-at t) run-tree.Post
 run-tree-part-run-children-end t c = search needs
 
+run-tree-add-run-children : (t : ℕ) → run-tree-lts.Need-add-run-children (run-tree-calls t) (run-tree-at t) run-tree.Post
+run-tree-add-run-children t c = search needs
+
 run-tree-run-children-requires : (t : ℕ) → run-tree-lts.Need-run-children-requires (run-tree-calls t) (run-tree-at t) run-tree.Post
 run-tree-run-children-requires t c κs =
-    let a = c .before .before .before .before .before .before .args in
-    let p = c .before .before .before .before .before .before .pre .1 in
-    let w = c .before .before .wide in
-    let k = w .result - 0 in
-    let e : k ≡ getD (a .s .now) labelBytes 0 = omega (
-      arith,
-      w .ensures,
-      c .before .before .before .children-at
-          .ensures,
-    ) in
-    let narrow = root-arity (p .1 .0) in
-    let size = root-size (p .1 .0) in
+    let at-wide = c .before .before .before in
+    let start = c .before .before .before .before .before .before .before in
+    let a = start .args in
+    let v = start .pre .1 .1 .0 in
+    let k = at-wide .wide .result - 0 in
+    let e : k ≡ getD (a .s .now) labelBytes 0 = omega (arith, at-wide .wide .ensures, at-wide .before .children-at .ensures) in
+    let p = start .pre .1 in
+    let arity = root-arity v in
+    let size = root-size v in
     let less = part-length (a .s .now) nodeBytes in
-    let falls = c .before .before .before .before .before .before .pre .0 in
-    (omega arith, (p .0, (children-ahead (p .1 .0) k e, (p .1 .1, (omega arith, omega arith)))))
-
-run-tree-enum-known-len : (t : ℕ) → run-tree-lts.Need-enum-known-len (run-tree-calls t) (run-tree-at t) run-tree.Post
-run-tree-enum-known-len t c = search needs
-
-run-tree-enum-told : (t : ℕ) → run-tree-lts.Need-enum-told (run-tree-calls t) (run-tree-at t) run-tree.Post
-run-tree-enum-told t c = search needs
-
-run-tree-returns : (t : ℕ) → run-tree-lts.Need-returns (run-tree-calls t) (run-tree-at t) run-tree.Post
-run-tree-returns t c =
-    let a = c .before .before .before .before .before .before .before .before .before .args in
-    let p = c .before .before .before .before .before .before .before .before .before .pre .1 in
-    let w = c .before .before .before .before .before .wide in
-    let k = w .result - 0 in
-    let e : k ≡ getD (a .s .now) labelBytes 0 = omega (
-      arith,
-      w .ensures,
-      c .before .before .before .before .before
-          .before .children-at .ensures,
-    ) in
-    let h = c .before .before .run-children .ensures in
-    let short = tree-short (a .transitions .now) (a .count) (p .1 .0) k e in
-    (short (h .0) (c .enum-told .given .1), h .1 .kept)
+    (
+      omega (arith, start .pre .0),
+      (p .0, (children-ahead v k e, (p .1 .1 .0, (p .1 .1 .1, (omega arith, (omega arith, omega arith)))))),
+    )
 
 run-tree-label-at-requires : (t : ℕ) → run-tree-lts.Need-label-at-requires (run-tree-calls t) (run-tree-at t) run-tree.Post
 run-tree-label-at-requires t c κs =
-    root-size (c .before .before .before .before .before .before .before .before .before .before .pre .1 .1 .0)
+    root-size (c .before .before .before .before .before .before .before .before .pre .1 .1 .0)
 
-run-tree-mul-find : (t : ℕ) → run-tree-lts.Need-mul-find (run-tree-calls t) (run-tree-at t) run-tree.Post
-run-tree-mul-find t c = search needs
+run-tree-mul-run-node : (t : ℕ) → run-tree-lts.Need-mul-run-node (run-tree-calls t) (run-tree-at t) run-tree.Post
+run-tree-mul-run-node t c = search needs
 
-run-tree-element-copy-out-find : (t : ℕ) → run-tree-lts.Need-element-copy-out-find (run-tree-calls t) (run-tree-at t) run-tree.Post
-run-tree-element-copy-out-find t c =
-    let a = c .before .before .before .before .before .before .before .before .before .before .before .args in
-    let p = c .before .before .before .before .before .before .before .before .before .before .before .pre .1 in
-    omega (arith, root-row (p .1 .0))
+run-tree-element-copy-out-run-node : (t : ℕ) → run-tree-lts.Need-element-copy-out-run-node (run-tree-calls t) (run-tree-at t) run-tree.Post
+run-tree-element-copy-out-run-node t c =
+    root-row (c .before .before .before .before .before .before .before .before .before .pre .1 .1 .0)
 
-run-tree-find-requires : (t : ℕ) → run-tree-lts.Need-find-requires (run-tree-calls t) (run-tree-at t) run-tree.Post
-run-tree-find-requires t c κs =
-    let a = c .before .before .before .before .before .before .before .before .before .before .before .before .args in
-    let p = c .before .before .before .before .before .before .before .before .before .before .before .before .pre .1
-    in
-    let w = c .before .before .before .before .before .before .before .before .wide in (
-      p .0 .runs,
-      omega (
-        arith,
-        root-arity (p .1 .0),
-        w .ensures,
-        c .before .before .before .before .before .before
-            .before .before .before .children-at .ensures,
-      ),
+run-tree-run-node-requires : (t : ℕ) → run-tree-lts.Need-run-node-requires (run-tree-calls t) (run-tree-at t) run-tree.Post
+run-tree-run-node-requires t c κs =
+    let at-wide = c .before .before .before .before .before .before in
+    let start = c .before .before .before .before .before .before .before .before .before .before in
+    (
+      start .pre .1 .0,
+      omega (arith, root-arity (start .pre .1 .1 .0), at-wide .wide .ensures, at-wide .before .children-at .ensures),
     )
 
-run-tree-enum-known-q : (t : ℕ) → run-tree-lts.Need-enum-known-q (run-tree-calls t) (run-tree-at t) run-tree.Post
-run-tree-enum-known-q t c = search needs
+run-tree-state-byte-requires : (t : ℕ) → run-tree-lts.Need-state-byte-requires (run-tree-calls t) (run-tree-at t) run-tree.Post
+run-tree-state-byte-requires t c κs = search needs
 
-run-tree-enum-told-2 : (t : ℕ) → run-tree-lts.Need-enum-told-2 (run-tree-calls t) (run-tree-at t) run-tree.Post
-run-tree-enum-told-2 t c = search needs
+run-tree-element-write-states : (t : ℕ) → run-tree-lts.Need-element-write-states (run-tree-calls t) (run-tree-at t) run-tree.Post
+run-tree-element-write-states t c =
+    root-row (c .before .before .before .before .before .before .before .before .before .before .before .before .pre .1 .1 .0)
 
-run-tree-returns-2 : (t : ℕ) → run-tree-lts.Need-returns-2 (run-tree-calls t) (run-tree-at t) run-tree.Post
-run-tree-returns-2 t c =
-    let a = c .before .before .before .before .before .before .before .before .before .before .before .before .before
-    .before .before .args in
-    let p = c .before .before .before .before .before .before .before .before .before .before .before .before .before
-    .before .before .pre .1 in
-    let w = c .before .before .before .before .before .before .before .before .before .before .before .wide in
-    let k = w .result - 0 in
-    let e : k ≡ getD (a .s .now) labelBytes 0 = omega (
-      arith,
-      w .ensures,
-      c .before .before .before .before .before
-          .before .before .before .before .before .before .before .children-at .ensures,
-    ) in
-    let h = c .before .before .before .before .before .before .before .before .run-children .ensures in
-    let l = c .before .before .before .before .before .before .len .given in
-    let lost = tree-lost (a .transitions .now) (a .count) (p .1 .0) k e (h .0) (l .0 .0) (l .1) (h .1 .row) in (
-      lost (rw (c .before .before .before .before .label-at .ensures .0) at (c .before .before .find .ensures .0)) (c
-          .enum-told2 .given .1),
-      h .1 .kept,
+run-tree-add-t18 : (t : ℕ) → run-tree-lts.Need-add-t18 (run-tree-calls t) (run-tree-at t) run-tree.Post
+run-tree-add-t18 t c =
+    let at-wide = c .before .before .before .before .before .before .before .before .before in
+    let start = c .before .before .before .before .before .before .before .before .before .before .before .before .before in
+    let a = start .args in
+    let v = start .pre .1 .1 .0 in
+    let k = at-wide .wide .result - 0 in
+    let e : k ≡ getD (a .s .now) labelBytes 0 = omega (arith, at-wide .wide .ensures, at-wide .before .children-at .ensures) in
+    let nodes = ahead-nodes (children-ahead v k e) in
+    let within = part-length (a .s .now) nodeBytes in
+    let below = c .before .before .before .before .before .run-children .ensures .0 .nodes in
+    omega (arith, start .good .0 .0)
+
+run-tree-returns : (t : ℕ) → run-tree-lts.Need-returns (run-tree-calls t) (run-tree-at t) run-tree.Post
+run-tree-returns t c =
+    let at-run-children = c .before .before .before .before .before in
+    let at-wide = c .before .before .before .before .before .before .before .before .before in
+    let start = c .before .before .before .before .before .before .before .before .before .before .before .before .before in
+    let a = start .args in
+    let v = start .pre .1 .1 .0 in
+    let k = at-wide .wide .result - 0 in
+    let e : k ≡ getD (a .s .now) labelBytes 0 = omega (arith, at-wide .wide .ensures, at-wide .before .children-at .ensures) in
+    let τs = a .transitions .now in
+    let below = at-run-children .run-children .ensures in
+    let label = c .before .before .before .before .label-at .ensures .0 in
+    let ran = c .before .before .run-node .ensures _ (below .0 .filled) (below .1 .0 .row) in
+    let tree = tree-ran τs (a .count) v k e (below .0) (rw label at ran) refl in
+    let byte = c .before .state-byte .ensures ∙ ap ranState (tree .ran) ∙ ran-to (run (over τs (a .count)) (readTree (a .s .now))) in (
+      tree,
+      (below .1 .0 .kept, tree-states τs (a .count) v k e (below .0) _ byte (a .states .now) (below .1 .1)),
     )
-
-run-tree-add-t12 : (t : ℕ) → run-tree-lts.Need-add-t12 (run-tree-calls t) (run-tree-at t) run-tree.Post
-run-tree-add-t12 t c =
-    let a = c .before .before .before .before .before .before .before .before .before .before .before .before .before
-    .before .before .before .args in
-    let p = c .before .before .before .before .before .before .before .before .before .before .before .before .before
-    .before .before .before .pre .1 in
-    let w = c .before .before .before .before .before .before .before .before .before .before .before .before .wide in
-    let k = w .result - 0 in
-    let e : k ≡ getD (a .s .now) labelBytes 0 = omega (
-      arith,
-      w .ensures,
-      c .before .before .before .before .before
-          .before .before .before .before .before .before .before .before .children-at .ensures,
-    ) in
-    let h = c .before .before .before .before .before .before .before .before .before .run-children .ensures in
-    let l = c .before .before .before .before .before .before .before .len .given in
-    let within = tree-within (a .transitions .now) (a .count) (p .1 .0) k e (h .0) (l .0 .0) (l .1) in
-    omega (
-      arith,
-      c .before .before .before .before .before .before .before .before .before .before .before .before
-          .before .before .before .before .good .0 .0,
-    )
-
-run-tree-returns-3 : (t : ℕ) → run-tree-lts.Need-returns-3 (run-tree-calls t) (run-tree-at t) run-tree.Post
-run-tree-returns-3 t c =
-    let a = c .before .before .before .before .before .before .before .before .before .before .before .before .before
-    .before .before .before .args in
-    let p = c .before .before .before .before .before .before .before .before .before .before .before .before .before
-    .before .before .before .pre .1 in
-    let w = c .before .before .before .before .before .before .before .before .before .before .before .before .wide in
-    let k = w .result - 0 in
-    let e : k ≡ getD (a .s .now) labelBytes 0 = omega (
-      arith,
-      w .ensures,
-      c .before .before .before .before .before
-          .before .before .before .before .before .before .before .before .children-at .ensures,
-    ) in
-    let h = c .before .before .before .before .before .before .before .before .before .run-children .ensures in
-    let l = c .before .before .before .before .before .before .before .len .given in
-    let f = c .before .before .before .find .ensures in
-    let label = c .before .before .before .before .before .label-at .ensures .0 in
-    let q = c .before .q .given in
-    let state = tree-state (a .transitions .now) (a .count) (p .1 .0) k e (h .0) (l .0 .0) (l .1) (h .1 .row)
-    (p .0) in
-    (state (q .0 .0) (rw label at (f .0)) (rw label at (f .1)) (q .1), h .1 .kept)
 
 pub +run-children+run-tree-spec : {M : Type 1} → statement M
 +run-children+run-tree-spec = close μ-run-children μ-run-tree (λ t. run-children-lts.spec (run-children-calls t)
     (run-children-at t)
     run-children.Post
     (run-children-returns t)
-    (run-children-add-run-tree t)
     (run-children-run-tree-requires t)
-    (run-children-enum-known-q t)
-    (run-children-enum-told t)
-    (run-children-returns-2 t)
+    (run-children-state-byte-requires t)
     (run-children-mul-rows t)
     (run-children-index-1-rows t)
     (run-children-index-2-rows t)
+    (run-children-mul-run-children t)
     (run-children-sub-run-children t)
     (run-children-part-run-children-start t)
     (run-children-part-run-children-end t)
     (run-children-add-run-children t)
+    (run-children-add-run-children-2 t)
     (run-children-run-children-requires t)
-    (run-children-enum-known-more t)
-    (run-children-enum-told-2 t)
-    (run-children-returns-3 t)
-    (run-children-add-t14 t)
-    (run-children-returns-4 t))
+    (run-children-join-requires t)
+    (run-children-add-t20 t)
+    (run-children-returns-2 t))
     λ t. run-tree-lts.spec (run-tree-calls t)
     (run-tree-at t)
     run-tree.Post
@@ -417,16 +377,13 @@ pub +run-children+run-tree-spec : {M : Type 1} → statement M
     (run-tree-sub-run-children t)
     (run-tree-part-run-children-start t)
     (run-tree-part-run-children-end t)
+    (run-tree-add-run-children t)
     (run-tree-run-children-requires t)
-    (run-tree-enum-known-len t)
-    (run-tree-enum-told t)
-    (run-tree-returns t)
     (run-tree-label-at-requires t)
-    (run-tree-mul-find t)
-    (run-tree-element-copy-out-find t)
-    (run-tree-find-requires t)
-    (run-tree-enum-known-q t)
-    (run-tree-enum-told-2 t)
-    (run-tree-returns-2 t)
-    (run-tree-add-t12 t)
-    (run-tree-returns-3 t)
+    (run-tree-mul-run-node t)
+    (run-tree-element-copy-out-run-node t)
+    (run-tree-run-node-requires t)
+    (run-tree-state-byte-requires t)
+    (run-tree-element-write-states t)
+    (run-tree-add-t18 t)
+    (run-tree-returns t)
