@@ -4,7 +4,7 @@ use mathlib.Core.Path.{_∙_, _≡_, ap₂, subst, subst₂, sym}
 use Prim.Native.Nat.{_-_, _≤_, ℕ}
 use native.Mathlib.Omega.{arith}
 use lib.ListN.{length}
-use Rattle.automata.specs.Automaton.{Automaton, Fits}
+use Rattle.automata.specs.Automaton.{Fits}
 use Rattle.fields.specs.Fields.{InTable, HoldsTransitionsOver}
 use Rattle.format.specs.Format.{AllBytes, headBytes, maxStates, tableBytes}
 use Rattle.products.specs.Result.{Holds}
@@ -57,9 +57,8 @@ pub record Given (s b : List ℕ) (k n : ℕ) (r : Subtrees) : Type 0 where
   pub holds : Holds (decode b) (readTree s) (part b headBytes) k n r
 
 pub given : (s b : List ℕ) → listingRefusal s ≡ 0 → tableRefusal b ≡ 0 → AllBytes s → (k n : ℕ) →
-    k ≡ transitionCount b → n ≡ stateCount b → (r : Subtrees) → ((A : Automaton) →
-    A .transitions ≡ transitionsIn (part b headBytes) k → Lists A (readTree s) (bottomUp (readTree s)) r) →
-    Given s b k n r
+    k ≡ transitionCount b → n ≡ stateCount b → (r : Subtrees) →
+    Lists (decode b) (readTree s) (bottomUp (readTree s)) r → Given s b k n r
 unfolding listingRefusal
 given s b e passed bytes k n c m r lists =
     let table = given-table b passed k n c m in
@@ -70,6 +69,6 @@ given s b e passed bytes k n c m r lists =
         size = decoded-states b ∙ sym m;
         rises = unrefused-passes b passed .valid .rises;
         legal = passed-legal s bytes (unbroken-hold (listingConditions s) (listing-from-one s) e);
-        lists = lists (decode b) (table .transitions);
+        lists = lists;
       };
     }

@@ -11,7 +11,8 @@ ghost use Rattle.fields.specs.View.{Viewed, viewed};
 ghost use Rattle.format.specs.Format.{scratchBytes, tableBytes};
 ghost use Rattle.minimize.specs.Made.{madeOf, writtenTo};
 ghost use Rattle.table.specs.Intake.{tableRefusal};
-ghost use Rattle.table.specs.Layout.{transitionsIn};
+ghost use Rattle.running.specs.Running.{HoldsStates};
+ghost use Rattle.table.specs.Layout.{decode, transitionsIn};
 ghost use Rattle.trees.specs.Listing.{listingRefusal, readTree};
 ghost use Rattle.change.specs.Changing.{MadeFits, Worked, changeOf, changedOutcome, resultOf};
 use calls::Answer;
@@ -19,6 +20,7 @@ use classes::pair_classes;
 use distinguish::blank;
 use fields::transition_count;
 use format::HEAD_BYTES;
+use format::MAX_NODES;
 use format::wide;
 use minimize::write::Made;
 use minimize::write::write;
@@ -59,9 +61,16 @@ fn minimize(
     write(transitions, count, classes, n, &marks, table)
 }
 
-// Puts the tree in or takes it out, and leaves anything in the scratch.
-fn work(tree: &[u8], table: &mut [u8], scratch: &mut [u8], inserting: bool) -> Answer
+// Puts the tree in or takes it out, and leaves anything in the scratch. `reached` has the states of the tree's nodes.
+fn work(
+    tree: &[u8],
+    reached: &[u8; MAX_NODES],
+    table: &mut [u8],
+    scratch: &mut [u8],
+    inserting: bool,
+) -> Answer
     requires { ⌜ listingRefusal (now tree) ≡ 0 ⌝ }
+    requires { ⌜ HoldsStates (decode (now table)) (readTree (now tree)) (now reached) ⌝ }
     requires { ⌜ tableRefusal (now table) ≡ 0 ⌝ }
     requires { ⌜ length (now scratch) ≡ scratchBytes ⌝ }
     ensures { λ r. ⌜ Worked (changeOf inserting (readTree (now (tree .entry)))) (now (table .entry))
@@ -69,7 +78,7 @@ fn work(tree: &[u8], table: &mut [u8], scratch: &mut [u8], inserting: bool) -> A
 {
     let n = wide(table[0]);
     let count = transition_count(table);
-    let s = collect(tree, &table[HEAD_BYTES..], count);
+    let s = collect(tree, reached);
     let m = s.count;
     let own = n + wide(s.root);
     let states = s.states;
@@ -93,16 +102,23 @@ fn work(tree: &[u8], table: &mut [u8], scratch: &mut [u8], inserting: bool) -> A
     }
 }
 
-// Puts the tree in or takes it out. The scratch is all zeros after that.
-pub fn change(tree: &[u8], table: &mut [u8], scratch: &mut [u8], inserting: bool) -> Answer
+// Puts the tree in or takes it out. `reached` has the states of the tree's nodes. The scratch is all zeros after that.
+pub fn change(
+    tree: &[u8],
+    reached: &[u8; MAX_NODES],
+    table: &mut [u8],
+    scratch: &mut [u8],
+    inserting: bool,
+) -> Answer
     requires { ⌜ listingRefusal (now tree) ≡ 0 ⌝ }
+    requires { ⌜ HoldsStates (decode (now table)) (readTree (now tree)) (now reached) ⌝ }
     requires { ⌜ tableRefusal (now table) ≡ 0 ⌝ }
     requires { ⌜ length (now scratch) ≡ scratchBytes ⌝ }
     ensures { λ r. ⌜ resultOf r (now (table .exit)) (now (scratch .exit)) ≡
         changedOutcome (changeOf inserting (readTree (now (tree .entry)))) (now (table .entry)) (now (scratch
         .entry)) ⌝ }
 {
-    let answer = work(tree, table, scratch, inserting);
+    let answer = work(tree, reached, table, scratch, inserting);
     clear(scratch);
     answer
 }

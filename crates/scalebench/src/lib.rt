@@ -8,13 +8,14 @@ ghost use Rattle.calls.specs.Calls.{addResult, askAnswer, askRefusal, changeRes
 ghost use Rattle.change.specs.Changing.{changeOf, resultOf};
 ghost use Rattle.trees.specs.Listing.{readTree};
 ghost use Rattle.trees.specs.Tree.{Tree};
-ghost use Rattle.scalebench.specs.Changes.{earlyRefusal, presenceRefusal};
+ghost use Rattle.scalebench.specs.Changes.{inputRefusal, presenceRefusal};
 use calls::Answer;
 use fields::transition_count;
 use format::SCRATCH_BYTES;
 use format::TABLE_BYTES;
 use intake::content_refusal;
-use running::accepted;
+use running::accepts_state;
+use running::node_states;
 
 // A byte as a number to return.
 fn wide64(x: u8) -> u64
@@ -75,7 +76,8 @@ pub fn ask(tree: &[u8], table: &[u8]) -> Answer
     if number != 0 {
         return Answer::Refused { number };
     }
-    if accepted(tree, table) {
+    let reached = node_states(tree, table);
+    if accepts_state(table, reached[0]) {
         return Answer::Approved;
     }
     Answer::NotApproved
@@ -112,10 +114,9 @@ fn presence_refusal(inserting: bool, present: bool) -> u8
     15
 }
 
-// The first of refusals 1 to 15 that applies to a change, or 0.
-fn change_refusal(tree: &[u8], table: &[u8], scratch: &[u8], inserting: bool) -> u8
-    ensures { λ r. ⌜ r ≡ earlyRefusal (changeOf inserting (readTree (now (tree .entry)))) (now (tree .entry))
-        (now (table .entry)) (now (scratch .entry)) ⌝ }
+// The first of refusals 1 to 13 that applies to a change, or 0.
+fn input_refusal(tree: &[u8], table: &[u8], scratch: &[u8]) -> u8
+    ensures { λ r. ⌜ r ≡ inputRefusal (now (tree .entry)) (now (table .entry)) (now (scratch .entry)) ⌝ }
 {
     let broken = listing::refusal(tree);
     if broken != 0 {
@@ -127,12 +128,7 @@ fn change_refusal(tree: &[u8], table: &[u8], scratch: &[u8], inserting: bool) ->
     if scratch.len() != SCRATCH_BYTES {
         return 6;
     }
-    let damage = content_refusal(table);
-    if damage != 0 {
-        return damage;
-    }
-    let present = accepted(tree, table);
-    presence_refusal(inserting, present)
+    content_refusal(table)
 }
 
 // Puts the tree into the table's set or takes it out.
@@ -141,11 +137,16 @@ fn change(tree: &[u8], table: &mut [u8], scratch: &mut [u8], inserting: bool) ->
         changeResult (changeOf inserting (readTree (now (tree .entry)))) (now (tree .entry)) (now (table .entry))
         (now (scratch .entry)) ⌝ }
 {
-    let number = change_refusal(tree, table, scratch, inserting);
+    let broken = input_refusal(tree, table, scratch);
+    if broken != 0 {
+        return Answer::Refused { number: broken };
+    }
+    let reached = node_states(tree, table);
+    let number = presence_refusal(inserting, accepts_state(table, reached[0]));
     if number != 0 {
         return Answer::Refused { number };
     }
-    change::change(tree, table, scratch, inserting)
+    change::change(tree, &reached, table, scratch, inserting)
 }
 
 // Puts the tree into the table's set.

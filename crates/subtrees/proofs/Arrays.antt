@@ -1,21 +1,19 @@
--- Loops that fill eight bytes, test bytes, compare nodes, and store eight bytes in an array.
-use mathlib.Core.Bool.{Bool, _||_, false}
-use mathlib.Core.List.{List, [], _∷_, map}
-use mathlib.Core.Path.{_∙_, _≡_, ap, refl, subst, sym}
+-- Loops that fill eight bytes, compare nodes, and store eight bytes in an array.
+use mathlib.Core.Bool.{Bool, false}
+use mathlib.Core.List.{List}
+use mathlib.Core.Path.{_∙_, _≡_, ap, refl, subst}
 use Prim.Native.Nat.{_*_, _+_, _<_, _≤_, ℕ}
-use native.Mathlib.Nat.{zero-add}
 use native.Mathlib.Omega.{arith}
-use lib.Dec.{eqb}
-use lib.ListN.{getD, length, length-set, replicate, set, take}
-use lib.Seq.{ext-getD, getD-set-other, getD-set-same, getD-take, length-take-le}
+use lib.ListN.{getD, length, length-set, replicate, set}
+use lib.Seq.{getD-set-other, getD-set-same}
 use borrow.Author.Count.{below-more}
 use borrow.Author.Tests.{eq-eqb, ne-eqb}
 use Rattle.format.specs.Format.{maxArity}
 use Rattle.lists.specs.Positions.{upFrom}
-use Rattle.lists.specs.Tests.{any, every}
+use Rattle.lists.specs.Tests.{every}
 use Rattle.subtrees.specs.Steps.{ChildrenStored, Filled, sameChild, sameNode}
 use Rattle.subtrees.specs.Store.{childAt}
-use Rattle.lists.proofs.Intervals.{getD-tabulated, getD-zeros, length-tabulated, tabulated}
+use Rattle.lists.proofs.Intervals.{getD-zeros}
 use Rattle.lists.proofs.Filling.{set-next}
 
 -- ---- eight bytes, filled from the first
@@ -40,33 +38,6 @@ module _ {f : ℕ → ℕ} where
 
   pub filled-end : {k n : ℕ} {r : List ℕ} → Filled f k r → k ≤ n → n ≤ k → Filled f n r
   filled-end inv h l = filled-at inv (omega arith)
-
--- the first n of eight bytes are the first n values
-pub filled-take : {f : ℕ → ℕ} {n : ℕ} {r : List ℕ} → Filled f n r → n ≤ maxArity → take n r ≡ map f (upFrom 0 n)
-filled-take {f} {n} {r} inv h =
-    ext-getD 0 (take n r) (map f (upFrom 0 n)) (size ∙ sym (length-tabulated f 0 n))
-    (λ k l. let b : k < n = omega (arith, size) in
-    getD-take n r k 0 b ∙ inv .filled k b ∙ sym (getD-tabulated f 0 n k 0 b ∙ ap f (zero-add k)))
-  where
-    size : length (take n r) ≡ n
-    size = length-take-le n r (omega (arith, inv .size))
-
--- ---- a test over the first bytes
-
--- byte k is 0
-abbrev pub noneAt : List ℕ → ℕ → Bool
-noneAt s k = eqb 0 (getD s k 0)
-
-pub any-take : (n : ℕ) (s : List ℕ) → n ≤ length s → any (noneAt s) (upFrom 0 n) ≡ any (eqb 0) (take n s)
-any-take n s h = any-map (upFrom 0 n) ∙ ap (any (eqb 0)) (tabulated-take n s h)
-  where
-    any-map : (xs : List ℕ) → any (noneAt s) xs ≡ any (eqb 0) (map (λ k. getD s k 0) xs)
-    any-map [] = refl
-    any-map (x ∷ xs) = ap (λ b. noneAt s x || b) (any-map xs)
-
-    tabulated-take : (n : ℕ) (s : List ℕ) → n ≤ length s → map (λ k. getD s k 0) (upFrom 0 n) ≡ take n s
-    tabulated-take n s h = tabulated (λ k. getD s k 0) 0 n 0 (take n s) (length-take-le n s h)
-        (λ k l. ap (λ i. getD s i 0) (zero-add k) ∙ sym (getD-take n s k 0 l))
 
 -- ---- a node is compared by its label, its number of children and its children
 

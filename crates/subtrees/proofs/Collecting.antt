@@ -7,19 +7,20 @@ use Prim.Native.Nat.{_+_, _-_, _<_, _≤_, suc, ℕ}
 use native.Mathlib.Omega.{arith}
 use lib.ListN.{drop, drop-of-length-le, getD, length, length-drop, length-set, set, take}
 use lib.Seq.{drop-cons, drop-drop, drop-set-lt, ext-getD, getD-drop, getD-set-same, getD-take, length-take-le}
-use Rattle.automata.specs.Automaton.{Automaton, Transition}
+use Rattle.automata.specs.Automaton.{Automaton, run}
 use Rattle.automata.specs.Change.{subtrees}
 use Rattle.format.specs.Format.{maxArity, maxNodes}
 use Rattle.lists.specs.Closure.{elem}
+use Rattle.running.specs.Running.{HoldsStates}
 use Rattle.subtrees.specs.Steps.{Children, Entered, Filled, NumberGiven, Sized, addLast}
-use Rattle.subtrees.specs.Store.{Lists, Stored, bottomUp, treeNumbered, treesNumbered}
-use Rattle.table.specs.Layout.{transitionsIn}
-use Rattle.trees.specs.Listing.{childrenAt, firstTrees, labelAt, laterTrees, nodesIn, readTree, readTrees}
+use Rattle.subtrees.specs.Store.{Held, Lists, Stored, bottomUp, treeNumbered, treesNumbered}
+use Rattle.trees.specs.Listing.{childrenAt, firstTree, firstTrees, labelAt, laterTrees, nodesIn, readTree, readTrees}
 use Rattle.trees.specs.Tree.{Tree, cons, count, eqTree, nil, node}
 use Rattle.subtrees.proofs.Numbers.{Among, among-drop, among-index, among-more, numbered-append}
 use Rattle.subtrees.proofs.Numbers.{numbered-count, numbered-first, numbered-later}
 use Rattle.subtrees.proofs.Orders.{found-node, foundIn, in-reverse, reverse-in}
-use Rattle.subtrees.proofs.Suffixes.{Passed, children-there, nodes-end, nodesFrom, read-next, read-whole}
+use Rattle.subtrees.proofs.Suffixes.{Passed, children-there, node-byte, nodes-end, nodesFrom, read-next}
+use Rattle.subtrees.proofs.Suffixes.{read-whole}
 use Rattle.trees.proofs.Trees.{cons-tree}
 use Rattle.lists.specs.Positions.{byteFrom}
 
@@ -34,7 +35,8 @@ arityBefore s i = childrenAt s (i - 1)
 abbrev pub foundFrom : List ℕ → ℕ → List Tree
 foundFrom s i = foundIn (readTrees (nodesFrom s i))
 
-pub record Collecting (s run : List ℕ) (many i top found : ℕ) (stack l r c q : List ℕ) : Type 0 where
+-- bs are the states of the nodes of the tree that s lists
+pub record Collecting (s bs : List ℕ) (i top found : ℕ) (stack l r c q : List ℕ) : Type 0 where
   pub left : i ≤ nodesIn s
   pub below : i ≤ top
   pub within : top ≤ maxNodes
@@ -43,7 +45,7 @@ pub record Collecting (s run : List ℕ) (many i top found : ℕ) (stack l r c q
   pub sized : Sized l r c q
   pub numbers : Among found (drop top stack)
   pub trees : readTrees (nodesFrom s i) ≡ treesNumbered (foundFrom s i) (drop top stack)
-  pub stored : (A : Automaton) → A .transitions ≡ transitionsIn run many → Stored A (foundFrom s i) found l r c q
+  pub stored : (A : Automaton) → HoldsStates A (readTree s) bs → Stored A (foundFrom s i) found l r c q
 
 nothing-stored : (A : Automaton) (l r c q : List ℕ) → Stored A [] 0 l r c q
 nothing-stored A l r c q = record {
@@ -58,9 +60,9 @@ nothing-stored A l r c q = record {
   state = λ j h. absurd (omega arith);
 }
 
-pub collecting-start : {s : List ℕ} → Passed s → (run : List ℕ) (many : ℕ) {l r c q : List ℕ} → Sized l r c q →
-    {stack : List ℕ} → length stack ≡ maxNodes → Collecting s run many (nodesIn s) maxNodes 0 stack l r c q
-collecting-start {s} ok run many {l} {r} {c} {q} sz {stack} e =
+pub collecting-start : {s : List ℕ} → Passed s → (bs : List ℕ) {l r c q : List ℕ} → Sized l r c q →
+    {stack : List ℕ} → length stack ≡ maxNodes → Collecting s bs (nodesIn s) maxNodes 0 stack l r c q
+collecting-start {s} ok bs {l} {r} {c} {q} sz {stack} e =
     let z = ap readTrees (nodes-end ok) in
     let d = drop-of-length-le stack {i = maxNodes} (omega arith) in
     record {
@@ -74,10 +76,6 @@ collecting-start {s} ok run many {l} {r} {c} {q} sz {stack} e =
       trees = rw (d, z);
       stored = λ A h. rw z (nothing-stored A l r c q);
     }
-
--- the automaton of the run's transitions alone
-abbrev bare : List Transition → Automaton
-bare τs = record { classes = []; transitions = τs }
 
 popped-take : (s : List ℕ) (at k : ℕ) {r : List ℕ} → Filled (byteFrom s at) k r → k ≤ maxArity →
     at + k ≤ length s → take k r ≡ take k (drop at s)
@@ -107,13 +105,13 @@ drop-set s p v h =
     (let z : suc p ≡ p + 1 = omega arith in
     rw (getD-set-same s p v 0 h, z, drop-set-lt (p + 1) s p v (omega arith)))
 
-module _ {s run : List ℕ} {many i top found : ℕ} {stack l r c q : List ℕ}
-    (inv : Collecting s run many i top found stack l r c q) where
-  pub collecting-at : (j : ℕ) → i ≡ j → Collecting s run many j top found stack l r c q
-  collecting-at j e = subst (λ (n : ℕ). Collecting s run many n top found stack l r c q) e inv
+module _ {s bs : List ℕ} {i top found : ℕ} {stack l r c q : List ℕ}
+    (inv : Collecting s bs i top found stack l r c q) where
+  pub collecting-at : (j : ℕ) → i ≡ j → Collecting s bs j top found stack l r c q
+  collecting-at j e = subst (λ (n : ℕ). Collecting s bs n top found stack l r c q) e inv
 
-  found-length : length (foundFrom s i) ≡ found
-  found-length = inv .stored (bare (transitionsIn run many)) refl .size
+  found-length : Held (readTree s) bs → length (foundFrom s i) ≡ found
+  found-length held = inv .stored (held .0) (held .1) .size
 
   stack-length : length (drop top stack) ≡ maxNodes - top
   stack-length = length-drop top stack ∙ ap (λ n. n - top) (inv .stacked)
@@ -122,9 +120,9 @@ module _ {s run : List ℕ} {many i top found : ℕ} {stack l r c q : List ℕ}
   trees-count = ap count (inv .trees) ∙ numbered-count (foundFrom s i) (drop top stack) ∙ stack-length
 
 -- the node before those that are done
-module _ {s run : List ℕ} {many i top found : ℕ} {stack l r c q : List ℕ} (ok : Passed s)
-    (done : Collecting s run many i top found stack l r c q) (more : 0 < i) where
-  inv : Collecting s run many (i - 1 + 1) top found stack l r c q
+module _ {s bs : List ℕ} {i top found : ℕ} {stack l r c q : List ℕ} (ok : Passed s)
+    (done : Collecting s bs i top found stack l r c q) (more : 0 < i) where
+  inv : Collecting s bs (i - 1 + 1) top found stack l r c q
   inv = collecting-at done (i - 1 + 1) (omega arith)
 
   pub pop-room : top + arityBefore s i ≤ maxNodes
@@ -151,7 +149,9 @@ module _ {s run : List ℕ} {many i top found : ℕ} {stack l r c q : List ℕ} 
 
     -- the node's number takes the place of its children's
     module _ {m num : ℕ} (given : NumberGiven found m num) {l' r' c' q' : List ℕ} (sz : Sized l' r' c' q')
-        (holds : (A : Automaton) (ts : List Tree) → A .transitions ≡ transitionsIn run many →
+        (held : Held (readTree s) bs)
+        (holds : (A : Automaton) (ts : List Tree) →
+        getD bs (i - 1) 0 ≡ run A (node (labelBefore s i) (treesNumbered ts (take (arityBefore s i) ns))) →
         Stored A ts found l r c q →
         Entered A ts (node (labelBefore s i) (treesNumbered ts (take (arityBefore s i) ns))) m num l' r' c' q') where
       abbrev place : ℕ
@@ -170,6 +170,16 @@ module _ {s run : List ℕ} {many i top found : ℕ} {stack l r c q : List ℕ} 
           (popped-take stack top (arityBefore s i) filled pop-narrow (omega (arith, pop-room, inv .stacked))) ∙
           sym (numbered-first before (arityBefore s i) (drop top stack)) ∙
           ap (firstTrees (arityBefore s i)) (sym (inv .trees))
+
+      -- the node's byte is the state that it runs to
+      entrant-state : (A : Automaton) → HoldsStates A (readTree s) bs → getD bs (i - 1) 0 ≡ run A entrant
+      entrant-state A h =
+          node-byte ok h (i - 1) (omega (arith, inv .left)) ∙
+          ap (λ f. run A (firstTree f)) (read-next ok (i - 1) (omega (arith, inv .left))) ∙
+          ap (λ f. run A (node (labelBefore s i) f)) (sym children)
+
+      entered : (A : Automaton) → HoldsStates A (readTree s) bs → Entered A before entrant m num l' r' c' q'
+      entered A h = holds A before (entrant-state A h) (inv .stored A h)
 
       found-next : foundFrom s (i - 1) ≡ addLast before entrant
       found-next =
@@ -192,14 +202,11 @@ module _ {s run : List ℕ} {many i top found : ℕ} {stack l r c q : List ℕ} 
           read-next ok (i - 1) (omega (arith, inv .left)) ∙ (λ i. cons (first i) (rest i)) ∙
           sym (ap₂ treesNumbered found-next dropped)
         where
-          A : Automaton
-          A = bare (transitionsIn run many)
-
           first : node (labelBefore s i) (firstTrees (arityBefore s i) (readTrees (nodesFrom s (i - 1 + 1)))) ≡
               treeNumbered (addLast before entrant) num
           first =
               ap (node (labelBefore s i)) (sym children) ∙
-              sym (holds A before refl (inv .stored A refl) .numbered)
+              sym (entered (held .0) (held .1) .numbered)
 
           rest : laterTrees (arityBefore s i) (readTrees (nodesFrom s (i - 1 + 1))) ≡
               treesNumbered (addLast before entrant) (drop (arityBefore s i) (drop top stack))
@@ -207,9 +214,9 @@ module _ {s run : List ℕ} {many i top found : ℕ} {stack l r c q : List ℕ} 
               ap (laterTrees (arityBefore s i)) (inv .trees) ∙
               numbered-later before (arityBefore s i) (drop top stack) ∙
               sym (numbered-last before entrant (drop (arityBefore s i) (drop top stack))
-              (rw (found-length inv) later))
+              (rw (found-length inv held) later))
 
-      pub collecting-next : Collecting s run many (i - 1) place m (set stack place num) l' r' c' q'
+      pub collecting-next : Collecting s bs (i - 1) place m (set stack place num) l' r' c' q'
       collecting-next = record {
         left = omega (arith, inv .left);
         below = omega (arith, inv .below);
@@ -223,16 +230,16 @@ module _ {s run : List ℕ} {many i top found : ℕ} {stack l r c q : List ℕ} 
         );
         trees = trees-next;
         stored = λ A h. subst (λ (ts : List Tree). Stored A ts m l' r' c' q') (sym found-next)
-            (holds A before h (inv .stored A h) .stored);
+            (entered A h .stored);
       }
 
 -- no node is left
-module _ {s run : List ℕ} {many top found : ℕ} {stack l r c q : List ℕ} (ok : Passed s)
-    (inv : Collecting s run many 0 top found stack l r c q) where
+module _ {s bs : List ℕ} {top found : ℕ} {stack l r c q : List ℕ} (ok : Passed s)
+    (inv : Collecting s bs 0 top found stack l r c q) where
   pub end-top : top < maxNodes
   end-top = omega (arith, trees-count inv, ap count (read-whole ok))
 
-  pub collecting-end : (A : Automaton) → A .transitions ≡ transitionsIn run many →
+  pub collecting-end : (A : Automaton) → HoldsStates A (readTree s) bs →
       Lists A (readTree s) (bottomUp (readTree s)) (record {
         count = found;
         root = getD stack top 0;

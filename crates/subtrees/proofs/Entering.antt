@@ -1,45 +1,32 @@
 -- A node among stored trees: it equals one of them exactly if label and child numbers do, and if it is
 -- none of them the arrays hold it after them.
 use mathlib.Core.Bool.{false, false≢true, true}
-use mathlib.Core.List.{List, [], _++_, _∷_, map}
+use mathlib.Core.List.{List, [], _++_, _∷_}
 use mathlib.Core.Logic.{inl, inr}
 use mathlib.Core.Path.{_∙_, _≡_, ap, subst, sym}
 use Prim.Native.Nat.{_*_, _+_, _-_, _<_, _≤_, ℕ}
 use native.Mathlib.Nat.{zero-add}
 use native.Mathlib.Omega.{arith}
 use lib.Dec.{eqb}
-use lib.ListN.{List·getD-append, getD, length, length-append, length-map, length-set, set, take}
+use lib.ListN.{List·getD-append, getD, length, length-append, length-set, set, take}
 use lib.Seq.{getD-at, getD-set-other, getD-set-same, getD-take, length-take-le}
 use borrow.Author.Count.{below-more}
 use borrow.Author.Tests.{eq-eqb, eqb-true}
-use Rattle.automata.specs.Automaton.{Automaton, Transition, run, runs}
+use Rattle.automata.specs.Automaton.{Automaton, run}
 use Rattle.format.specs.Format.{maxArity, maxLabel, maxNodes}
 use Rattle.lists.specs.Positions.{upFrom}
 use Rattle.lists.specs.Tests.{_∈_, every}
-use Rattle.subtrees.specs.Steps.{Children, ChildrenStored, Entered, Filled, First, Sized, addLast, childState}
-use Rattle.subtrees.specs.Steps.{sameChild, sameNode, stateFrom}
+use Rattle.subtrees.specs.Steps.{Children, ChildrenStored, Entered, First, Sized, addLast, sameChild}
+use Rattle.subtrees.specs.Steps.{sameNode}
 use Rattle.subtrees.specs.Store.{Stored, childAt, childNumbers, noTree, treeNumbered, treesNumbered}
 use Rattle.trees.specs.Tree.{Tree, node}
 use Rattle.lists.proofs.Distinct.{append-distinct}
-use Rattle.lists.proofs.Intervals.{at-every, every-at, getD-in, getD-map, getD-tabulated, in-getD, length-tabulated}
+use Rattle.lists.proofs.Intervals.{at-every, every-at, getD-in, getD-tabulated, in-getD, length-tabulated}
 use Rattle.lists.proofs.Intervals.{tabulated}
 use Rattle.lists.proofs.Tests.{and-both, and-left, and-right}
-use Rattle.subtrees.proofs.Arrays.{filled-take}
-use Rattle.subtrees.proofs.Numbers.{Among, index-among, numbered-append, numbered-inj, numbered-runs}
-use Rattle.subtrees.proofs.Numbers.{stateNumbered}
+use Rattle.subtrees.proofs.Numbers.{Among, index-among, numbered-append, numbered-inj}
 use Rattle.subtrees.proofs.Orders.{last-new, last-old}
 use Rattle.trees.proofs.Trees.{node-children, node-label}
-
--- numbers among the first n are among more
-pub children-more : {ns : List ℕ} {k n : ℕ} → Children ns k n → (i m : ℕ) → i ≡ k → n ≤ m → Children ns i m
-children-more {ns} {k} {n} ch i m e h =
-    subst (λ (j : ℕ). Children ns j m) (sym e)
-    (record {
-      narrow = ch .narrow;
-      some = ch .some;
-      known = λ j b. omega (arith, ch .known j b);
-      beyond = ch .beyond;
-    })
 
 -- stores keep the lengths
 pub sized-new : {l r c q : List ℕ} → Sized l r c q → (n a k v : ℕ) {ns c' : List ℕ} → ChildrenStored c n ns c' →
@@ -152,22 +139,6 @@ module _ {A : Automaton} {ts : List Tree} {n : ℕ} {l r c q : List ℕ} (st : S
     enter-missing {i} f h m =
         let (j, b, e) = in-getD ts entrant noTree m in
         other-tree j (omega (arith, st .size)) (f .before j (omega (arith, st .size))) (sym e)
-
-    -- the state that the transitions give is the one that the node runs to
-    pub entrant-state : {args : List ℕ} (τs : List Transition) → Filled (childState q ns) k args →
-        A .transitions ≡ τs → stateFrom τs a (take k args) ≡ run A entrant
-    entrant-state {args} τs f e = rw (← e, states)
-      where
-        size : length (map (stateNumbered q) (take k ns)) ≡ k
-        size = length-map (take k ns) (stateNumbered q) ∙ children-length ch eight
-
-        states : take k args ≡ runs A (treesNumbered ts (take k ns))
-        states =
-            filled-take f (ch .narrow) ∙
-            tabulated (childState q ns) 0 k 0 (map (stateNumbered q) (take k ns)) size
-            (λ i b. ap (childState q ns) (zero-add i) ∙ ap (stateNumbered q) (sym (getD-take k ns i 0 b)) ∙
-            sym (getD-map (stateNumbered q) (take k ns) i 0 0 (omega (arith, children-length ch eight)))) ∙
-            numbered-runs A ts q (λ j h. st .state j (omega (arith, st .size))) (take k ns) known-among
 
     module _ (sz : Sized l r c q) (room : n < maxNodes) (small : a ≤ maxLabel) {c' : List ℕ} (cs : ChildrenStored c n ns c') {v : ℕ}
         (right : v ≡ run A entrant) (missing : entrant ∈ ts → ⊥) where

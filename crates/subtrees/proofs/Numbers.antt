@@ -1,11 +1,10 @@
 -- Trees by their numbers in a list: different numbers are different trees if the list has no duplicates, and
 -- a longer list gives the same trees.
-use mathlib.Core.List.{List, [], _++_, _∷_, map}
+use mathlib.Core.List.{List, [], _++_, _∷_}
 use mathlib.Core.Path.{_≡_, ap, refl}
 use Prim.Native.Nat.{_-_, _<_, _≤_, suc, zero, ℕ}
 use native.Mathlib.Omega.{arith}
 use lib.ListN.{List·getD-append, drop, getD, length, take}
-use Rattle.automata.specs.Automaton.{Automaton, run, runs}
 use Rattle.lists.specs.Tests.{Distinct}
 use Rattle.subtrees.specs.Store.{noTree, treeNumbered, treesNumbered}
 use Rattle.trees.specs.Listing.{firstTrees, laterTrees}
@@ -90,18 +89,3 @@ numbered-inj ts d (n ∷ ns) (m ∷ ms) v w e =
     let p : n ≡ m = omega (arith, v .0, w .0) in
     let q = numbered-inj ts d ns ms (v .1) (w .1) (cons-forest _ _ _ _ e) in
     λ i. p i ∷ q i
-
--- ---- the states of the trees of a list of numbers
-
--- the state of a tree by its number
-abbrev pub stateNumbered : List ℕ → ℕ → ℕ
-stateNumbered q n = getD q (n - 1) 0
-
-pub numbered-runs : (A : Automaton) (ts : List Tree) (q : List ℕ) →
-    ((j : ℕ) → j < length ts → getD q j 0 ≡ run A (getD ts j noTree)) →
-    (ns : List ℕ) → Among (length ts) ns → map (stateNumbered q) ns ≡ runs A (treesNumbered ts ns)
-numbered-runs A ts q h [] w = refl
-numbered-runs A ts q h (n ∷ ns) w =
-    let p = h (n - 1) (omega (arith, w .0)) in
-    let r = numbered-runs A ts q h ns (w .1) in
-    λ i. p i ∷ r i

@@ -5,20 +5,24 @@ use mathlib.Core.Path.{_∙_, _≡_, ap, refl, sym}
 use Prim.Native.Nat.{_%_, _*_, _+_, _<_, _≤_, suc, zero, ℕ}
 use native.Mathlib.Omega.{arith}
 use lib.Dec.{leb}
-use lib.ListN.{drop, drop-of-length-le, length}
+use lib.ListN.{drop, drop-of-length-le, getD, length}
 use lib.Seq.{drop-cons}
 use borrow.Author.Tests.{eqb-true, leb-true}
+use Rattle.automata.specs.Automaton.{Automaton, run}
 use Rattle.automata.specs.Minimal.{first}
 use Rattle.format.specs.Format.{labelBytes, maxArity, maxListing, maxNodes, nodeBytes}
+use Rattle.running.specs.Running.{HoldsStates}
 use Rattle.trees.specs.Listing.{allNarrow, childrenAt, firstTree, firstTrees, labelAt, laterTrees}
 use Rattle.trees.specs.Listing.{listingConditions, listingRefusal, listsTrees, narrow, nodesIn, oneTree, readTree}
 use Rattle.trees.specs.Listing.{readTrees, wholeNodes}
 use Rattle.trees.specs.Tree.{Forest, cons, count, nil, node}
+use Rattle.automata.proofs.NodeStates.{node-state}
 use Rattle.lists.proofs.Conditions.{AllHold, unbroken-hold}
 use Rattle.lists.proofs.Intervals.{every-at}
 use Rattle.lists.proofs.Tests.{and-left, and-right}
-use Rattle.trees.proofs.Listing.{listings-read}
+use Rattle.trees.proofs.Listing.{listing-read, listings-read}
 use Rattle.trees.proofs.ListingRefusal.{listing-from-one}
+use Rattle.trees.proofs.Preorder.{preorder-bytes}
 
 -- what 1 to 4 say of a listing, by node
 pub record Passed (s : List ℕ) : Type 0 where
@@ -100,3 +104,13 @@ module _ {s : List ℕ} (ok : Passed s) where
   -- at the start there is one tree
   pub read-whole : readTrees (nodesFrom s 0) ≡ cons (readTree s) nil
   read-whole = one-forest (readTrees s) (listings-read s 1 (ok .lists) .1)
+
+  -- the byte of node i is the state of the tree there
+  pub node-byte : {A : Automaton} {bs : List ℕ} → HoldsStates A (readTree s) bs → (i : ℕ) → i < nodesIn s →
+      getD bs i 0 ≡ run A (readTree (nodesFrom s i))
+  unfolding oneTree
+  node-byte {A} h i l =
+      let whole = listing-read s (ok .lists) in
+      let nodes = preorder-bytes (readTree s) in
+      h .each i ∙ node-state A (readTree s) i (omega (arith, ap length whole, ok .even))
+      ∙ ap (λ b. run A (readTree (drop (nodeBytes * i) b))) whole

@@ -1,15 +1,15 @@
--- What the functions of the pass say: eight bytes filled, a node looked for and stored, the state of a node.
+-- What the functions of the pass say: eight bytes filled, a node looked for and stored.
 use mathlib.Core.Bool.{Bool, _&&_, cond, false, true}
 use mathlib.Core.List.{List, [], _++_, _∷_}
 use mathlib.Core.Path.{_≡_}
-use Prim.Native.Nat.{_*_, _+_, _-_, _<_, _≤_, ℕ}
+use Prim.Native.Nat.{_*_, _+_, _<_, _≤_, ℕ}
 use lib.Dec.{eqb}
 use lib.ListN.{getD, length}
-use Rattle.automata.specs.Automaton.{Automaton, Transition, lookup}
+use Rattle.automata.specs.Automaton.{Automaton}
 use Rattle.format.specs.Format.{maxArity, maxNodes}
 use Rattle.lists.specs.Closure.{elem}
 use Rattle.lists.specs.Positions.{upFrom}
-use Rattle.lists.specs.Tests.{any, every}
+use Rattle.lists.specs.Tests.{every}
 use Rattle.subtrees.specs.Store.{Stored, childAt, treeNumbered}
 use Rattle.trees.specs.Tree.{Tree, eqTree}
 
@@ -25,10 +25,6 @@ pub record Filled (f : ℕ → ℕ) (n : ℕ) (r : List ℕ) : Type 0 where
   pub size : length r ≡ maxArity
   pub filled : (k : ℕ) → k < n → getD r k 0 ≡ f k
   pub beyond : (k : ℕ) → n ≤ k → getD r k 0 ≡ 0
-
--- the state of child k, where ns has the children's numbers
-abbrev pub childState : List ℕ → List ℕ → ℕ → ℕ
-childState q ns k = getD q (getD ns k 0 - 1) 0
 
 -- ns has c child numbers, of n, and zeros after them
 pub record Children (ns : List ℕ) (c n : ℕ) : Type 0 where
@@ -50,10 +46,6 @@ pub record First (p : ℕ → Bool) (n i : ℕ) : Type 0 where
   pub within : i ≤ n
   pub before : (j : ℕ) → j < i → p j ≡ false
   pub there : i < n → p i ≡ true
-
--- the state of a node from the transitions, its label and its children's states
-abbrev pub stateFrom : List Transition → ℕ → List ℕ → ℕ
-stateFrom τs a qs = cond (any (eqb 0) qs) 0 (lookup a qs τs)
 
 -- the eight child numbers of index j are those of ns, and what stands before them is as it was
 pub record ChildrenStored (c : List ℕ) (j : ℕ) (ns c' : List ℕ) : Type 0 where

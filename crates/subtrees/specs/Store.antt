@@ -10,6 +10,7 @@ use Rattle.automata.specs.Change.{subtrees}
 use Rattle.format.specs.Format.{maxArity, maxLabel, maxNodes}
 use Rattle.lists.specs.Positions.{upFrom}
 use Rattle.lists.specs.Tests.{Distinct, _∈_}
+use Rattle.running.specs.Running.{HoldsStates}
 use Rattle.subtrees.specs.declared.Subtrees.{Subtrees}
 use Rattle.trees.specs.Tree.{Forest, Tree, cons, nil, node}
 
@@ -53,6 +54,10 @@ pub record Stored (A : Automaton) (ts : List Tree) (n : ℕ) (l r c q : List ℕ
   pub child-before : (j k : ℕ) → j < n → k < getD r j 0 → childAt c j k ≤ j
   pub child-beyond : (j k : ℕ) → j < n → getD r j 0 ≤ k → k < maxArity → childAt c j k ≡ 0
   pub state : (j : ℕ) → j < n → getD q j 0 ≡ run A (getD ts j noTree)
+
+-- the bytes are the states of a tree's nodes in some automaton
+abbrev pub Held : Tree → List ℕ → Type 0
+Held t bs = (A : Automaton) × HoldsStates A t bs
 
 -- s has the distinct subtrees ts of t, with t's own number
 pub record Lists (A : Automaton) (t : Tree) (ts : List Tree) (s : Subtrees) : Type 0 where

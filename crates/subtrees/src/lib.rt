@@ -1,23 +1,19 @@
-// The distinct subtrees of a listed tree, and the state that each runs to. The nodes are gone through from the
-// last to the first: a node's children are on top of a stack of numbers, its own number takes their place.
+// The distinct subtrees of a listed tree, each with the state of its nodes. The nodes are gone through from the last
+// to the first: a node's children are on top of a stack of numbers, its own number takes their place.
 ghost use mathlib.Core.Path.{_≡_};
 ghost use mathlib.Core.List.{List};
 ghost use Prim.Native.Nat.{_*_, _+_, _<_, _≤_};
-ghost use lib.Dec.{eqb};
 ghost use lib.ListN.{length, take};
-ghost use Rattle.automata.specs.Automaton.{Automaton, lookup};
-ghost use Rattle.fields.specs.Fields.{HoldsTransitions};
+ghost use Rattle.automata.specs.Automaton.{Automaton, run};
 ghost use Rattle.format.specs.Format.{maxArity, maxLabel, maxNodes};
 ghost use Rattle.lists.specs.Positions.{byteFrom, upFrom};
-ghost use Rattle.lists.specs.Tests.{any, every};
-ghost use Rattle.table.specs.Layout.{transitionsIn};
+ghost use Rattle.lists.specs.Tests.{every};
+ghost use Rattle.running.specs.Running.{HoldsStates};
 ghost use Rattle.trees.specs.Listing.{listingRefusal, readTree};
 ghost use Rattle.trees.specs.Tree.{Tree, node};
 ghost use Rattle.subtrees.specs.Steps.{Children, ChildrenStored, Entered, Filled, First, NumberGiven, Sized};
-ghost use Rattle.subtrees.specs.Steps.{childState, sameChild, sameNode, stateFrom};
-ghost use Rattle.subtrees.specs.Store.{Lists, Stored, bottomUp, treesNumbered};
-use fields::Found;
-use fields::find;
+ghost use Rattle.subtrees.specs.Steps.{sameChild, sameNode};
+ghost use Rattle.subtrees.specs.Store.{Held, Lists, Stored, bottomUp, treesNumbered};
 use format::MAX_ARITY;
 use format::MAX_NODES;
 use format::NODE_BYTES;
@@ -128,60 +124,6 @@ fn search(
     found
 }
 
-// The states of the children with these numbers.
-fn child_states(states: &[u8; MAX_NODES], arity: usize, numbers: [u8; MAX_ARITY]) -> [u8; MAX_ARITY]
-    requires { ⌜ Children numbers arity maxNodes ⌝ }
-    ensures { λ r. ⌜ Filled (childState (now (states .entry)) numbers) arity r ⌝ }
-{
-    let mut args = [0u8; MAX_ARITY];
-    let mut k = 0;
-    while k < arity {
-        let n = wide(numbers[k]);
-        args[k] = states[n - 1];
-        k += 1;
-    }
-    args
-}
-
-// Whether a child has no state.
-fn some_none(arity: usize, args: [u8; MAX_ARITY]) -> bool
-    requires { ⌜ arity ≤ maxArity ⌝ }
-    ensures { λ r. ⌜ r ≡ any (eqb 0) (take arity args) ⌝ }
-{
-    let mut k = 0;
-    while k < arity {
-        if args[k] == 0 {
-            return true;
-        }
-        k += 1;
-    }
-    false
-}
-
-// The output of the first transition with this label and these arguments; 0 if there is none.
-fn output(transitions: &[u8], count: usize, label: u16, arity: usize, args: [u8; MAX_ARITY]) -> u8
-    requires { ⌜ HoldsTransitions (now transitions) count ⌝ }
-    requires { ⌜ arity ≤ maxArity ⌝ }
-    ensures { λ r. ⌜ r ≡ lookup label (take arity args) (transitionsIn (now (transitions .entry)) count) ⌝ }
-{
-    let Found::State(q) = find(transitions, count, label, arity, args) else {
-        return 0;
-    };
-    q
-}
-
-// The state of a node with this label whose children have these states.
-fn state(transitions: &[u8], count: usize, label: u16, arity: usize, args: [u8; MAX_ARITY]) -> u8
-    requires { ⌜ HoldsTransitions (now transitions) count ⌝ }
-    requires { ⌜ arity ≤ maxArity ⌝ }
-    ensures { λ r. ⌜ r ≡ stateFrom (transitionsIn (now (transitions .entry)) count) label (take arity args) ⌝ }
-{
-    if some_none(arity, args) {
-        return 0;
-    }
-    output(transitions, count, label, arity, args)
-}
-
 fn store_children(children: &mut [u8; CHILD_NUMBERS], j: usize, numbers: [u8; MAX_ARITY])
     requires { ⌜ length (now children) ≡ maxNodes * maxArity ⌝ }
     requires { ⌜ j < maxNodes ⌝ }
@@ -194,10 +136,9 @@ fn store_children(children: &mut [u8; CHILD_NUMBERS], j: usize, numbers: [u8; MA
     }
 }
 
-// The number of the subtree with this label and these children, which is stored if it was not found before.
+// The number of the subtree with this label and these children, which is stored with its state q if it was not found
+// before.
 fn enter(
-    transitions: &[u8],
-    count: usize,
     labels: &mut [u16; MAX_NODES],
     arities: &mut [u8; MAX_NODES],
     children: &mut [u8; CHILD_NUMBERS],
@@ -206,16 +147,15 @@ fn enter(
     label: u16,
     arity: u8,
     numbers: [u8; MAX_ARITY],
+    q: u8,
 ) -> Place
-    requires { ⌜ HoldsTransitions (now transitions) count ⌝ }
     requires { ⌜ Sized (now labels) (now arities) (now children) (now states) ⌝ }
     requires { ⌜ found < maxNodes ⌝ }
     requires { ⌜ label ≤ maxLabel ⌝ }
     requires { ⌜ Children numbers arity found ⌝ }
     ensures { λ r. ⌜ Sized (now (labels .exit)) (now (arities .exit)) (now (children .exit)) (now (states .exit)) ⌝ }
     ensures { λ r. ⌜ NumberGiven found (r .found) (r .number) ⌝ }
-    ensures { λ r. ⌜ ((A : Automaton) (ts : List Tree) → A .transitions ≡ transitionsIn (now
-        (transitions .entry)) count →
+    ensures { λ r. ⌜ ((A : Automaton) (ts : List Tree) → q ≡ run A (node label (treesNumbered ts (take arity numbers))) →
         Stored A ts found (now (labels .entry)) (now (arities .entry)) (now (children .entry)) (now (states .entry)) →
         Entered A ts (node label (treesNumbered ts (take arity numbers))) (r .found) (r .number)
         (now (labels .exit)) (now (arities .exit)) (now (children .exit)) (now (states .exit))) ⌝ }
@@ -228,9 +168,6 @@ fn enter(
             found: found,
         };
     }
-    let width = wide(arity);
-    let args = child_states(states, width, numbers);
-    let q = state(transitions, count, label, width, args);
     labels[found] = label;
     arities[found] = arity;
     store_children(children, found, numbers);
@@ -242,11 +179,11 @@ fn enter(
     }
 }
 
-// The distinct subtrees of the tree that is listed, and their states over the transitions.
-pub fn collect(tree: &[u8], transitions: &[u8], count: usize) -> Subtrees
+// The distinct subtrees of the tree that is listed, and their states, from those of the tree's nodes.
+pub fn collect(tree: &[u8], reached: &[u8; MAX_NODES]) -> Subtrees
     requires { ⌜ listingRefusal (now tree) ≡ 0 ⌝ }
-    requires { ⌜ HoldsTransitions (now transitions) count ⌝ }
-    ensures { λ r. ⌜ ((A : Automaton) → A .transitions ≡ transitionsIn (now (transitions .entry)) count →
+    requires { ⌜ Held (readTree (now tree)) (now reached) ⌝ }
+    ensures { λ r. ⌜ ((A : Automaton) → HoldsStates A (readTree (now (tree .entry))) (now (reached .entry)) →
         Lists A (readTree (now (tree .entry))) (bottomUp (readTree (now (tree .entry)))) r) ⌝ }
 {
     let mut labels = [0u16; MAX_NODES];
@@ -264,8 +201,6 @@ pub fn collect(tree: &[u8], transitions: &[u8], count: usize) -> Subtrees
         let width = wide(arity);
         let numbers = popped(&stack, top, width);
         let place = enter(
-            transitions,
-            count,
             &mut labels,
             &mut arities,
             &mut children,
@@ -274,6 +209,7 @@ pub fn collect(tree: &[u8], transitions: &[u8], count: usize) -> Subtrees
             label,
             arity,
             numbers,
+            reached[i],
         );
         found = place.found;
         top = top + width - 1;

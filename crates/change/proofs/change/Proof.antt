@@ -27,7 +27,7 @@ returns c =
     let start = at-work .before .before .before .before .before .before in
     cleared-outcome (changeOf (start .args .inserting) (readTree (start .args .tree .now))) (at-work .work
     .ensures) (start .args .scratch .now) (at-clear .clear .ensures ∙ ap (λ k. replicate k 0) (at-work .work
-    .kept .1 .1 .0))
+    .kept .1 .1 .1 .0))
 
 pub change-spec : {M : Type 1} → statement M
 change-spec = tie.close (tie.spec work-requires clear-requires same-length same-length-2 returns)

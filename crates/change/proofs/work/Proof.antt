@@ -4,8 +4,8 @@ use native.Mathlib.Omega.{arith}
 use Rattle.products.proofs.Joining.{lists-nodes}
 use Rattle.table.specs.Layout.{decode}
 use Rattle.trees.specs.Listing.{readTree}
-use Rattle.change.proofs.Inputs.{given, given-table, passed-size}
-use Rattle.change.proofs.Answering.{given-16, given-made, given-view, given-holding, made-few}
+use Rattle.change.proofs.Inputs.{given, passed-size}
+use Rattle.change.proofs.Answering.{given-16, given-holding, given-made, given-view, made-few}
 use borrow.Author.Needs.{needs}
 use Rattle.change.proofs.work.Statement.{statement}
 use Rattle.change.proofs.work.Tie as tie
@@ -13,7 +13,7 @@ use Rattle.change.proofs.work.Tie as tie
 slice-read-wide : tie.Need-slice-read-wide
 slice-read-wide c =
     let start = c .before .before .before .before in
-    omega (arith, (passed-size (start .args .table .now) (start .pre .1 .0)))
+    omega (arith, passed-size (start .args .table .now) (start .pre .1 .1 .0))
 
 wide-requires : tie.Need-wide-requires
 wide-requires c κs = search needs
@@ -21,58 +21,39 @@ wide-requires c κs = search needs
 transition-count-requires : tie.Need-transition-count-requires
 transition-count-requires c κs =
     let start = c .before .before .before .before .before .before in
-    (passed-size (start .args .table .now) (start .pre .1 .0))
-
-sub-collect : tie.Need-sub-collect
-sub-collect c =
-    let start = c .before .before .before .before .before .before .before in
-    omega (arith, (passed-size (start .args .table .now) (start .pre .1 .0)))
-
-part-collect-start : tie.Need-part-collect-start
-part-collect-start c =
-    let start = c .before .before .before .before .before .before .before .before in
-    omega (arith, (passed-size (start .args .table .now) (start .pre .1 .0)))
-
-part-collect-end : tie.Need-part-collect-end
-part-collect-end c = search needs
+    passed-size (start .args .table .now) (start .pre .1 .1 .0)
 
 collect-requires : tie.Need-collect-requires
 collect-requires c κs =
-    let at-transition-count = c .before .before in
-    let at-wide = at-transition-count .before .before in
-    let start = at-wide .before .before .before .before .before in (
-      start .pre .0,
-      ((given-table (start .args .table .now) (start .pre .1 .0) (at-transition-count
-          .transition-count .result) (at-wide .wide .result) (at-transition-count .transition-count .ensures .0)
-          (at-wide .wide .ensures))) .over .runs,
-    )
+    let start = c .before .before .before .before .before .before .before in
+    (start .pre .0, (decode (start .args .table .now), start .pre .1 .0))
 
 wide-requires-2 : tie.Need-wide-requires-2
 wide-requires-2 c κs = search needs
 
 add-own : tie.Need-add-own
 add-own c =
-    let at-transition-count = c .before .before .before .before in
-    let at-wide = at-transition-count .before .before in
-    let at-shared-slice-known = at-wide .before .before .before .before in
-    let start = at-shared-slice-known .before in
-    let g = (given (start .args .tree .now) (start .args .table .now) (start .pre .0) (start .pre .1 .0) (λ
-    i. (at-shared-slice-known .shared-slice-known) .given i .fits) (at-transition-count .transition-count
-    .result) (at-wide .wide .result) (at-transition-count .transition-count .ensures .0) (at-wide .wide
-    .ensures) (c .before .collect .result) (c .before .collect .ensures)) in
+    let at-collect = c .before in
+    let at-count = at-collect .before in
+    let at-wide = at-count .before .before in
+    let known = at-wide .before .before .before .before in
+    let start = known .before in
+    let A = decode (start .args .table .now) in
+    let g = given (start .args .tree .now) (start .args .table .now) (start .pre .0) (start .pre .1 .1 .0)
+    (λ i. known .shared-slice-known .given i .fits) (at-count .transition-count .result) (at-wide .wide .result)
+    (at-count .transition-count .ensures .0) (at-wide .wide .ensures) (at-collect .collect .result)
+    (at-collect .collect .ensures A (start .pre .1 .0)) in
     omega (arith, g .table .few, c .wide2 .ensures, g .holds .lists .root-known, g .holds .lists .few)
 
 sub-product : tie.Need-sub-product
 sub-product c =
-    let start = c .before .before .before .before .before .before .before .before .before .before .before
-    .before in
-    omega (arith, (passed-size (start .args .table .now) (start .pre .1 .0)))
+    let start = c .before .before .before .before .before .before .before .before .before .before in
+    omega (arith, passed-size (start .args .table .now) (start .pre .1 .1 .0))
 
 part-product-start : tie.Need-part-product-start
 part-product-start c =
-    let start = c .before .before .before .before .before .before .before .before .before .before .before
-    .before .before in
-    omega (arith, (passed-size (start .args .table .now) (start .pre .1 .0)))
+    let start = c .before .before .before .before .before .before .before .before .before .before .before in
+    omega (arith, passed-size (start .args .table .now) (start .pre .1 .1 .0))
 
 part-product-end : tie.Need-part-product-end
 part-product-end c = search needs
@@ -80,15 +61,16 @@ part-product-end c = search needs
 product-requires : tie.Need-product-requires
 product-requires c κs =
     let at-collect = c .before .before .before .before .before in
-    let at-transition-count = at-collect .before .before .before in
-    let at-wide = at-transition-count .before .before in
-    let at-shared-slice-known = at-wide .before .before .before .before in
-    let start = at-shared-slice-known .before in
-    let g = (given (start .args .tree .now) (start .args .table .now) (start .pre .0) (start .pre .1 .0) (λ
-    i. (at-shared-slice-known .shared-slice-known) .given i .fits) (at-transition-count .transition-count
-    .result) (at-wide .wide .result) (at-transition-count .transition-count .ensures .0) (at-wide .wide
-    .ensures) (at-collect .collect .result) (at-collect .collect .ensures)) in
-    (g .table .over, (g .table .few, (lists-nodes (g .holds .lists), start .pre .1 .1)))
+    let at-count = at-collect .before in
+    let at-wide = at-count .before .before in
+    let known = at-wide .before .before .before .before in
+    let start = known .before in
+    let A = decode (start .args .table .now) in
+    let g = given (start .args .tree .now) (start .args .table .now) (start .pre .0) (start .pre .1 .1 .0)
+    (λ i. known .shared-slice-known .given i .fits) (at-count .transition-count .result) (at-wide .wide .result)
+    (at-count .transition-count .ensures .0) (at-wide .wide .ensures) (at-collect .collect .result)
+    (at-collect .collect .ensures A (start .pre .1 .0)) in
+    (g .table .over, (g .table .few, (lists-nodes (g .holds .lists), start .pre .1 .1 .1)))
 
 enum-known-made : tie.Need-enum-known-made
 enum-known-made c = search needs
@@ -105,48 +87,49 @@ same-length-2 c = search needs
 returns : tie.Need-returns
 returns c =
     let at-product = c .before .before .before .before in
-    let at-collect = at-product .before .before .before .before .before .before in
-    let at-transition-count = at-collect .before .before .before in
-    let at-wide = at-transition-count .before .before in
-    let at-shared-slice-known = at-wide .before .before .before .before in
-    let start = at-shared-slice-known .before in
-    let g = (given (start .args .tree .now) (start .args .table .now) (start .pre .0) (start .pre .1 .0) (λ
-    i. (at-shared-slice-known .shared-slice-known) .given i .fits) (at-transition-count .transition-count
-    .result) (at-wide .wide .result) (at-transition-count .transition-count .ensures .0) (at-wide .wide
-    .ensures) (at-collect .collect .result) (at-collect .collect .ensures)) in
-    given-16 g (at-product .product .last .1 .1 .1 .1 .0) (at-product .product .result) (at-product .product
-    .ensures (decode (start .args .table .now)) (readTree (start .args .tree .now)) (g .holds)) (c
-    .enum-told .given .1) (start .args .inserting)
+    let at-collect = c .before .before .before .before .before .before .before .before .before .before in
+    let at-count = at-collect .before in
+    let at-wide = at-count .before .before in
+    let known = at-wide .before .before .before .before in
+    let start = known .before in
+    let A = decode (start .args .table .now) in
+    let g = given (start .args .tree .now) (start .args .table .now) (start .pre .0) (start .pre .1 .1 .0)
+    (λ i. known .shared-slice-known .given i .fits) (at-count .transition-count .result) (at-wide .wide .result)
+    (at-count .transition-count .ensures .0) (at-wide .wide .ensures) (at-collect .collect .result)
+    (at-collect .collect .ensures A (start .pre .1 .0)) in
+    given-16 g (at-product .product .last .1 .1 .1 .1 .0) (at-product .product .result)
+    (at-product .product .ensures A (readTree (start .args .tree .now)) (g .holds)) (c .enum-told .given .1)
+    (start .args .inserting)
 
 pair-classes-requires : tie.Need-pair-classes-requires
 pair-classes-requires c κs =
-    let at-collect = c .before .before .before .before .before .before .before .before .before .before .before
-    .before .before in
-    let at-transition-count = at-collect .before .before .before in
-    let at-wide = at-transition-count .before .before in
-    let at-shared-slice-known = at-wide .before .before .before .before in
-    let start = at-shared-slice-known .before in
-    let g = (given (start .args .tree .now) (start .args .table .now) (start .pre .0) (start .pre .1 .0) (λ
-    i. (at-shared-slice-known .shared-slice-known) .given i .fits) (at-transition-count .transition-count
-    .result) (at-wide .wide .result) (at-transition-count .transition-count .ensures .0) (at-wide .wide
-    .ensures) (at-collect .collect .result) (at-collect .collect .ensures)) in
-    ((passed-size (start .args .table .now) (start .pre .1 .0)), (g .table .few, g .holds .lists .few))
+    let at-collect = c .before .before .before .before .before .before .before .before .before .before .before .before .before in
+    let at-count = at-collect .before in
+    let at-wide = at-count .before .before in
+    let known = at-wide .before .before .before .before in
+    let start = known .before in
+    let A = decode (start .args .table .now) in
+    let g = given (start .args .tree .now) (start .args .table .now) (start .pre .0) (start .pre .1 .1 .0)
+    (λ i. known .shared-slice-known .given i .fits) (at-count .transition-count .result) (at-wide .wide .result)
+    (at-count .transition-count .ensures .0) (at-wide .wide .ensures) (at-collect .collect .result)
+    (at-collect .collect .ensures A (start .pre .1 .0)) in
+    (passed-size (start .args .table .now) (start .pre .1 .1 .0), (g .table .few, g .holds .lists .few))
 
 slice-aggregate-minimize : tie.Need-slice-aggregate-minimize
 slice-aggregate-minimize c = search needs
 
 add-minimize : tie.Need-add-minimize
 add-minimize c =
-    let at-collect = c .before .before .before .before .before .before .before .before .before .before .before
-    .before .before .before .before .before in
-    let at-transition-count = at-collect .before .before .before in
-    let at-wide = at-transition-count .before .before in
-    let at-shared-slice-known = at-wide .before .before .before .before in
-    let start = at-shared-slice-known .before in
-    let g = (given (start .args .tree .now) (start .args .table .now) (start .pre .0) (start .pre .1 .0) (λ
-    i. (at-shared-slice-known .shared-slice-known) .given i .fits) (at-transition-count .transition-count
-    .result) (at-wide .wide .result) (at-transition-count .transition-count .ensures .0) (at-wide .wide
-    .ensures) (at-collect .collect .result) (at-collect .collect .ensures)) in
+    let at-collect = c .before .before .before .before .before .before .before .before .before .before .before .before .before .before .before .before in
+    let at-count = at-collect .before in
+    let at-wide = at-count .before .before in
+    let known = at-wide .before .before .before .before in
+    let start = known .before in
+    let A = decode (start .args .table .now) in
+    let g = given (start .args .tree .now) (start .args .table .now) (start .pre .0) (start .pre .1 .1 .0)
+    (λ i. known .shared-slice-known .given i .fits) (at-count .transition-count .result) (at-wide .wide .result)
+    (at-count .transition-count .ensures .0) (at-wide .wide .ensures) (at-collect .collect .result)
+    (at-collect .collect .ensures A (start .pre .1 .0)) in
     omega (arith, g .table .few, g .holds .lists .few)
 
 minimize-requires : tie.Need-minimize-requires
@@ -156,19 +139,18 @@ minimize-requires c κs =
     let at-product = at-made .before .before .before .before in
     let at-wide2 = at-product .before .before .before .before .before in
     let at-collect = at-wide2 .before in
-    let at-transition-count = at-collect .before .before .before in
-    let at-wide = at-transition-count .before .before in
-    let at-shared-slice-known = at-wide .before .before .before .before in
-    let start = at-shared-slice-known .before in
-    let g = (given (start .args .tree .now) (start .args .table .now) (start .pre .0) (start .pre .1 .0) (λ
-    i. (at-shared-slice-known .shared-slice-known) .given i .fits) (at-transition-count .transition-count
-    .result) (at-wide .wide .result) (at-transition-count .transition-count .ensures .0) (at-wide .wide
-    .ensures) (at-collect .collect .result) (at-collect .collect .ensures)) in
-    let h = (given-holding g (at-product .product .last .1 .1 .1 .1 .0) (at-product .product .result)
-    (at-product .product .ensures (decode (start .args .table .now)) (readTree (start .args .tree .now)) (g
-    .holds)) (at-made .made .given .1)) in
-    let v = given-view g h (at-wide2 .wide2 .ensures) (start .args .inserting) (at-pair-classes .pair-classes
-    .ensures) in
+    let at-count = at-collect .before in
+    let at-wide = at-count .before .before in
+    let known = at-wide .before .before .before .before in
+    let start = known .before in
+    let A = decode (start .args .table .now) in
+    let g = given (start .args .tree .now) (start .args .table .now) (start .pre .0) (start .pre .1 .1 .0)
+    (λ i. known .shared-slice-known .given i .fits) (at-count .transition-count .result) (at-wide .wide .result)
+    (at-count .transition-count .ensures .0) (at-wide .wide .ensures) (at-collect .collect .result)
+    (at-collect .collect .ensures A (start .pre .1 .0)) in
+    let h = given-holding g (at-product .product .last .1 .1 .1 .1 .0) (at-product .product .result)
+    (at-product .product .ensures A (readTree (start .args .tree .now)) (g .holds)) (at-made .made .given .1) in
+    let v = given-view g h (at-wide2 .wide2 .ensures) (start .args .inserting) (at-pair-classes .pair-classes .ensures) in
     (v .0, (v .1, g .table .size))
 
 enum-known-left : tie.Need-enum-known-left
@@ -186,32 +168,36 @@ same-length-4 c = search needs
 returns-2 : tie.Need-returns-2
 returns-2 c =
     let at-minimize = c .before .before .before .before .before .before in
-    let at-pair-classes = at-minimize .before .before .before .before in
+    let at-pair-classes = c .before .before .before .before .before .before .before .before .before .before in
     let at-made = at-pair-classes .before .before .before .before in
     let at-product = at-made .before .before .before .before in
     let at-wide2 = at-product .before .before .before .before .before in
     let at-collect = at-wide2 .before in
-    let at-transition-count = at-collect .before .before .before in
-    let at-wide = at-transition-count .before .before in
-    let at-shared-slice-known = at-wide .before .before .before .before in
-    let start = at-shared-slice-known .before in
-    let g = (given (start .args .tree .now) (start .args .table .now) (start .pre .0) (start .pre .1 .0) (λ
-    i. (at-shared-slice-known .shared-slice-known) .given i .fits) (at-transition-count .transition-count
-    .result) (at-wide .wide .result) (at-transition-count .transition-count .ensures .0) (at-wide .wide
-    .ensures) (at-collect .collect .result) (at-collect .collect .ensures)) in
-    let h = (given-holding g (at-product .product .last .1 .1 .1 .1 .0) (at-product .product .result)
-    (at-product .product .ensures (decode (start .args .table .now)) (readTree (start .args .tree .now)) (g
-    .holds)) (at-made .made .given .1)) in
+    let at-count = at-collect .before in
+    let at-wide = at-count .before .before in
+    let known = at-wide .before .before .before .before in
+    let start = known .before in
+    let A = decode (start .args .table .now) in
+    let g = given (start .args .tree .now) (start .args .table .now) (start .pre .0) (start .pre .1 .1 .0)
+    (λ i. known .shared-slice-known .given i .fits) (at-count .transition-count .result) (at-wide .wide .result)
+    (at-count .transition-count .ensures .0) (at-wide .wide .ensures) (at-collect .collect .result)
+    (at-collect .collect .ensures A (start .pre .1 .0)) in
+    let h = given-holding g (at-product .product .last .1 .1 .1 .1 .0) (at-product .product .result)
+    (at-product .product .ensures A (readTree (start .args .tree .now)) (g .holds)) (at-made .made .given .1) in
     given-made g h (at-wide2 .wide2 .ensures) (start .args .inserting) (at-pair-classes .pair-classes .ensures)
     (at-minimize .minimize .ensures .0) (at-minimize .minimize .ensures .1 .0) TooBig (c .enum-told2 .given .1)
 
 cast-new-states : tie.Need-cast-new-states
 cast-new-states c =
-    let f = made-few (c .before .before .before .before .before .before .before .minimize .ensures .1 .1) (c .before .left .given .1) in omega (arith, f .0)
+    let at-minimize = c .before .before .before .before .before .before .before in
+    let few = made-few (at-minimize .minimize .ensures .1 .1) (c .before .left .given .1) in
+    omega (arith, few .0)
 
 cast-new-transitions : tie.Need-cast-new-transitions
 cast-new-transitions c =
-    let f = made-few (c .before .before .before .before .before .before .before .minimize .ensures .1 .1) (c .before .left .given .1) in omega (arith, f .1)
+    let at-minimize = c .before .before .before .before .before .before .before in
+    let few = made-few (at-minimize .minimize .ensures .1 .1) (c .before .left .given .1) in
+    omega (arith, few .1)
 
 same-length-5 : tie.Need-same-length-5
 same-length-5 c = search needs
@@ -222,25 +208,25 @@ same-length-6 c = search needs
 returns-3 : tie.Need-returns-3
 returns-3 c =
     let at-minimize = c .before .before .before .before .before .before .before in
-    let at-pair-classes = at-minimize .before .before .before .before in
+    let at-pair-classes = c .before .before .before .before .before .before .before .before .before .before .before in
     let at-made = at-pair-classes .before .before .before .before in
     let at-product = at-made .before .before .before .before in
     let at-wide2 = at-product .before .before .before .before .before in
     let at-collect = at-wide2 .before in
-    let at-transition-count = at-collect .before .before .before in
-    let at-wide = at-transition-count .before .before in
-    let at-shared-slice-known = at-wide .before .before .before .before in
-    let start = at-shared-slice-known .before in
-    let g = (given (start .args .tree .now) (start .args .table .now) (start .pre .0) (start .pre .1 .0) (λ
-    i. (at-shared-slice-known .shared-slice-known) .given i .fits) (at-transition-count .transition-count
-    .result) (at-wide .wide .result) (at-transition-count .transition-count .ensures .0) (at-wide .wide
-    .ensures) (at-collect .collect .result) (at-collect .collect .ensures)) in
-    let h = (given-holding g (at-product .product .last .1 .1 .1 .1 .0) (at-product .product .result)
-    (at-product .product .ensures (decode (start .args .table .now)) (readTree (start .args .tree .now)) (g
-    .holds)) (at-made .made .given .1)) in
+    let at-count = at-collect .before in
+    let at-wide = at-count .before .before in
+    let known = at-wide .before .before .before .before in
+    let start = known .before in
+    let A = decode (start .args .table .now) in
+    let g = given (start .args .tree .now) (start .args .table .now) (start .pre .0) (start .pre .1 .1 .0)
+    (λ i. known .shared-slice-known .given i .fits) (at-count .transition-count .result) (at-wide .wide .result)
+    (at-count .transition-count .ensures .0) (at-wide .wide .ensures) (at-collect .collect .result)
+    (at-collect .collect .ensures A (start .pre .1 .0)) in
+    let h = given-holding g (at-product .product .last .1 .1 .1 .1 .0) (at-product .product .result)
+    (at-product .product .ensures A (readTree (start .args .tree .now)) (g .holds)) (at-made .made .given .1) in
     given-made g h (at-wide2 .wide2 .ensures) (start .args .inserting) (at-pair-classes .pair-classes .ensures)
-    (at-minimize .minimize .ensures .0) (at-minimize .minimize .ensures .1 .0) (Table (c .before .left .given .0
-    .0) (c .before .left .given .0 .1 .0)) (c .before .left .given .1)
+    (at-minimize .minimize .ensures .0) (at-minimize .minimize .ensures .1 .0)
+    (Table (c .before .left .given .0 .0) (c .before .left .given .0 .1 .0)) (c .before .left .given .1)
 
 pub work-spec : {M : Type 1} → statement M
 work-spec =
@@ -249,9 +235,6 @@ work-spec =
     slice-read-wide
     wide-requires
     transition-count-requires
-    sub-collect
-    part-collect-start
-    part-collect-end
     collect-requires
     wide-requires-2
     add-own

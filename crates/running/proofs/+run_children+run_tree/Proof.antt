@@ -1,3 +1,5 @@
+-- A tree is run by its children one after another, then its root. What is left of the bytes falls: twice their number,
+-- and one more for the children.
 use mathlib.Core.List.{_∷_}
 use mathlib.Core.Path.{_∙_, _≡_, ap, refl, sym}
 use native.Mathlib.Omega.{arith}

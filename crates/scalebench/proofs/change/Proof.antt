@@ -1,14 +1,17 @@
 -- `scalebench::change` meets its contract: refused before anything is written, or the change with 16 and 17 left.
-use mathlib.Core.Path.{_∙_}
+use mathlib.Core.Path.{_∙_, sym}
 use Rattle.change.specs.Changing.{changeOf}
 use Rattle.trees.specs.Listing.{readTree}
-use Rattle.scalebench.proofs.Changing.{change-given, change-refused, change-settled}
+use Rattle.running.proofs.Tables.{root-byte}
+use Rattle.scalebench.proofs.Changing.{change-given, change-refused, change-settled, input-broken, input-passed}
+use Rattle.scalebench.proofs.Changing.{presence-left, presence-read}
+use Rattle.scalebench.proofs.Reading.{passed-table}
 use borrow.Author.Needs.{needs}
 use Rattle.scalebench.proofs.change.Statement.{statement}
 use Rattle.scalebench.proofs.change.Tie as tie
 
-change-refusal-requires : tie.Need-change-refusal-requires
-change-refusal-requires c κs = search needs
+input-refusal-requires : tie.Need-input-refusal-requires
+input-refusal-requires c κs = search needs
 
 same-length : tie.Need-same-length
 same-length c = search needs
@@ -19,19 +22,37 @@ same-length-2 c = search needs
 returns : tie.Need-returns
 returns c =
     let start = c .before .before .before .before .before .before .before in
-    change-refused ((changeOf (start .args .inserting) (readTree (start .args .tree .now)))) (start .args
-    .tree .now) (start .args .table .now) (start .args .scratch .now) (c .before .change-refusal .ensures)
-    (c .if1 .taken)
+    let a = start .args in
+    let change = changeOf (a .inserting) (readTree (a .tree .now)) in
+    let early = input-broken change (a .tree .now) (a .table .now) (a .scratch .now) (c .before .input-refusal .ensures)
+    (c .if1 .taken) in
+    change-refused change (a .tree .now) (a .table .now) (a .scratch .now) early (c .if1 .taken)
 
-change-requires : tie.Need-change-requires
-change-requires c κs =
-    let at-if1 = c .before .before in
-    let at-change-refusal = at-if1 .before in
-    let start = at-change-refusal .before .before .before .before .before .before in
-    let g = change-given ((changeOf (start .args .inserting) (readTree (start .args .tree .now)))) (start
-    .args .tree .now) (start .args .table .now) (start .args .scratch .now) (at-change-refusal
-    .change-refusal .ensures) (at-if1 .if1 .left) in
-    (g .0, (g .1, g .2))
+node-states-requires : tie.Need-node-states-requires
+node-states-requires c κs =
+    let at-if1 = c .before in
+    let start = c .before .before .before .before .before .before .before .before in
+    let a = start .args in
+    let b = a .table .now in
+    let passed = input-passed (a .tree .now) b (a .scratch .now)
+    (sym (at-if1 .before .input-refusal .ensures) ∙ at-if1 .if1 .left) in
+    (passed .0, passed-table b (passed .1))
+
+array-read-accepts-state : tie.Need-array-read-accepts-state
+array-read-accepts-state c = search needs
+
+accepts-state-requires : tie.Need-accepts-state-requires
+accepts-state-requires c κs =
+    let at-if1 = c .before .before .before in
+    let start = c .before .before .before .before .before .before .before .before .before .before in
+    let a = start .args in
+    let b = a .table .now in
+    let passed = input-passed (a .tree .now) b (a .scratch .now)
+    (sym (at-if1 .before .input-refusal .ensures) ∙ at-if1 .if1 .left) in
+    passed-table b (passed .1)
+
+presence-refusal-requires : tie.Need-presence-refusal-requires
+presence-refusal-requires c κs = search needs
 
 same-length-3 : tie.Need-same-length-3
 same-length-3 c = search needs
@@ -41,23 +62,74 @@ same-length-4 c = search needs
 
 returns-2 : tie.Need-returns-2
 returns-2 c =
+    let at-presence = c .before in
+    let start = c .before .before .before .before .before .before .before .before .before .before .before .before .before in
+    let at-states = at-presence .before .before .before in
+    let at-if1 = at-states .before .before in
+    let a = start .args in
+    let tree = readTree (a .tree .now) in
+    let change = changeOf (a .inserting) tree in
+    let accepted = at-presence .before .accepts-state .ensures tree (root-byte (at-states .node-states .ensures)) in
+    let presence = presence-read (a .inserting) tree (a .table .now) accepted (at-presence .presence-refusal .ensures tree) in
+    let early = presence-left change (a .tree .now) (a .table .now) (a .scratch .now)
+    (at-if1 .before .input-refusal .ensures) (at-if1 .if1 .left) presence in
+    change-refused change (a .tree .now) (a .table .now) (a .scratch .now) early (c .if2 .taken)
+
+change-requires : tie.Need-change-requires
+change-requires c κs =
+    let at-presence = c .before .before .before .before in
+    let start = c .before .before .before .before .before .before .before .before .before .before .before .before .before .before .before .before in
+    let at-states = at-presence .before .before .before in
+    let at-if1 = at-states .before .before in
+    let a = start .args in
+    let tree = readTree (a .tree .now) in
+    let change = changeOf (a .inserting) tree in
+    let accepted = at-presence .before .accepts-state .ensures tree (root-byte (at-states .node-states .ensures)) in
+    let presence = presence-read (a .inserting) tree (a .table .now) accepted (at-presence .presence-refusal .ensures tree) in
+    let early = presence-left change (a .tree .now) (a .table .now) (a .scratch .now)
+    (at-if1 .before .input-refusal .ensures) (at-if1 .if1 .left) presence in
+    let given = change-given change (a .tree .now) (a .table .now) (a .scratch .now) early (c .before .before .before .if2 .left) in
+    (given .0, (at-states .node-states .ensures, (given .1, given .2)))
+
+same-length-5 : tie.Need-same-length-5
+same-length-5 c = search needs
+
+same-length-6 : tie.Need-same-length-6
+same-length-6 c = search needs
+
+returns-3 : tie.Need-returns-3
+returns-3 c =
     let at-change = c .before .before .before .before in
-    let at-if1 = at-change .before .before .before in
-    let at-change-refusal = at-if1 .before in
-    let start = at-change-refusal .before .before .before .before .before .before in
-    at-change .change .ensures ∙ change-settled ((changeOf (start .args .inserting) (readTree (start .args
-    .tree .now)))) (start .args .tree .now) (start .args .table .now) (start .args .scratch .now)
-    (at-change-refusal .change-refusal .ensures) (at-if1 .if1 .left)
+    let at-presence = c .before .before .before .before .before .before .before .before .before in
+    let start = c .before .before .before .before .before .before .before .before .before .before .before .before .before .before .before .before .before .before .before .before .before in
+    let at-states = at-presence .before .before .before in
+    let at-if1 = at-states .before .before in
+    let a = start .args in
+    let tree = readTree (a .tree .now) in
+    let change = changeOf (a .inserting) tree in
+    let accepted = at-presence .before .accepts-state .ensures tree (root-byte (at-states .node-states .ensures)) in
+    let presence = presence-read (a .inserting) tree (a .table .now) accepted (at-presence .presence-refusal .ensures tree) in
+    let early = presence-left change (a .tree .now) (a .table .now) (a .scratch .now)
+    (at-if1 .before .input-refusal .ensures) (at-if1 .if1 .left) presence in
+    at-change .change .ensures ∙
+    change-settled change (a .tree .now) (a .table .now) (a .scratch .now) early (c .before .before .before .before .before .before .before .before .if2 .left)
 
 pub change-spec : {M : Type 1} → statement M
 change-spec =
     tie.close
     (tie.spec
-    change-refusal-requires
+    input-refusal-requires
     same-length
     same-length-2
     returns
-    change-requires
+    node-states-requires
+    array-read-accepts-state
+    accepts-state-requires
+    presence-refusal-requires
     same-length-3
     same-length-4
-    returns-2)
+    returns-2
+    change-requires
+    same-length-5
+    same-length-6
+    returns-3)

@@ -4,24 +4,22 @@ use Rattle.subtrees.proofs.Collecting.{Collecting, collecting-at, colle
 use Rattle.subtrees.proofs.Collecting.{collecting-start, end-top, pop-children, pop-narrow, pop-room}
 use Rattle.subtrees.proofs.Arrays.{filled-at}
 use native.Mathlib.Omega.{arith}
-use mathlib.Core.Path.{refl, _∙_}
+use mathlib.Core.Path.{_∙_, refl}
 use borrow.Author.Needs.{needs}
 use Rattle.subtrees.proofs.collect.Statement.{statement}
 use Rattle.subtrees.proofs.collect.Tie as tie
 
 abbrev Inv-loop : tie.InvT-loop
-Inv-loop tree run count l₀ r₀ c₀ q₀ stack₀ top₀ found₀ i₀ labels arities children states stack top found i =
-    Collecting tree run count i top found stack labels arities children states
+Inv-loop tree reached l₀ r₀ c₀ q₀ stack₀ top₀ found₀ i₀ labels arities children states stack top found i =
+    Collecting tree reached i top found stack labels arities children states
 
 abbrev μ-loop : tie.MeasureT-loop
-μ-loop tree run count l₀ r₀ c₀ q₀ stack₀ top₀ found₀ i₀ labels arities children states stack top found i =
-    i
+μ-loop tree reached l₀ r₀ c₀ q₀ stack₀ top₀ found₀ i₀ labels arities children states stack top found i = i
 
 loop-holds : tie.Need-loop-holds Inv-loop μ-loop
 loop-holds c =
-    let start = c .before .before in
-    collecting-start (passed (start .args .tree .now) (start .pre .0)) (start .args .transitions .now) (start .args
-    .count)
+    let start = c .before in
+    collecting-start (passed (start .args .tree .now) (start .pre .0)) (start .args .reached .now)
     (record { labels = refl; arities = refl; children = refl; states = refl }) refl
 
 sub-i : tie.Need-sub-i Inv-loop μ-loop
@@ -38,95 +36,87 @@ wide-requires c κs = search needs
 
 popped-requires : tie.Need-popped-requires Inv-loop μ-loop
 popped-requires c κs =
-    let start = c .before .before .before .before .before .before .before .before in
+    let at-loop = c .before .before .before .before .before in
+    let start = c .before .before .before .before .before .before .before in
     let ok = passed (start .args .tree .now) (start .pre .0) in
-    let inv = c .before .before .before .before .before .loop .inv in
     let more = c .before .before .before .before .loop-test .taken in
+    let inv = at-loop .loop .inv in
     omega (arith, pop-room ok inv more, pop-narrow ok inv more, c .before .wide .ensures)
+
+element-copy-out-enter : tie.Need-element-copy-out-enter Inv-loop μ-loop
+element-copy-out-enter c =
+    let at-loop = c .before .before .before .before .before .before .before .before .before .before in
+    let start = c .before .before .before .before .before .before .before .before .before .before .before .before in
+    let ok = passed (start .args .tree .now) (start .pre .0) in
+    omega (arith, at-loop .loop .inv .left, ok .short, c .before .before .before .before .before .before .before .before .before .loop-test .taken)
 
 enter-requires : tie.Need-enter-requires Inv-loop μ-loop
 enter-requires c κs =
-    let start = c .before .before .before .before .before .before .before .before .before .before .before .before
-    .before in
-    let head = c .before .before .before .before .before .before .before .before .before .before .loop in
-    let arity = c .before .before .before .before .before .before .before .children-at .ensures in
-    let filled = filled-at (c .before .before .before .before .popped .ensures) (c .before .before .before .before
-    .before .before .wide .ensures ∙ arity) in
-    let ok = passed (start .args .tree .now) (start .pre .0) in (
-      start .pre .1,
+    let at-wide = c .before .before .before .before .before .before .before in
+    let at-loop = c .before .before .before .before .before .before .before .before .before .before .before in
+    let start = c .before .before .before .before .before .before .before .before .before .before .before .before .before in
+    let ok = passed (start .args .tree .now) (start .pre .0) in
+    let arity = at-wide .before .children-at .ensures in
+    let filled = filled-at (c .before .before .before .before .before .popped .ensures) (at-wide .wide .ensures ∙ arity) in
+    let more = at-wide .before .before .before .loop-test .taken in
+    let inv = at-loop .loop .inv in (
+      inv .sized,
       (
-        head .inv .sized,
-        (
-          omega (arith, head .inv .room),
-          (
-            c .before .before .before .before .before .before .before .before .label-at .ensures .1,
-            rw arity
-                (pop-children ok (head .inv) (c .before .before .before .before .before .before .before .before .before
-                .loop-test .taken) filled),
-          ),
-        ),
+        omega (arith, inv .room),
+        (at-wide .before .before .label-at .ensures .1, rw arity (pop-children ok inv more filled)),
       ),
     )
 
 add-top : tie.Need-add-top Inv-loop μ-loop
 add-top c =
-    let start = c .before .before .before .before .before .before .before .before .before .before .before .before
-    .before .before in
+    let at-wide = c .before .before .before .before .before .before .before .before in
+    let at-loop = c .before .before .before .before .before .before .before .before .before .before .before .before in
+    let start = c .before .before .before .before .before .before .before .before .before .before .before .before .before .before in
     let ok = passed (start .args .tree .now) (start .pre .0) in
-    let width = c .before .before .before .before .before .before .before .wide .ensures in
-    omega (
-      arith,
-      pop-room ok (c .before .before .before .before .before .before .before .before .before .before
-          .before .loop .inv) (c .before .before .before .before .before .before .before .before .before .before .loop-test
-          .taken),
-      width,
-    )
+    let more = at-wide .before .before .before .loop-test .taken in
+    omega (arith, pop-room ok (at-loop .loop .inv) more, at-wide .wide .ensures)
 
 sub-top : tie.Need-sub-top Inv-loop μ-loop
 sub-top c = search needs
 
 array-write-stack : tie.Need-array-write-stack Inv-loop μ-loop
 array-write-stack c =
-    let start = c .before .before .before .before .before .before .before .before .before .before .before .before
-    .before .before in
+    let at-wide = c .before .before .before .before .before .before .before .before in
+    let at-loop = c .before .before .before .before .before .before .before .before .before .before .before .before in
+    let start = c .before .before .before .before .before .before .before .before .before .before .before .before .before .before in
     let ok = passed (start .args .tree .now) (start .pre .0) in
-    let inv = c .before .before .before .before .before .before .before .before .before .before .before .loop .inv in
-    let width = c .before .before .before .before .before .before .before .wide .ensures in
-    omega (
-      arith,
-      pop-room ok inv (c .before .before .before .before .before .before .before .before .before .before
-          .loop-test .taken),
-      inv .below,
-      width,
-    )
+    let more = at-wide .before .before .before .loop-test .taken in
+    let inv = at-loop .loop .inv in
+    omega (arith, pop-room ok inv more, inv .below, at-wide .wide .ensures)
 
 loop-less : tie.Need-loop-less Inv-loop μ-loop
 loop-less c = search needs
 
 loop-again : tie.Need-loop-again Inv-loop μ-loop
 loop-again c =
-    let start = c .before .before .before .before .before .before .before .before .before .before .before .before
-    .before .before in
-    let head = c .before .before .before .before .before .before .before .before .before .before .before .loop in
-    let arity = c .before .before .before .before .before .before .before .before .children-at .ensures in
-    let width = c .before .before .before .before .before .before .before .wide .ensures ∙ arity in
-    let filled = filled-at (c .before .before .before .before .before .popped .ensures) width in
+    let at-wide = c .before .before .before .before .before .before .before .before in
+    let at-loop = c .before .before .before .before .before .before .before .before .before .before .before .before in
+    let start = c .before .before .before .before .before .before .before .before .before .before .before .before .before .before in
     let ok = passed (start .args .tree .now) (start .pre .0) in
+    let arity = at-wide .before .children-at .ensures in
+    let label = at-wide .before .before .label-at .ensures .0 in
+    let width = at-wide .wide .ensures ∙ arity in
+    let filled = filled-at (c .before .before .before .before .before .before .popped .ensures) width in
+    let more = at-wide .before .before .before .loop-test .taken in
+    let entered = c .enter .ensures in
     rw width
-    (collecting-next ok (head .inv) (c .before .before .before .before .before .before .before .before .before .before
-    .loop-test .taken) filled (c .enter .ensures .1 .0) (c .enter .ensures .0)
-    (rw (c .before .before .before .before .before .before .before .before .before .label-at .ensures .0, arity) at (c
-    .enter .ensures .1 .1)))
+    (collecting-next ok (at-loop .loop .inv) more filled (entered .1 .0) (entered .0) (start .pre .1)
+    (rw (label, arity) at (entered .1 .1)))
 
-array-read-t29 : tie.Need-array-read-t29 Inv-loop μ-loop
-array-read-t29 c =
-    let start = c .before .before .before .before in
+array-read-t31 : tie.Need-array-read-t31 Inv-loop μ-loop
+array-read-t31 c =
+    let start = c .before .before .before in
     let ok = passed (start .args .tree .now) (start .pre .0) in
     end-top ok (collecting-at (c .before .loop .inv) 0 (omega arith))
 
 returns : tie.Need-returns Inv-loop μ-loop
 returns c =
-    let start = c .before .before .before .before in
+    let start = c .before .before .before in
     let ok = passed (start .args .tree .now) (start .pre .0) in
     collecting-end ok (collecting-at (c .before .loop .inv) 0 (omega arith))
 
@@ -142,11 +132,12 @@ collect-spec =
     children-at-requires
     wide-requires
     popped-requires
+    element-copy-out-enter
     enter-requires
     add-top
     sub-top
     array-write-stack
     loop-less
     loop-again
-    array-read-t29
+    array-read-t31
     returns)

@@ -1,13 +1,9 @@
 -- `subtrees::enter` meets its contract: the node was found before, or the arrays hold it after the others.
-use Rattle.subtrees.proofs.Entering.{children-more, enter-missing, enter-new, enter-old, entrant-state}
-use Rattle.subtrees.proofs.Entering.{sized-new}
-use Rattle.subtrees.proofs.Arrays.{filled-at}
-use Rattle.table.specs.Layout.{transitionsIn}
-use Rattle.subtrees.specs.Steps.{stateFrom}
+use Rattle.subtrees.proofs.Entering.{enter-missing, enter-new, enter-old, sized-new}
 use Rattle.format.specs.Format.{maxArity}
-use lib.ListN.{length, take}
+use lib.ListN.{length}
 use native.Mathlib.Omega.{arith}
-use mathlib.Core.Path.{_∙_, _≡_, ap}
+use mathlib.Core.Path.{_≡_}
 use borrow.Author.Needs.{needs}
 use Rattle.subtrees.proofs.enter.Statement.{statement}
 use Rattle.subtrees.proofs.enter.Tie as tie
@@ -23,27 +19,16 @@ cast-old c = search needs
 
 returns : tie.Need-returns
 returns c =
-    let sought = c .before .search in
-    let start = c .before .before .before .before .before .before in
+    let sought-at = c .before in
+    let start = c .before .before .before .before .before in
+    let sought = sought-at .search in
     let eight : length (start .args .numbers) ≡ maxArity = omega (arith, start .good) in (
-      start .pre .1 .0,
+      start .pre .0,
       (
         omega (arith, sought .ensures .within),
-        λ A ts e st. enter-old st (start .args .label) (start .pre .1 .1 .1 .1) eight (sought .ensures) (c .if1
-            .taken),
+        λ A ts e st. enter-old st (start .args .label) (start .pre .1 .1 .1) eight (sought .ensures) (c .if1 .taken),
       ),
     )
-
-wide-requires : tie.Need-wide-requires
-wide-requires c κs = search needs
-
-child-states-requires : tie.Need-child-states-requires
-child-states-requires c κs =
-    let start = c .before .before .before .before .before .before .before .before in
-    children-more (start .pre .1 .1 .1 .1) _ _ (c .before .wide .ensures) (omega arith)
-
-state-requires : tie.Need-state-requires
-state-requires c κs = search needs
 
 mul-labels : tie.Need-mul-labels
 mul-labels c = search needs
@@ -66,29 +51,22 @@ add-new c = search needs
 cast-new : tie.Need-cast-new
 cast-new c = search needs
 
-add-t23 : tie.Need-add-t23
-add-t23 c = search needs
+add-t18 : tie.Need-add-t18
+add-t18 c = search needs
 
 returns-2 : tie.Need-returns-2
 returns-2 c =
-    let start = c .before .before .before .before .before .before .before .before .before .before .before .before in
+    let at-if1 = c .before .before in
+    let start = c .before .before .before .before .before .before .before in
     let a = start .args in
     let eight : length (a .numbers) ≡ maxArity = omega (arith, start .good) in
-    let τs = transitionsIn (a .transitions .now) (a .count) in
-    let args = c .before .before .before .child-states .result in
-    let width = c .before .before .before .before .before .wide .ensures in
-    let filled = filled-at (c .before .before .before .child-states .ensures) width in
-    let ch = start .pre .1 .1 .1 .1 in
-    let q = c .before .before .state in
-    let state = q .ensures ∙ ap (λ k. stateFrom τs (a .label) (take k args)) width in (
-      sized-new (start .pre .1 .0) (a .found) (a .label) (a .arity) (q .result) (c .store-children .ensures),
+    let ch = start .pre .1 .1 .1 in
+    let missing = at-if1 .before .search .ensures in (
+      sized-new (start .pre .0) (a .found) (a .label) (a .arity) (a .q) (c .store-children .ensures),
       (
         omega arith,
-        λ A ts e st. enter-new st (a .label) ch eight (start .pre .1 .0) (start .pre .1 .1 .0) (start .pre .1 .1 .1
-            .0)
-            (c .store-children .ensures) (state ∙ entrant-state st (a .label) ch eight τs filled e)
-            (enter-missing st (a .label) ch eight (c .before .before .before .before .before .before .before .search
-            .ensures) (c .before .before .before .before .before .before .if1 .left)),
+        λ A ts e st. enter-new st (a .label) ch eight (start .pre .0) (start .pre .1 .0) (start .pre .1 .1 .0)
+            (c .store-children .ensures) e (enter-missing st (a .label) ch eight missing (at-if1 .if1 .left)),
       ),
     )
 
@@ -100,9 +78,6 @@ enter-spec =
     add-old
     cast-old
     returns
-    wide-requires
-    child-states-requires
-    state-requires
     mul-labels
     element-write-labels
     element-write-arities
@@ -110,5 +85,5 @@ enter-spec =
     element-write-states
     add-new
     cast-new
-    add-t23
+    add-t18
     returns-2)
