@@ -199,8 +199,7 @@ run-children-run-children-requires t c κs =
     let less = part-length (a .s .now) (nodeBytes * m) in
     let here : a .parent < maxNodes = omega (arith, root-row (first-ahead v i e)) in
     let rows = rows-put (at-run-tree .run-tree .ensures .1 .0 .rows) (a .parent) _ _ here in
-    let bytes = ap length (at-run-tree .run-tree .ensures .1 .1) ∙ length-sets (a .states .now) (a .node) (nodeStates (over (a .transitions .now) (a .count)) (readTree (a .s .now))) ∙ p .1 .1 .1 .0 in
-    (
+    let bytes = ap length (at-run-tree .run-tree .ensures .1 .1) ∙ length-sets (a .states .now) (a .node) (nodeStates (over (a .transitions .now) (a .count)) (readTree (a .s .now))) ∙ p .1 .1 .1 .0 in (
       omega (arith, start .pre .0),
       (p .0, (others-ahead v i e m (ran .nodes), (rows, (bytes, (omega arith, (omega arith, p .1 .1 .1 .1 .1 .1)))))),
     )
@@ -286,8 +285,7 @@ run-tree-run-children-requires t c κs =
     let p = start .pre .1 in
     let arity = root-arity v in
     let size = root-size v in
-    let less = part-length (a .s .now) nodeBytes in
-    (
+    let less = part-length (a .s .now) nodeBytes in (
       omega (arith, start .pre .0),
       (p .0, (children-ahead v k e, (p .1 .1 .0, (p .1 .1 .1, (omega arith, (omega arith, omega arith)))))),
     )
@@ -306,8 +304,7 @@ run-tree-element-copy-out-run-node t c =
 run-tree-run-node-requires : (t : ℕ) → run-tree-lts.Need-run-node-requires (run-tree-calls t) (run-tree-at t) run-tree.Post
 run-tree-run-node-requires t c κs =
     let at-wide = c .before .before .before .before .before .before in
-    let start = c .before .before .before .before .before .before .before .before .before .before in
-    (
+    let start = c .before .before .before .before .before .before .before .before .before .before in (
       start .pre .1 .0,
       omega (arith, root-arity (start .pre .1 .1 .0), at-wide .wide .ensures, at-wide .before .children-at .ensures),
     )
