@@ -1,4 +1,5 @@
 pub mod Tests
+pub mod FirstPlace
 pub mod Positions
 pub mod Intervals
 pub mod Loops

@@ -1,4 +1,4 @@
--- The position of a key in a list, the numbers of an interval, and pairs of numbers.
+-- The first place in a list that passes a test, the position of a key, the numbers of an interval, and pairs of numbers.
 use mathlib.Core.Bool.{Bool, _&&_, cond}
 use mathlib.Core.List.{List, [], _++_, _∷_}
 use Prim.Native.Nat.{_+_, suc, zero, ℕ}
@@ -10,10 +10,14 @@ abbrev pub shift : ℕ → ℕ
 shift zero = zero
 shift (suc k) = suc (suc k)
 
+-- the position, from 1, of the first element that passes a test; 0 if none does
+abbrev pub firstPlace : {A : Type 0} → (A → Bool) → List A → ℕ
+firstPlace p [] = 0
+firstPlace p (x ∷ xs) = cond (p x) 1 (shift (firstPlace p xs))
+
 -- the position of a key in a list, from 1; 0 if it is not there
 abbrev pub position : {K : Type 0} → (K → K → Bool) → List K → K → ℕ
-position eq [] k = 0
-position eq (x ∷ xs) k = cond (eq k x) 1 (shift (position eq xs k))
+position eq xs k = firstPlace (eq k) xs
 
 -- the n numbers k, k + 1, .. in order
 abbrev pub upFrom : ℕ → ℕ → List ℕ
