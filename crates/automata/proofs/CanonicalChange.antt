@@ -17,7 +17,7 @@ use Rattle.automata.specs.Valid.{Valid, inRange, statesInRange}
 use Rattle.lists.specs.Positions.{upFrom}
 use Rattle.lists.specs.Tests.{_∈_, every}
 use Rattle.trees.specs.Context.{Context, plug}
-use Rattle.trees.specs.Tree.{Forest, Tree, cons, eqTree, nil, node}
+use Rattle.trees.specs.Tree.{AllTrees, Forest, Tree, cons, eqTree, nil, node}
 use Rattle.automata.proofs.Accessible.{tree-accessible}
 use Rattle.automata.proofs.CanonicalRun.{canonical-accepts, run-group}
 use Rattle.automata.proofs.Change.{delete-canonical, insert-canonical}
@@ -29,7 +29,6 @@ use Rattle.automata.proofs.Unique.{children}
 use Rattle.automata.proofs.Valid.{range-in, ranged-fits, valid-canonical}
 use Rattle.lists.proofs.Positions.{upFrom-in}
 use Rattle.lists.proofs.Tests.{and-both, in-every, or-left, or-right}
-use Rattle.trees.proofs.Trees.{AllTrees}
 
 module _ (S : Tree → Bool) (A : Automaton) (X : Canonical S A) where
   ranged : (t : Tree) → Subtree S t → inRange (states A) (X .group t) ≡ true

@@ -1,7 +1,7 @@
 -- The canonical automaton of a set accepts exactly the trees of the set.
 use mathlib.Core.Bool.{Bool, false, true}
 use mathlib.Core.List.{[]}
-use mathlib.Core.Logic.{_⊎_, inl, inr}
+use mathlib.Core.Logic.{_↔_, _⊎_, inl, inr}
 use mathlib.Core.Path.{_∙_, _≡_, ap, refl, subst, sym}
 use Prim.Native.Nat.{ℕ}
 use native.Mathlib.Omega.{arith}
@@ -10,13 +10,12 @@ use borrow.Author.Tests.{eqb-false, ne-eqb}
 use Rattle.automata.specs.Automaton.{Automaton, accepting, accepts, run, runs, step}
 use Rattle.automata.specs.Canonical.{Canonical, Occurs, Subtree, eachTree, transitionOf}
 use Rattle.lists.specs.Tests.{any, sameList}
-use Rattle.trees.specs.Tree.{Forest, Tree, cons, nil, node}
+use Rattle.trees.specs.Tree.{AllTrees, Forest, Tree, cons, nil, node}
 use Rattle.automata.proofs.Order.{lookup-transition}
 use Rattle.automata.proofs.Renumbered.{Grouping, equivalent-after}
 use Rattle.automata.proofs.Steps.{Taken, step-view}
 use Rattle.automata.proofs.Unique.{children}
 use Rattle.lists.proofs.Tests.{or-none-left, or-none-right}
-use Rattle.trees.proofs.Trees.{AllTrees}
 
 module _ (S : Tree → Bool) (A : Automaton) (X : Canonical S A) where
   grouping : Grouping S (X .group) (A .transitions)
@@ -58,7 +57,7 @@ module _ (S : Tree → Bool) (A : Automaton) (X : Canonical S A) where
                 (children S b h p) ks sameList in
                 subst (λ (x : ℕ). Subtree S (node x f)) lab (p .0, sym (alike (p .0)) ∙ p .1)
 
-    runs-subtrees : (f : Forest) → any (eqb 0) (runs A f) ≡ false → AllTrees (Subtree S) f
+    pub runs-subtrees : (f : Forest) → any (eqb 0) (runs A f) ≡ false → AllTrees (Subtree S) f
     runs-subtrees nil e = tt
     runs-subtrees (cons t f) e = (
       go (run-or-subtree t),
@@ -71,6 +70,17 @@ module _ (S : Tree → Bool) (A : Automaton) (X : Canonical S A) where
             absurd (eqb-false 0 (run A t) (or-none-left (eqb 0 (run A t)) (any (eqb 0) (runs A f)) e)
             (sym z))
         go (inr p) = p
+
+  -- a tree runs to a state exactly if it is a subtree of the set
+  pub run-none-iff : (t : Tree) → (run A t ≡ 0) ↔ (Subtree S t → ⊥)
+  run-none-iff t = (λ e p. omega (arith, run-group t p, X .range t p), λ h. go h (run-or-subtree t))
+    where
+      go : (Subtree S t → ⊥) → (run A t ≡ 0) ⊎ Subtree S t → run A t ≡ 0
+      go h (inl z) = z
+      go h (inr p) = absurd (h p)
+
+  pub subtrees-run : (f : Forest) → AllTrees (Subtree S) f → any (eqb 0) (runs A f) ≡ false
+  subtrees-run f p = rw (runs-group f p) (none-zero f p)
 
   pub canonical-accepts : (t : Tree) → accepts A t ≡ S t
   canonical-accepts t = go (run-or-subtree t) (S t) refl

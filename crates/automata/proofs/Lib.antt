@@ -14,6 +14,7 @@ pub mod Prefixes
 pub mod Renumbered
 pub mod Minimal
 pub mod CanonicalRun
+pub mod Stops
 pub mod Nodes
 pub mod PairRuns
 pub mod Product

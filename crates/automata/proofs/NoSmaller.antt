@@ -13,14 +13,13 @@ use Rattle.automata.specs.Canonical.{Canonical, Equivalent, Subtree, eac
 use Rattle.lists.specs.Positions.{upFrom}
 use Rattle.lists.specs.Tests.{Counts, _∈_}
 use Rattle.trees.specs.Context.{Context, fill, plug}
-use Rattle.trees.specs.Tree.{Forest, Tree, _⧺_, cons, nil, node}
+use Rattle.trees.specs.Tree.{AllTrees, Forest, Tree, _⧺_, cons, nil, node}
 use Rattle.automata.proofs.Order.{key-equal, rising-one}
 use Rattle.automata.proofs.ProductLaws.{rising-distinct}
 use Rattle.automata.proofs.Unique.{children}
 use Rattle.lists.proofs.Distinct.{partners-length, upFrom-distinct}
 use Rattle.lists.proofs.Positions.{upFrom-in, upFrom-length}
 use Rattle.lists.proofs.Tests.{same-test}
-use Rattle.trees.proofs.Trees.{AllTrees}
 
 module _ (B : AnyAutomaton) where
   -- what stands in a tree that runs to a state runs to a state itself

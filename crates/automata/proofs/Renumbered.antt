@@ -16,7 +16,7 @@ use Rattle.automata.specs.Renumber.{numberOf, numbering, ready, renumber
 use Rattle.lists.specs.Closure.{elem}
 use Rattle.lists.specs.Positions.{upFrom}
 use Rattle.lists.specs.Tests.{_∈_, every}
-use Rattle.trees.specs.Tree.{Forest, Tree, _⧺_, cons, nil, node}
+use Rattle.trees.specs.Tree.{AllTrees, Forest, Tree, _⧺_, cons, nil, node}
 use Rattle.automata.proofs.Numbering.{Exhausted, Opened, Opened-each, numbering-opened}
 use Rattle.automata.proofs.Numbers.{getD-number, number-at, number-inj, number-length, number-pos}
 use Rattle.automata.proofs.Order.{first-open}
@@ -26,7 +26,7 @@ use Rattle.automata.proofs.Unique.{children}
 use Rattle.lists.proofs.Intervals.{getD-map}
 use Rattle.lists.proofs.Positions.{upFrom-in}
 use Rattle.lists.proofs.Tests.{and-both, and-left, and-right, in-every, in-map, map-in}
-use Rattle.trees.proofs.Trees.{AllTrees, snoc-append}
+use Rattle.trees.proofs.Trees.{snoc-append}
 
 and-not : (a b : Bool) → a ≡ true → (a && not b) ≡ false → b ≡ true
 and-not true true e s = refl

@@ -13,12 +13,12 @@ use Rattle.automata.specs.Canonical.{eachTree, transitionOf}
 use Rattle.automata.specs.Change.{addNew, collect, collects, subtreeAutomaton, subtreeNumber, subtreeTransition}
 use Rattle.lists.specs.Closure.{elem}
 use Rattle.lists.specs.Tests.{_∈_, any}
-use Rattle.trees.specs.Tree.{Forest, Tree, cons, eqTree, nil, node}
+use Rattle.trees.specs.Tree.{AllTrees, Forest, Tree, cons, eqTree, nil, node}
 use Rattle.automata.proofs.Steps.{Has, lookup-in, lookup-view}
 use Rattle.lists.proofs.Closure.{elem-in}
 use Rattle.lists.proofs.Positions.{position-in, position-inj, position-length, position-none, position-pos}
 use Rattle.lists.proofs.Tests.{in-every, in-map, map-in}
-use Rattle.trees.proofs.Trees.{AllTrees, eqTree-same, eqTree-true, node-children}
+use Rattle.trees.proofs.Trees.{eqTree-same, eqTree-true, node-children}
 
 -- a list of trees that holds the children of what it holds
 abbrev pub Closed : List Tree → Type 0

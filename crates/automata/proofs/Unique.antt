@@ -15,11 +15,11 @@ use Rattle.automata.specs.Numbered.{firstOpen, opens}
 use Rattle.automata.specs.Order.{key, lex, precedes}
 use Rattle.lists.specs.Positions.{upFrom}
 use Rattle.lists.specs.Tests.{_∈_, every, sameList}
-use Rattle.trees.specs.Tree.{Forest, Tree, _⧺_, cons, nil, node}
+use Rattle.trees.specs.Tree.{AllTrees, Forest, Tree, _⧺_, cons, nil, node}
 use Rattle.automata.proofs.Order.{Opening, first-opening, lex-irrefl, lex-trans, rising-unique}
 use Rattle.lists.proofs.Positions.{in-upFrom}
 use Rattle.lists.proofs.Tests.{and-both, and-left, and-right, every-in}
-use Rattle.trees.proofs.Trees.{AllTrees, snoc-append}
+use Rattle.trees.proofs.Trees.{snoc-append}
 
 -- the children of a subtree are subtrees
 module _ (S : Tree → Bool) (a : ℕ) where

@@ -1,5 +1,6 @@
 pub mod Automaton
 pub mod NodeStates
+pub mod Stops
 pub mod ContextRun
 pub mod Accessible
 pub mod Coaccessible

@@ -1,4 +1,4 @@
--- The first place in a list that passes a test, the position of a key, the numbers of an interval, and pairs of numbers.
+-- The first place that passes a test, the position of a key, the numbers of an interval, and pairs of numbers.
 use mathlib.Core.Bool.{Bool, _&&_, cond}
 use mathlib.Core.List.{List, [], _++_, _∷_}
 use Prim.Native.Nat.{_+_, suc, zero, ℕ}

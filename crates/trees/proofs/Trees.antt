@@ -8,7 +8,7 @@ use lib.Dec.{eqb}
 use lib.ListN.{length}
 use borrow.Author.Tests.{eq-eqb, eqb-true}
 use Rattle.trees.specs.Context.{Context, fill, plug}
-use Rattle.trees.specs.Tree.{Forest, Tree, _⧺_, cons, depth, depths, eqForest, eqTree, nil, node}
+use Rattle.trees.specs.Tree.{AllTrees, Forest, Tree, _⧺_, cons, depth, depths, eqForest, eqTree, nil, node}
 use Rattle.lists.proofs.Tests.{and-both, and-left, and-right}
 
 mutual
@@ -55,11 +55,6 @@ cons-tree t u f g e = cc
 
 pub cons-forest : (t u : Tree) (f g : Forest) → cons t f ≡ cons u g → f ≡ g
 cons-forest t u f g e = cc
-
--- every tree of the forest
-abbrev pub AllTrees : (Tree → Type 0) → Forest → Type 0
-AllTrees P nil = Unit {0}
-AllTrees P (cons t f) = P t × AllTrees P f
 
 -- one tree of the forest
 pub all-here : (P : Tree → Type 0) (b : Forest) (t : Tree) (f : Forest) → AllTrees P (b ⧺ cons t f) → P t

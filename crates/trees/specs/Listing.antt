@@ -8,7 +8,7 @@ use Rattle.format.specs.Format.{labelBytes, maxArity, maxListing, nodeBytes}
 use Rattle.lists.specs.Conditions.{Condition, condition, firstBroken}
 use Rattle.lists.specs.Positions.{upFrom}
 use Rattle.lists.specs.Tests.{every}
-use Rattle.trees.specs.Tree.{Forest, Tree, cons, count, nil, node}
+use Rattle.trees.specs.Tree.{Forest, Tree, cons, count, nil, noTree, node}
 
 -- the listing of a tree, and the listings of a list of trees
 abbrev mutual
@@ -48,7 +48,7 @@ readTrees (a ∷ c ∷ s) = let f = readTrees s in cons (node a (firstTrees c f)
 
 -- the first tree of a list of trees; any tree if there is none
 abbrev pub firstTree : Forest → Tree
-firstTree nil = node 0 nil
+firstTree nil = noTree
 firstTree (cons t f) = t
 
 -- the tree that the bytes list, if they list one

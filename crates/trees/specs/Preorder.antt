@@ -1,6 +1,8 @@
 -- The subtrees of a tree in the order of its listing, one for each node.
 use mathlib.Core.List.{List, [], _++_, _∷_}
-use Rattle.trees.specs.Tree.{Forest, Tree, cons, nil, node}
+use Prim.Native.Nat.{_-_, ℕ}
+use lib.ListN.{getD}
+use Rattle.trees.specs.Tree.{Forest, Tree, cons, nil, noTree, node}
 
 -- the subtree at each node, node first, then those of its children in order
 abbrev mutual
@@ -10,3 +12,7 @@ abbrev mutual
   pub preorders : Forest → List Tree
   preorders nil = []
   preorders (cons t f) = preorder t ++ preorders f
+
+-- the subtree at place k of the listing, counted in nodes from 1 (02, order 1)
+abbrev pub subtreeAt : Tree → ℕ → Tree
+subtreeAt t k = getD (preorder t) (k - 1) noTree

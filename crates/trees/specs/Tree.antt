@@ -24,6 +24,15 @@ abbrev pub count : Forest → ℕ
 count nil = 0
 count (cons t f) = suc (count f)
 
+-- the tree for a place that has none
+abbrev pub noTree : Tree
+noTree = node 0 nil
+
+-- every tree of a list has the property
+abbrev pub AllTrees : (Tree → Type 0) → Forest → Type 0
+AllTrees P nil = Unit {0}
+AllTrees P (cons t f) = P t × AllTrees P f
+
 -- two trees are equal
 abbrev mutual
   pub eqTree : Tree → Tree → Bool
