@@ -1,30 +1,35 @@
 -- Each call gives an answer of its kind, and no two answers of a kind have one number.
 use mathlib.Core.Bool.{Bool, cond, false, true}
 use mathlib.Core.List.{List, [], _++_, _∷_}
-use mathlib.Core.Path.{_∙_, _≡_, ap, ap₂, refl, sym}
+use mathlib.Core.Path.{_≡_, ap, ap₂, refl}
 use Prim.Native.Nat.{_≤_, ℕ}
 use native.Mathlib.Omega.{arith}
 use lib.Dec.{eqb, leb}
 use lib.ListN.{length}
 use borrow.Author.Tests.{eqb-false, eqb-true, leb-true}
-use Rattle.automata.specs.Automaton.{Automaton, accepts, states}
+use Rattle.automata.specs.Automaton.{Automaton, accepts, run, states}
+use Rattle.automata.specs.Stops.{stopPlace}
 use Rattle.calls.specs.Answers.{CallKind, Gives, RefusalNumber, TableCounts, answerNumber, asking, changing, taking}
-use Rattle.calls.specs.Calls.{Change, acceptedWith, addResult, approval, askAnswer, askRefusal, changeRefusal}
+use Rattle.calls.specs.Calls.{Change, acceptedWith, addResult, askAnswer, askRefusal, asked, changeRefusal}
 use Rattle.calls.specs.Calls.{changeResult, changed, delete, doneWith, earlyConditions, insert, intakeAnswer}
 use Rattle.calls.specs.Calls.{outcome, refusedOr, removeResult, sizeConditions}
 use Rattle.calls.specs.declared.Answer.{Answer}
-use Rattle.calls.specs.declared.Answer.the-variants.{Accepted, Approved, Done, NotApproved, Refused}
-use Rattle.format.specs.Format.{maxStates, maxTransitions}
-use Rattle.lists.specs.Conditions.{Condition, firstBroken}
+use Rattle.calls.specs.declared.Answer.the-variants.{Accepted, Approved, Done, NotAt, NotPart, Refused}
+use Rattle.format.specs.Format.{maxNodes, maxStates, maxTransitions}
+use Rattle.lists.specs.Conditions.{Condition}
 use Rattle.table.specs.Intake.{automatonConditions, contentConditions, fitsTable, lengthCondition, tableRefusal}
 use Rattle.table.specs.Layout.{decode}
 use Rattle.trees.specs.Listing.{listingConditions, readTree}
-use Rattle.calls.proofs.Conditions.{change-passed, early-at-most}
+use Rattle.trees.specs.Preorder.{preorder}
+use Rattle.trees.specs.Tree.{Tree}
+use Rattle.automata.proofs.Stops.{run-stopped, stop-within}
+use Rattle.calls.proofs.Conditions.{ask-passed, change-passed, early-at-most}
 use Rattle.lists.proofs.Conditions.{AtMost, at-most-append, broken-at-most}
 use Rattle.lists.proofs.Tests.{and-left, and-right}
 use Rattle.table.proofs.Decoded.{decoded-count, decoded-states}
 use Rattle.table.proofs.Intake.{unrefused-passes}
 use Rattle.table.proofs.Laid.{layout-laid}
+use Rattle.trees.proofs.PreorderListing.{passed-nodes}
 
 -- ---- what a call gives
 
@@ -41,17 +46,22 @@ table-at-most : (b : List ℕ) → AtMost 17 (lengthCondition b ∷ contentCondi
 unfolding contentConditions automatonConditions
 table-at-most b = omega arith
 
+asked-gives : (A : Automaton) (t : Tree) → length (preorder t) ≤ maxNodes → Gives asking (asked A t)
+unfolding asked
+asked-gives A t h = go (accepts A t) (eqb (run A t) 0) refl
+  where
+    go : (b c : Bool) → eqb (run A t) 0 ≡ c → Gives asking (cond b Approved (cond c (NotAt (stopPlace A t)) NotPart))
+    go true c e = tt
+    go false true e = (run-stopped A t (eqb-true (run A t) 0 e), omega (arith, stop-within A t))
+    go false false e = tt
+
 pub ask-gives : (s b : List ℕ) → Gives asking (askAnswer s b)
 unfolding askAnswer askRefusal listingConditions
 ask-gives s b =
-    refused-gives asking (askRefusal s b) (approval (accepts (decode b) (readTree s)))
+    refused-gives asking (askRefusal s b) (asked (decode b) (readTree s))
     (broken-at-most 17 (listingConditions s ++ (lengthCondition b ∷ contentConditions b))
     (at-most-append 17 (listingConditions s) (lengthCondition b ∷ contentConditions b) (omega arith) (table-at-most b)))
-    (λ k h. h) (λ _. approves (accepts (decode b) (readTree s)))
-  where
-    approves : (t : Bool) → Gives asking (approval t)
-    approves true = tt
-    approves false = tt
+    (λ k h. h) (λ z. asked-gives (decode b) (readTree s) (passed-nodes s (ask-passed s b z .0)))
 
 pub intake-gives : (b : List ℕ) → Gives taking (intakeAnswer b)
 unfolding intakeAnswer tableRefusal
@@ -96,13 +106,20 @@ remove-gives s b w = change-gives (delete (readTree s)) s b w
 -- no two answers of a kind of call have one number
 pub answer-injective : (x : CallKind) (a b : Answer) → Gives x a → Gives x b → answerNumber a ≡ answerNumber b → a ≡ b
 answer-injective asking Approved Approved g h e = refl
-answer-injective asking Approved NotApproved g h e = absurd (omega arith)
+answer-injective asking Approved NotPart g h e = absurd (omega arith)
+answer-injective asking Approved (NotAt k) g h e = absurd (omega (arith, e))
 answer-injective asking Approved (Refused k) g h e = absurd (omega (arith, e, h .1))
-answer-injective asking NotApproved Approved g h e = absurd (omega arith)
-answer-injective asking NotApproved NotApproved g h e = refl
-answer-injective asking NotApproved (Refused k) g h e = absurd (omega (arith, e, h .0))
+answer-injective asking NotPart Approved g h e = absurd (omega arith)
+answer-injective asking NotPart NotPart g h e = refl
+answer-injective asking NotPart (NotAt k) g h e = absurd (omega (arith, e))
+answer-injective asking NotPart (Refused k) g h e = absurd (omega (arith, e, h .1))
+answer-injective asking (NotAt j) Approved g h e = absurd (omega (arith, e))
+answer-injective asking (NotAt j) NotPart g h e = absurd (omega (arith, e))
+answer-injective asking (NotAt j) (NotAt k) g h e = ap NotAt (omega (arith, e))
+answer-injective asking (NotAt j) (Refused k) g h e = absurd (omega (arith, e, g .0, h .1))
 answer-injective asking (Refused j) Approved g h e = absurd (omega (arith, e, g .1))
-answer-injective asking (Refused j) NotApproved g h e = absurd (omega (arith, e, g .0))
+answer-injective asking (Refused j) NotPart g h e = absurd (omega (arith, e, g .1))
+answer-injective asking (Refused j) (NotAt k) g h e = absurd (omega (arith, e, g .1, h .0))
 answer-injective asking (Refused j) (Refused k) g h e = ap Refused e
 answer-injective taking (Accepted n m) (Accepted j k) g h e =
     let y : m ≡ k = omega (arith, e, g .0, h .0) in ap₂ Accepted (omega (arith, e, y)) y

@@ -2,7 +2,7 @@
 -- withdrawal takes that one tree out, and a refused call leaves the table as it was.
 use mathlib.Core.Bool.{Bool, _&&_, _||_, cond, false, not, true}
 use mathlib.Core.List.{List}
-use mathlib.Core.Path.{_∙_, _≡_, ap, refl, subst, sym}
+use mathlib.Core.Path.{_∙_, _≡_, refl, subst, sym}
 use Prim.Native.Nat.{ℕ}
 use native.Mathlib.Omega.{arith}
 use lib.Dec.{eqb}
@@ -11,9 +11,8 @@ use Rattle.automata.specs.Automaton.{Automaton, accepts}
 use Rattle.calls.specs.Calls.{Change, addResult, changeRefusal, changeResult, changed, changedTree, delete}
 use Rattle.calls.specs.Calls.{doneWith, insert, outcome, removeResult}
 use Rattle.calls.specs.Claim.{InStep}
-use Rattle.calls.specs.Series.{Model, changedSet, member, modelOf, modelRefusal, settled, withChange}
-use Rattle.calls.specs.declared.Answer.{Answer}
-use Rattle.calls.specs.declared.Answer.the-variants.{Accepted, Approved, Done, NotApproved, Refused}
+use Rattle.calls.specs.Series.{Model, changedSet, member, modelOf, modelRefusal, withChange}
+use Rattle.calls.specs.declared.Answer.the-variants.{Done, Refused}
 use Rattle.format.specs.Format.{AllBytes}
 use Rattle.table.specs.Layout.{decode, encode}
 use Rattle.trees.specs.Listing.{readTree}

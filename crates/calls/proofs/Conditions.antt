@@ -7,8 +7,8 @@ use native.Mathlib.Omega.{arith}
 use lib.ListN.{length}
 use borrow.Author.Tests.{eqb-true}
 use Rattle.automata.specs.Automaton.{Automaton, accepts}
-use Rattle.calls.specs.Calls.{Change, changeRefusal, changed, changedTree, delete, earlyConditions, insert}
-use Rattle.calls.specs.Calls.{presence, scratchCondition, sizeConditions}
+use Rattle.calls.specs.Calls.{Change, askRefusal, changeRefusal, changed, changedTree, delete, earlyConditions}
+use Rattle.calls.specs.Calls.{insert, presence, scratchCondition, sizeConditions}
 use Rattle.calls.specs.Series.{Model, modelConditions}
 use Rattle.format.specs.Format.{scratchBytes}
 use Rattle.lists.specs.Conditions.{Condition, firstBroken}
@@ -22,6 +22,16 @@ use Rattle.trees.proofs.ListingRefusal.{listing-from-one}
 pub table-from-one : (b : List ℕ) → FromOne (lengthCondition b ∷ contentConditions b)
 unfolding contentConditions automatonConditions
 table-from-one b = omega arith
+
+-- ask refuses nothing: neither the listing nor the table is refused
+pub ask-passed : (s b : List ℕ) → askRefusal s b ≡ 0 → (listingRefusal s ≡ 0) × (tableRefusal b ≡ 0)
+unfolding askRefusal listingRefusal tableRefusal
+ask-passed s b e =
+    let h = hold-append (listingConditions s) (lengthCondition b ∷ contentConditions b)
+    (unbroken-hold (listingConditions s ++ (lengthCondition b ∷ contentConditions b))
+    (from-one-append (listingConditions s) (lengthCondition b ∷ contentConditions b) (listing-from-one s)
+    (table-from-one b)) e) in
+    (hold-unbroken (listingConditions s) (h .0), hold-unbroken (lengthCondition b ∷ contentConditions b) (h .1))
 
 presence-numbered : (c : Change) (p : Bool) → FromOne (presence c p ∷ []) × AtMost 15 (presence c p ∷ [])
 presence-numbered (insert t) p = (omega arith, omega arith)

@@ -10,7 +10,7 @@ use borrow.Author.Tests.{eqb-true, leb-true}
 use Rattle.automata.specs.Acyclic.{Bounded}
 use Rattle.automata.specs.Automaton.{Automaton, accepting, accepts, emptyAutomaton, run, states}
 use Rattle.automata.specs.Canonical.{Canonical}
-use Rattle.calls.specs.Calls.{Change, acceptedWith, addResult, approval, askAnswer, askRefusal}
+use Rattle.calls.specs.Calls.{Change, acceptedWith, addResult, askAnswer, askRefusal, asked}
 use Rattle.calls.specs.Calls.{changeRefusal, changeResult, changed, changedTree, delete, doneWith}
 use Rattle.calls.specs.Calls.{earlyConditions, insert, intakeAnswer, outcome, presence, refusedOr, removeResult}
 use Rattle.calls.specs.Calls.{scratchAfter, scratchCondition, sizeConditions}
@@ -20,7 +20,7 @@ use Rattle.calls.specs.Series.{emptyModel, member, modelConditions, mode
 use Rattle.calls.specs.Series.{query, queryResult, remove, replied, respond, settled, withChange}
 use Rattle.format.specs.Format.{AllBytes, maxStates, maxTransitions, tableBytes}
 use Rattle.lists.specs.Conditions.{Condition, firstBroken}
-use Rattle.table.specs.Intake.{WithinLimits, contentConditions, fitsTable, lengthCondition, tableRefusal}
+use Rattle.table.specs.Intake.{contentConditions, fitsTable, lengthCondition, tableRefusal}
 use Rattle.table.specs.Layout.{decode, encode}
 use Rattle.trees.specs.Legal.{Legal}
 use Rattle.trees.specs.Listing.{listingConditions, listingRefusal, readTree}
@@ -30,6 +30,7 @@ use Rattle.automata.proofs.Legal.{accepted-legal, canonical-legal}
 use Rattle.automata.proofs.ProductCounted.{product-counted}
 use Rattle.calls.proofs.Conditions.{model-from-one, table-from-one}
 use Rattle.calls.proofs.Model.{change-canonical, changed-bounded, changed-legal, model-accepts}
+use Rattle.calls.proofs.Reports.{asked-reports}
 use Rattle.lists.proofs.Conditions.{AllHold, append-same, hold-append, hold-first, hold-last, unbroken-hold}
 use Rattle.lists.proofs.Tests.{and-left, and-right}
 use Rattle.table.proofs.Intake.{canonical-passes, empty-bounded, empty-canonical, empty-limits, encode-empty}
@@ -66,11 +67,10 @@ module _ (b : List ℕ) (m : Model) (X : InStep b m) where
   unfolding askRefusal listingRefusal
   ask-refusal s = hold-last (listingConditions s) (lengthCondition b ∷ contentConditions b) table-hold
 
-  ask-same : (s : List ℕ) → askAnswer s b ≡ refusedOr (listingRefusal s) (approval (member m (readTree s)))
+  ask-same : (s : List ℕ) → askAnswer s b ≡ refusedOr (listingRefusal s) (asked (canonicalOf m) (readTree s))
   unfolding askAnswer
   ask-same s =
-      ap₂ (λ (r : ℕ) (a : Bool). refusedOr r (approval a)) (ask-refusal s)
-      (in-step-accepts (readTree s))
+      ap₂ (λ (r : ℕ) (A : Automaton). refusedOr r (asked A (readTree s))) (ask-refusal s) decoded
 
   intake-same : intakeAnswer b ≡ acceptedWith (canonicalOf m)
   unfolding intakeAnswer
@@ -82,7 +82,11 @@ module _ (b : List ℕ) (m : Model) (X : InStep b m) where
     canonical = X .canonical;
     changes = change-canonical m (X .canonical);
     pairs = λ t. product-counted t (canonicalOf m) (canonical-fits (member m) (canonicalOf m) (X .canonical));
-    asked = λ s. ap onlyAnswer (ap (askAnswer s) (sym (X .table)) ∙ ask-same s);
+    asked = λ s. record {
+      answer = asked (canonicalOf m) (readTree s);
+      reports = asked-reports (member m) (canonicalOf m) (X .canonical) (readTree s);
+      response = ap onlyAnswer (ap (askAnswer s) (sym (X .table)) ∙ ask-same s);
+    };
     taken = ap onlyAnswer (ap intakeAnswer (sym (X .table)) ∙ intake-same);
   }
 

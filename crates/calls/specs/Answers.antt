@@ -1,8 +1,8 @@
 -- The answers that each kind of call can give, and the one number that a C host gets for each.
 use Prim.Native.Nat.{_*_, _+_, _≤_, ℕ}
 use Rattle.calls.specs.declared.Answer.{Answer}
-use Rattle.calls.specs.declared.Answer.the-variants.{Accepted, Approved, Done, NotApproved, Refused}
-use Rattle.format.specs.Format.{maxStates, maxTransitions}
+use Rattle.calls.specs.declared.Answer.the-variants.{Accepted, Approved, Done, NotAt, NotPart, Refused}
+use Rattle.format.specs.Format.{maxNodes, maxStates, maxTransitions}
 
 -- ask, intake, and the two calls that change the set
 pub data CallKind : Type 0 where
@@ -16,20 +16,27 @@ RefusalNumber k = (1 ≤ k) × (k ≤ 17)
 abbrev pub TableCounts : ℕ → ℕ → Type 0
 TableCounts n m = (n ≤ maxStates) × (m ≤ maxTransitions)
 
+-- a listing has so many places
+abbrev pub PlaceNumber : ℕ → Type 0
+PlaceNumber k = (1 ≤ k) × (k ≤ maxNodes)
+
 -- a call of this kind can give this answer
 abbrev pub Gives : CallKind → Answer → Type 0
 Gives asking Approved = Unit {0}
-Gives asking NotApproved = Unit {0}
+Gives asking NotPart = Unit {0}
+Gives asking (NotAt k) = PlaceNumber k
 Gives asking (Accepted n m) = ⊥
 Gives asking (Done n m) = ⊥
 Gives asking (Refused k) = RefusalNumber k
 Gives taking Approved = ⊥
-Gives taking NotApproved = ⊥
+Gives taking NotPart = ⊥
+Gives taking (NotAt k) = ⊥
 Gives taking (Accepted n m) = TableCounts n m
 Gives taking (Done n m) = ⊥
 Gives taking (Refused k) = RefusalNumber k
 Gives changing Approved = ⊥
-Gives changing NotApproved = ⊥
+Gives changing NotPart = ⊥
+Gives changing (NotAt k) = ⊥
 Gives changing (Accepted n m) = ⊥
 Gives changing (Done n m) = TableCounts n m
 Gives changing (Refused k) = RefusalNumber k
@@ -41,7 +48,8 @@ countsNumber n m = 65536 * n + 4294967296 * m
 -- refusal + 256 kind + 65,536 first + 4,294,967,296 second
 abbrev pub answerNumber : Answer → ℕ
 answerNumber Approved = 256
-answerNumber NotApproved = 0
+answerNumber NotPart = 512
+answerNumber (NotAt k) = 65536 * k
 answerNumber (Accepted n m) = countsNumber n m
 answerNumber (Done n m) = countsNumber n m
 answerNumber (Refused k) = k

@@ -5,10 +5,11 @@ use mathlib.Core.List.{List, [], _++_, _∷_}
 use Prim.Native.Nat.{ℕ}
 use lib.Dec.{eqb, leb}
 use lib.ListN.{length, replicate}
-use Rattle.automata.specs.Automaton.{Automaton, accepts, states}
+use Rattle.automata.specs.Automaton.{Automaton, accepts, run, states}
 use Rattle.automata.specs.Change.{deleteTree, insertTree, productTransitions}
+use Rattle.automata.specs.Stops.{stopPlace}
 use Rattle.calls.specs.declared.Answer.{Answer}
-use Rattle.calls.specs.declared.Answer.the-variants.{Accepted, Approved, Done, NotApproved, Refused}
+use Rattle.calls.specs.declared.Answer.the-variants.{Accepted, Approved, Done, NotAt, NotPart, Refused}
 use Rattle.format.specs.Format.{maxProduct, scratchBytes}
 use Rattle.lists.specs.Conditions.{Condition, condition, firstBroken}
 use Rattle.table.specs.Intake.{contentConditions, fitsTable, lengthCondition, tableRefusal}
@@ -20,9 +21,9 @@ use Rattle.trees.specs.Tree.{Tree}
 abbrev pub refusedOr : ℕ → Answer → Answer
 refusedOr r a = cond (eqb r 0) a (Refused r)
 
--- approved or not
-abbrev pub approval : Bool → Answer
-approval b = cond b Approved NotApproved
+-- approved if the tree is accepted; else part of an accepted tree if it runs to a state; else the place of its first stop
+unfoldable pub asked : Automaton → Tree → Answer
+asked A t = cond (accepts A t) Approved (cond (eqb (run A t) 0) (NotAt (stopPlace A t)) NotPart)
 
 -- accepted, or done, with the numbers of states and of transitions
 abbrev pub acceptedWith : Automaton → Answer
@@ -38,7 +39,7 @@ unfoldable pub askRefusal : List ℕ → List ℕ → ℕ
 askRefusal s b = firstBroken (listingConditions s ++ (lengthCondition b ∷ contentConditions b))
 
 unfoldable pub askAnswer : List ℕ → List ℕ → Answer
-askAnswer s b = refusedOr (askRefusal s b) (approval (accepts (decode b) (readTree s)))
+askAnswer s b = refusedOr (askRefusal s b) (asked (decode b) (readTree s))
 
 -- intake: 5 and 7 to 13
 unfoldable pub intakeAnswer : List ℕ → Answer

@@ -1,4 +1,4 @@
--- Samples P1 to P11 of document 01, as rows of one table with one test.
+-- Samples P1 to P11 of document 01 and those of order 1, as rows of one table with one test.
 use mathlib.Core.Bool.{Bool, _&&_}
 use mathlib.Core.List.{List, [], _∷_}
 use Prim.Native.Nat.{suc, zero, ℕ}
@@ -7,7 +7,8 @@ use lib.ListN.{length, replicate}
 use Rattle.automata.specs.Automaton.{Automaton, accepting, emptyAutomaton, states}
 use Rattle.automata.specs.Change.{productPairs, productTransitions}
 use Rattle.automata.specs.Example.{fork, leaf}
-use Rattle.calls.specs.Calls.{Change, delete, insert}
+use Rattle.calls.specs.Answers.{answerNumber}
+use Rattle.calls.specs.Calls.{Change, asked, delete, insert}
 use Rattle.calls.specs.Series.{canonicalAfter}
 use Rattle.format.specs.Format.{tableBytes}
 use Rattle.lists.specs.Tests.{sameList}
@@ -34,6 +35,8 @@ pub data Sample : Type 0 where
   classed : List Change → Sample
   -- the product of what these changes give with this tree has so many pairs and transitions
   paired : List Change → Tree → ℕ → ℕ → Sample
+  -- after these changes ask answers for this tree with this number
+  answered : List Change → Tree → ℕ → Sample
   -- two lists of changes give the same bytes
   alike : List Change → List Change → Sample
   -- after these changes the table is all zeros
@@ -44,6 +47,7 @@ holds (listed s r) = eqb (listingRefusal s) r
 holds (sized cs n m) = let A = after cs in eqb (states A) n && eqb (length (A .transitions)) m
 holds (classed cs) = accepting (after cs) 1
 holds (paired cs t n m) = let A = after cs in eqb (productPairs A t) n && eqb (productTransitions A t) m
+holds (answered cs t n) = eqb (answerNumber (asked (after cs) t)) n
 holds (alike cs ds) = sameList (encode (after cs)) (encode (after ds))
 holds (cleared cs) = sameList (encode (after cs)) (replicate tableBytes 0)
 
@@ -54,6 +58,10 @@ p6 = insert (fork 1 2 2) ∷ insert (fork 1 2 1) ∷ insert (fork 1 1 2) ∷ ins
 -- P7: P6 and the tree of the paper's example
 abbrev pub p7 : List Change
 p7 = insert (fork 2 1 2) ∷ p6
+
+-- the set that the sample input of document 01 gives: (1 (1) (1))
+abbrev pub sampleSet : List Change
+sampleSet = insert (fork 1 1 1) ∷ []
 
 abbrev pub samples : List Sample
 samples =
@@ -66,4 +74,7 @@ samples =
     sized p7 3 7 ∷ paired p6 (fork 2 1 2) 4 7 ∷ alike (delete (fork 2 1 2) ∷ p7) p6 ∷
     -- P9 to P11
     sized (delete (fork 1 1 1) ∷ p6) 3 5 ∷ cleared (delete (leaf 1) ∷ insert (leaf 1) ∷ []) ∷
-    sized (insert (leaf 1) ∷ p6) 3 6 ∷ []
+    sized (insert (leaf 1) ∷ p6) 3 6 ∷
+    -- order 1: approved, not part, the top, the third node, and the first of two leaves that stop
+    answered sampleSet (fork 1 1 1) 256 ∷ answered sampleSet (leaf 1) 512 ∷ answered sampleSet (leaf 2) 65536 ∷
+    answered sampleSet (fork 1 1 2) 196608 ∷ answered sampleSet (fork 1 2 2) 131072 ∷ answered sampleSet (fork 2 1 1) 65536 ∷ []

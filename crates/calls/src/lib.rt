@@ -1,9 +1,12 @@
 // What a call answers. specs/Calls says which answer a call gives, for any bytes.
 
-// Approved or not; accepted or done, with the numbers of states and of transitions; or the number of a refusal.
+// Ask: approved; not approved, but part of an approved tree; or not approved, with the place of the node that stops the
+// tree, counted in nodes of the listing from 1. Intake and the changes: accepted or done, with the numbers of states and
+// of transitions. Each of them: the number of a refusal.
 pub enum Answer {
     Approved,
-    NotApproved,
+    NotPart,
+    NotAt { place: u8 },
     Accepted { states: u16, transitions: u16 },
     Done { states: u16, transitions: u16 },
     Refused { number: u8 },
