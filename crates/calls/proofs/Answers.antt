@@ -9,7 +9,8 @@ use lib.ListN.{length}
 use borrow.Author.Tests.{eqb-false, eqb-true, leb-true}
 use Rattle.automata.specs.Automaton.{Automaton, accepts, run, states}
 use Rattle.automata.specs.Stops.{stopPlace}
-use Rattle.calls.specs.Answers.{CallKind, Gives, RefusalNumber, TableCounts, answerNumber, asking, changing, taking}
+use Rattle.calls.specs.Answers.{CallKind, Gives, RefusalNumber, TableCounts, answerNumber, asking, changing}
+use Rattle.calls.specs.Answers.{taking}
 use Rattle.calls.specs.Calls.{Change, acceptedWith, addResult, askAnswer, askRefusal, asked, changeRefusal}
 use Rattle.calls.specs.Calls.{changeResult, changed, delete, doneWith, earlyConditions, insert, intakeAnswer}
 use Rattle.calls.specs.Calls.{outcome, refusedOr, removeResult, sizeConditions}

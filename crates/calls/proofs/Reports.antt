@@ -1,5 +1,5 @@
--- What ask answers, in words of the set: the answer by the canonical automaton reports on the tree, and a set and a tree
--- have one such answer.
+-- What ask answers, in words of the set: the answer by the canonical automaton reports on the tree, and a set and a
+-- tree have one such answer.
 use mathlib.Core.Bool.{Bool, cond, false, true, true≢false}
 use mathlib.Core.List.{List, []}
 use mathlib.Core.Logic.{_⊎_, inl, inr}

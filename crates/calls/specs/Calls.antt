@@ -21,7 +21,8 @@ use Rattle.trees.specs.Tree.{Tree}
 abbrev pub refusedOr : ℕ → Answer → Answer
 refusedOr r a = cond (eqb r 0) a (Refused r)
 
--- approved if the tree is accepted; else part of an accepted tree if it runs to a state; else the place of its first stop
+-- approved if the tree is accepted, else part of an accepted tree if it runs to a state, else the place of its first
+-- stop
 unfoldable pub asked : Automaton → Tree → Answer
 asked A t = cond (accepts A t) Approved (cond (eqb (run A t) 0) (NotAt (stopPlace A t)) NotPart)
 

@@ -10,6 +10,8 @@ use Rattle.automata.specs.Example.{fork, leaf}
 use Rattle.calls.specs.Answers.{answerNumber}
 use Rattle.calls.specs.Calls.{Change, asked, delete, insert}
 use Rattle.calls.specs.Series.{canonicalAfter}
+use Rattle.calls.specs.declared.Answer.{Answer}
+use Rattle.calls.specs.declared.Answer.the-variants.{Approved, NotAt, NotPart}
 use Rattle.format.specs.Format.{tableBytes}
 use Rattle.lists.specs.Tests.{sameList}
 use Rattle.table.specs.Layout.{encode}
@@ -35,8 +37,8 @@ pub data Sample : Type 0 where
   classed : List Change → Sample
   -- the product of what these changes give with this tree has so many pairs and transitions
   paired : List Change → Tree → ℕ → ℕ → Sample
-  -- after these changes ask answers for this tree with this number
-  answered : List Change → Tree → ℕ → Sample
+  -- after these changes ask answers so for this tree
+  answered : List Change → Tree → Answer → Sample
   -- two lists of changes give the same bytes
   alike : List Change → List Change → Sample
   -- after these changes the table is all zeros
@@ -47,7 +49,7 @@ holds (listed s r) = eqb (listingRefusal s) r
 holds (sized cs n m) = let A = after cs in eqb (states A) n && eqb (length (A .transitions)) m
 holds (classed cs) = accepting (after cs) 1
 holds (paired cs t n m) = let A = after cs in eqb (productPairs A t) n && eqb (productTransitions A t) m
-holds (answered cs t n) = eqb (answerNumber (asked (after cs) t)) n
+holds (answered cs t a) = eqb (answerNumber (asked (after cs) t)) (answerNumber a)
 holds (alike cs ds) = sameList (encode (after cs)) (encode (after ds))
 holds (cleared cs) = sameList (encode (after cs)) (replicate tableBytes 0)
 
@@ -75,6 +77,7 @@ samples =
     -- P9 to P11
     sized (delete (fork 1 1 1) ∷ p6) 3 5 ∷ cleared (delete (leaf 1) ∷ insert (leaf 1) ∷ []) ∷
     sized (insert (leaf 1) ∷ p6) 3 6 ∷
-    -- order 1: approved, not part, the top, the third node, and the first of two leaves that stop
-    answered sampleSet (fork 1 1 1) 256 ∷ answered sampleSet (leaf 1) 512 ∷ answered sampleSet (leaf 2) 65536 ∷
-    answered sampleSet (fork 1 1 2) 196608 ∷ answered sampleSet (fork 1 2 2) 131072 ∷ answered sampleSet (fork 2 1 1) 65536 ∷ []
+    -- order 1: approved; not part; stopped at the top, at node 3, at the first of two leaves, above two leaves
+    answered sampleSet (fork 1 1 1) Approved ∷ answered sampleSet (leaf 1) NotPart ∷
+    answered sampleSet (leaf 2) (NotAt 1) ∷ answered sampleSet (fork 1 1 2) (NotAt 3) ∷
+    answered sampleSet (fork 1 2 2) (NotAt 2) ∷ answered sampleSet (fork 2 1 1) (NotAt 1) ∷ []

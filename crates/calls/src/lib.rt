@@ -1,8 +1,8 @@
 // What a call answers. specs/Calls says which answer a call gives, for any bytes.
 
-// Ask: approved; not approved, but part of an approved tree; or not approved, with the place of the node that stops the
-// tree, counted in nodes of the listing from 1. Intake and the changes: accepted or done, with the numbers of states and
-// of transitions. Each of them: the number of a refusal.
+// Ask: approved; not approved, but part of an approved tree; or not approved, with the place of the node that stops
+// the tree, counted in nodes of the listing from 1. Intake and the changes: accepted or done, with the numbers of
+// states and of transitions. Each of them: the number of a refusal.
 pub enum Answer {
     Approved,
     NotPart,

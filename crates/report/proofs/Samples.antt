@@ -1,7 +1,7 @@
 -- The lines that document 01 prints for its example, and others, computed.
 use mathlib.Core.List.{[], _∷_}
 use mathlib.Core.Path.{_≡_, refl}
-use Rattle.calls.specs.declared.Answer.the-variants.{Done, Refused}
+use Rattle.calls.specs.declared.Answer.the-variants.{Done, NotAt, NotPart, Refused}
 use Rattle.lists.specs.Decimal.{decimal, digits}
 use Rattle.report.specs.Report.{answerText, endText, field, lineText, outcomeText}
 use Rattle.report.specs.declared.Outcome.the-variants.{Answered, Form}
@@ -10,6 +10,16 @@ use Rattle.report.specs.declared.Outcome.the-variants.{Answered, Form}
 done-sample : lineText 1 (Answered (Done 2 2)) ≡ 49 ∷ 32 ∷ 100 ∷ 111 ∷ 110 ∷ 101 ∷ 32 ∷ 50 ∷ 32 ∷ 50 ∷ 10 ∷ []
 unfolding lineText outcomeText answerText field decimal digits
 done-sample = refl
+
+-- 4 not 1
+not-sample : lineText 4 (Answered (NotAt 1)) ≡ 52 ∷ 32 ∷ 110 ∷ 111 ∷ 116 ∷ 32 ∷ 49 ∷ 10 ∷ []
+unfolding lineText outcomeText answerText field decimal digits
+not-sample = refl
+
+-- 5 not part
+part-sample : lineText 5 (Answered NotPart) ≡ 53 ∷ 32 ∷ 110 ∷ 111 ∷ 116 ∷ 32 ∷ 112 ∷ 97 ∷ 114 ∷ 116 ∷ 10 ∷ []
+unfolding lineText outcomeText answerText field decimal digits
+part-sample = refl
 
 -- 3 refused 15
 refused-sample : lineText 3 (Answered (Refused 15)) ≡

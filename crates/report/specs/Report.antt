@@ -1,9 +1,9 @@
 -- What the bench program prints for a line and at the end of its input, as document 01 words it. Fields stand one
--- space apart: the line number, a word, then states and transitions, the refusal, or the column.
+-- space apart: the line number, a word, then states and transitions, the place, the refusal, or the column.
 use mathlib.Core.List.{List, [], _++_, _∷_}
 use Prim.Native.Nat.{ℕ}
 use Rattle.calls.specs.declared.Answer.{Answer}
-use Rattle.calls.specs.declared.Answer.the-variants.{Accepted, Approved, Done, NotApproved, Refused}
+use Rattle.calls.specs.declared.Answer.the-variants.{Accepted, Approved, Done, NotAt, NotPart, Refused}
 use Rattle.lists.specs.Decimal.{decimal}
 use Rattle.report.specs.declared.Outcome.{Outcome}
 use Rattle.report.specs.declared.Outcome.the-variants.{Answered, Form, Long}
@@ -26,6 +26,9 @@ approvedWord = 97 ∷ 112 ∷ 112 ∷ 114 ∷ 111 ∷ 118 ∷ 101 ∷ 100 ∷ []
 abbrev pub notWord : List ℕ
 notWord = 110 ∷ 111 ∷ 116 ∷ []
 
+abbrev pub partWord : List ℕ
+partWord = 112 ∷ 97 ∷ 114 ∷ 116 ∷ []
+
 abbrev pub refusedWord : List ℕ
 refusedWord = 114 ∷ 101 ∷ 102 ∷ 117 ∷ 115 ∷ 101 ∷ 100 ∷ []
 
@@ -45,7 +48,8 @@ field n = space ∷ decimal n
 -- the word of an answer and its numbers; no line makes the call that accepts a table
 unfoldable pub answerText : Answer → List ℕ
 answerText Approved = approvedWord
-answerText NotApproved = notWord
+answerText NotPart = notWord ++ (space ∷ partWord)
+answerText (NotAt place) = notWord ++ field place
 answerText (Accepted states transitions) = acceptedWord ++ (field states ++ field transitions)
 answerText (Done states transitions) = doneWord ++ (field states ++ field transitions)
 answerText (Refused number) = refusedWord ++ field number

@@ -95,7 +95,11 @@ fn put_answer(out: &mut [u8; LINE_BYTES], at: usize, answer: Answer) -> usize
 {
     match answer {
         Answer::Approved => put_word(out, at, b"approved"),
-        Answer::NotApproved => put_word(out, at, b"not"),
+        Answer::NotPart => put_word(out, at, b"not part"),
+        Answer::NotAt { place } => {
+            let first = put_word(out, at, b"not");
+            put_field(out, first, place as u64)
+        }
         Answer::Accepted {
             states,
             transitions,

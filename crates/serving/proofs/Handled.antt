@@ -9,7 +9,7 @@ use lib.ListN.{drop, length, length-append, replicate, take}
 use Rattle.format.specs.Format.{listingBytes}
 use Rattle.calls.specs.Calls.{Result, intakeAnswer}
 use Rattle.calls.specs.declared.Answer.{Answer}
-use Rattle.calls.specs.declared.Answer.the-variants.{Accepted, Approved, Done, NotApproved, Refused}
+use Rattle.calls.specs.declared.Answer.the-variants.{Accepted, Approved, Done, NotAt, NotPart, Refused}
 use Rattle.calls.proofs.Answer.{the-type}
 use Rattle.report.specs.Printing.{Printed}
 use Rattle.report.specs.Report.{endText, lineText}
@@ -102,11 +102,12 @@ pub printed-closing : (n : ℕ) (b t x : List ℕ) (r : ℕ) (a : Answer) → a 
 unfolding closing
 printed-closing n b t x r a e f p = subst (λ (y : List ℕ). Printed t y r) (sym f ∙ ap (closingFor n) e) p
 
--- an answer of any other case than the third, which accepts a table, has no numbers
-pub other-closing : (n : ℕ) (a : Answer) → OneOf (0 ∷ 1 ∷ 3 ∷ 4 ∷ []) (tagOf the-type a) →
+-- an answer of any other case than the fourth, which accepts a table, has no numbers
+pub other-closing : (n : ℕ) (a : Answer) → OneOf (0 ∷ 1 ∷ 2 ∷ 4 ∷ 5 ∷ []) (tagOf the-type a) →
     closingFor n a ≡ endText n 0 0
 other-closing n Approved h = refl
-other-closing n NotApproved h = refl
-other-closing n (Accepted j k) h = absurd (miss (0 ∷ 1 ∷ 3 ∷ 4 ∷ []) 2 tt h)
+other-closing n NotPart h = refl
+other-closing n (NotAt k) h = refl
+other-closing n (Accepted j k) h = absurd (miss (0 ∷ 1 ∷ 2 ∷ 4 ∷ 5 ∷ []) 3 tt h)
 other-closing n (Done j k) h = refl
 other-closing n (Refused k) h = refl

@@ -4,7 +4,7 @@ use mathlib.Core.List.{List}
 use Prim.Native.Nat.{ℕ}
 use Rattle.calls.specs.Calls.{Result, addResult, askAnswer, intakeAnswer, removeResult}
 use Rattle.calls.specs.declared.Answer.{Answer}
-use Rattle.calls.specs.declared.Answer.the-variants.{Accepted, Approved, Done, NotApproved, Refused}
+use Rattle.calls.specs.declared.Answer.the-variants.{Accepted, Approved, Done, NotAt, NotPart, Refused}
 use Rattle.report.specs.Report.{endText, lineText}
 use Rattle.report.specs.declared.Outcome.{Outcome}
 use Rattle.report.specs.declared.Outcome.the-variants.{Answered, Form, Long}
@@ -49,7 +49,8 @@ served n s b w = reported n (handled (readLine s) b w)
 -- calls left passes intake; for another one the numbers are 0.
 abbrev pub closingFor : ℕ → Answer → List ℕ
 closingFor lines Approved = endText lines 0 0
-closingFor lines NotApproved = endText lines 0 0
+closingFor lines NotPart = endText lines 0 0
+closingFor lines (NotAt k) = endText lines 0 0
 closingFor lines (Accepted n m) = endText lines n m
 closingFor lines (Done n m) = endText lines 0 0
 closingFor lines (Refused k) = endText lines 0 0

@@ -33,8 +33,11 @@ slice-aggregate-put-word-3 c = search needs
 put-word-requires-3 : tie.Need-put-word-requires-3
 put-word-requires-3 c κs = search needs
 
-put-counts-requires : tie.Need-put-counts-requires
-put-counts-requires c κs = search needs
+cast-put-field : tie.Need-cast-put-field
+cast-put-field c = search needs
+
+put-field-requires : tie.Need-put-field-requires
+put-field-requires c κs = search needs
 
 enum-known-answer-2 : tie.Need-enum-known-answer-2
 enum-known-answer-2 c = search needs
@@ -45,8 +48,8 @@ slice-aggregate-put-word-4 c = search needs
 put-word-requires-4 : tie.Need-put-word-requires-4
 put-word-requires-4 c κs = search needs
 
-put-counts-requires-2 : tie.Need-put-counts-requires-2
-put-counts-requires-2 c κs = search needs
+put-counts-requires : tie.Need-put-counts-requires
+put-counts-requires c κs = search needs
 
 enum-known-answer-3 : tie.Need-enum-known-answer-3
 enum-known-answer-3 c = search needs
@@ -57,11 +60,23 @@ slice-aggregate-put-word-5 c = search needs
 put-word-requires-5 : tie.Need-put-word-requires-5
 put-word-requires-5 c κs = search needs
 
-cast-put-field : tie.Need-cast-put-field
-cast-put-field c = search needs
+put-counts-requires-2 : tie.Need-put-counts-requires-2
+put-counts-requires-2 c κs = search needs
 
-put-field-requires : tie.Need-put-field-requires
-put-field-requires c κs = search needs
+enum-known-answer-4 : tie.Need-enum-known-answer-4
+enum-known-answer-4 c = search needs
+
+slice-aggregate-put-word-6 : tie.Need-slice-aggregate-put-word-6
+slice-aggregate-put-word-6 c = search needs
+
+put-word-requires-6 : tie.Need-put-word-requires-6
+put-word-requires-6 c κs = search needs
+
+cast-put-field-2 : tie.Need-cast-put-field-2
+cast-put-field-2 c = search needs
+
+put-field-requires-2 : tie.Need-put-field-requires-2
+put-field-requires-2 c κs = search needs
 
 returns : tie.Need-returns
 unfolding answerText
@@ -74,17 +89,22 @@ returns-2 c = (rw (c .before .before .before .enum-told2 .given .1) (c .put-word
 returns-3 : tie.Need-returns-3
 unfolding answerText
 returns-3 c =
-    (rw (c .before .before .before .before .before .before .answer .given .1) (put-then (c .before .before .put-word3 .ensures) (c .put-counts .ensures .0)), omega arith)
+    (rw (c .before .before .before .before .before .before .answer .given .1) (put-then (c .before .before .put-word3 .ensures) (c .put-field .ensures .0)), omega arith)
 
 returns-4 : tie.Need-returns-4
 unfolding answerText
 returns-4 c =
-    (rw (c .before .before .before .before .before .before .answer2 .given .1) (put-then (c .before .before .put-word4 .ensures) (c .put-counts2 .ensures .0)), omega arith)
+    (rw (c .before .before .before .before .before .before .answer2 .given .1) (put-then (c .before .before .put-word4 .ensures) (c .put-counts .ensures .0)), omega arith)
 
 returns-5 : tie.Need-returns-5
 unfolding answerText
 returns-5 c =
-    (rw (c .before .before .before .before .before .before .answer3 .given .1) (put-then (c .before .before .put-word5 .ensures) (c .put-field .ensures .0)), omega arith)
+    (rw (c .before .before .before .before .before .before .answer3 .given .1) (put-then (c .before .before .put-word5 .ensures) (c .put-counts2 .ensures .0)), omega arith)
+
+returns-6 : tie.Need-returns-6
+unfolding answerText
+returns-6 c =
+    (rw (c .before .before .before .before .before .before .answer4 .given .1) (put-then (c .before .before .put-word6 .ensures) (c .put-field2 .ensures .0)), omega arith)
 
 pub put-answer-spec : {M : Type 1} → statement M
 put-answer-spec =
@@ -99,18 +119,24 @@ put-answer-spec =
     enum-known-answer
     slice-aggregate-put-word-3
     put-word-requires-3
-    put-counts-requires
+    cast-put-field
+    put-field-requires
     enum-known-answer-2
     slice-aggregate-put-word-4
     put-word-requires-4
-    put-counts-requires-2
+    put-counts-requires
     enum-known-answer-3
     slice-aggregate-put-word-5
     put-word-requires-5
-    cast-put-field
-    put-field-requires
+    put-counts-requires-2
+    enum-known-answer-4
+    slice-aggregate-put-word-6
+    put-word-requires-6
+    cast-put-field-2
+    put-field-requires-2
     returns
     returns-2
     returns-3
     returns-4
-    returns-5)
+    returns-5
+    returns-6)
