@@ -4,6 +4,7 @@
 #include "commands.h"
 
 #include "message.h"
+#include "node.h"
 #include "output.h"
 
 #include <errno.h>
@@ -17,6 +18,22 @@ static enum status refused(const struct session *session, unsigned long number, 
     return STATUS_REFUSED;
 }
 
+static enum status not_approved(const struct session *session, unsigned long number, const uint8_t *tree,
+                                uint64_t answer)
+{
+    char node[NODE_TEXT];
+    unsigned place = scalebench_place(answer);
+    if (place == 0) {
+        output(session->quiet, "%lu not part\n", number);
+        explain("not approved: part of an approved assembly");
+        return STATUS_NOT;
+    }
+    node_text(tree, place, node);
+    output(session->quiet, "%lu not %u\n", number, place);
+    explain("not approved: %s", node);
+    return STATUS_NOT;
+}
+
 static enum status ask(const struct session *session, unsigned long number, const uint8_t *tree, size_t length)
 {
     struct book *book = session->book;
@@ -26,9 +43,10 @@ static enum status ask(const struct session *session, unsigned long number, cons
     uint64_t answer = scalebench_ask(tree, length, book->table, sizeof book->table);
     if (scalebench_refusal(answer))
         return refused(session, number, scalebench_refusal(answer));
-    int approved = scalebench_approved(answer);
-    output(session->quiet, "%lu %s\n", number, approved ? "approved" : "not");
-    return approved ? STATUS_FINE : STATUS_NOT;
+    if (!scalebench_approved(answer))
+        return not_approved(session, number, tree, answer);
+    output(session->quiet, "%lu approved\n", number);
+    return STATUS_FINE;
 }
 
 /* The change in memory alone. */

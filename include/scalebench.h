@@ -51,7 +51,7 @@ extern "C" {
 #endif
 
 /* The version of the library, of this header and of the host. */
-#define SCALEBENCH_VERSION "0.2.0"
+#define SCALEBENCH_VERSION "0.3.0"
 
 /* The lengths that a table and a scratch must have, and the greatest length of a listing for ask, add and remove. */
 #define SCALEBENCH_TABLE_BYTES 11467
@@ -70,7 +70,12 @@ extern "C" {
 #define SCALEBENCH_ASK_STACK_BYTES 98304
 #define SCALEBENCH_READ_STACK_BYTES 49152
 
-/* Whether the tree is approved. Refuses by 1 to 5 and 7 to 13. Writes nothing. */
+/*
+ * Whether the tree is approved. If it is not, whether it is part of an approved tree: a node of one with all that is
+ * below it. If it is no part, the answer has the place of the node that stops it. That is the first node in the listing
+ * that is not part of an approved tree, with all that is below it, while each of its children is. Refuses by 1 to 5 and
+ * 7 to 13. Writes nothing.
+ */
 uint64_t scalebench_ask(const uint8_t *tree, size_t tree_len, const uint8_t *table, size_t table_len);
 
 /*
@@ -116,8 +121,13 @@ enum {
 static inline unsigned scalebench_refusal(uint64_t answer) { return SCALEBENCH_AS(unsigned, answer & 255); }
 static inline unsigned scalebench_kind(uint64_t answer) { return SCALEBENCH_AS(unsigned, answer >> 8 & 255); }
 
-/* Of ask: whether the tree is approved. */
+/*
+ * Of ask: whether the tree is approved; whether it is not, but part of an approved tree; the place of the node that
+ * stops it, counted in nodes of the listing from 1, else 0.
+ */
 static inline int scalebench_approved(uint64_t answer) { return scalebench_kind(answer) == 1; }
+static inline int scalebench_part(uint64_t answer) { return scalebench_kind(answer) == 2; }
+static inline unsigned scalebench_place(uint64_t answer) { return SCALEBENCH_AS(unsigned, answer >> 16 & 65535); }
 
 /* Of intake, add and remove, not refused: the numbers of states and of transitions that the table has now. */
 static inline unsigned scalebench_states(uint64_t answer) { return SCALEBENCH_AS(unsigned, answer >> 16 & 65535); }

@@ -78,7 +78,7 @@ ln -s ../tree/bench link
 ln -s "$PWD/link" second
 touch "$folder/slow"
 echo '(ask (1))' | ./second >out 2>err
-equal 'the first run' "$? $(cat out)" '0 1 not
+equal 'the first run' "$? $(cat out)" '0 1 not 1
 end 1 0 0'
 equal 'how far it is' "$(grep -c 'bench: [12] of 3 crates proved' err)" 2
 equal 'the first run proves' "$(steps)" 'check bench '

@@ -1,4 +1,7 @@
-/* Ask and intake through the C interface: document 01's listings, and a damaged table for each of 5 and 7 to 13. */
+/*
+ * Ask and intake through the C interface: document 01's listings, every answer of ask, and a damaged table for each of
+ * 5 and 7 to 13.
+ */
 #include "tables.h"
 
 static void listings(void)
@@ -17,7 +20,7 @@ static void listings(void)
     expect("no bytes", scalebench_ask(NULL, 0, table, TABLE), 1);
     expect("49 nodes", scalebench_ask(chain, 98, table, TABLE), 1);
     chain[95] = 0;
-    expect("48 nodes", scalebench_ask(chain, 96, table, TABLE), 0);
+    expect("48 nodes", scalebench_ask(chain, 96, table, TABLE), stopped_at(48));
     expect("48 nodes, no table", scalebench_ask(chain, 96, NULL, 0), 5);
     expect("a short table", scalebench_ask(chain, 96, table, TABLE - 1), 5);
     expect("the listing comes first", scalebench_ask(chain, 95, table, 0), 1);
@@ -30,11 +33,68 @@ static void approved(void)
     expect("the example", scalebench_intake(table, TABLE), counts(3, 7));
     expect("(1 (1) (1))", scalebench_ask((const uint8_t[]){1, 2, 1, 0, 1, 0}, 6, table, TABLE), 256);
     expect("(2 (1) (2))", scalebench_ask((const uint8_t[]){2, 2, 1, 0, 2, 0}, 6, table, TABLE), 256);
-    expect("(2 (2) (1))", scalebench_ask((const uint8_t[]){2, 2, 2, 0, 1, 0}, 6, table, TABLE), 0);
-    expect("(1)", scalebench_ask((const uint8_t[]){1, 0}, 2, table, TABLE), 0);
-    expect("(7)", scalebench_ask((const uint8_t[]){7, 0}, 2, table, TABLE), 0);
+    expect("(2 (2) (1))", scalebench_ask((const uint8_t[]){2, 2, 2, 0, 1, 0}, 6, table, TABLE), stopped_at(1));
+    expect("(1)", scalebench_ask((const uint8_t[]){1, 0}, 2, table, TABLE), PART);
+    expect("(7)", scalebench_ask((const uint8_t[]){7, 0}, 2, table, TABLE), stopped_at(1));
     memset(table, 0, TABLE);
     expect("the empty set", scalebench_intake(table, TABLE), 0);
+}
+
+/* Order 1, on the set of (10 (20 (30)) (21 (31))). */
+static void not_approved(void)
+{
+    const struct line lines[] = {{30, 0, {0}, 1}, {31, 0, {0}, 2}, {20, 1, {1}, 3}, {21, 1, {2}, 4},
+                                 {10, 2, {3, 4}, 5}};
+    const struct {
+        const char *tree;
+        uint64_t answer;
+    } asked[] = {
+        {"(10 (20 (30)) (21 (31)))", 256},
+        {"(20 (30))", PART},
+        {"(31)", PART},
+        {"(10 (21 (31)) (20 (30)))", stopped_at(1)},
+        {"(10)", stopped_at(1)},
+        {"(10 (20 (31)) (21 (31)))", stopped_at(2)},
+        {"(10 (20 (30) (30)) (21 (31)))", stopped_at(2)},
+        {"(10 (20 (30)) (21 (30)))", stopped_at(4)},
+        {"(10 (20 (30)) (21 (9)))", stopped_at(5)},
+        {"(10 (20 (9)) (21 (9)))", stopped_at(3)},
+        {"(10 (20 (31)) (21 (9)))", stopped_at(2)},
+        {"(9 (9 (9)))", stopped_at(3)},
+    };
+    uint8_t table[TABLE], listing[SCALEBENCH_LISTING_BYTES];
+    build(table, "00001", lines, 5);
+    expect("the table", scalebench_intake(table, TABLE), counts(5, 5));
+    for (size_t i = 0; i < sizeof asked / sizeof asked[0]; i++) {
+        size_t length = list(asked[i].tree, listing);
+        uint64_t answer = scalebench_ask(listing, length, table, TABLE);
+        expect(asked[i].tree, answer, asked[i].answer);
+        expect("approved", (uint64_t)scalebench_approved(answer), asked[i].answer == 256);
+        expect("part", (uint64_t)scalebench_part(answer), asked[i].answer == PART);
+        expect("place", scalebench_place(answer), asked[i].answer >> 16);
+    }
+}
+
+/* A chain of 48 nodes is in the set; at each place in turn a label that the set does not have. */
+static void every_place(void)
+{
+    static uint8_t table[TABLE], scratch[SCRATCH];
+    uint8_t nodes[96];
+    memset(table, 0, TABLE);
+    for (unsigned i = 0; i < 48; i++) {
+        nodes[2 * i] = 1;
+        nodes[2 * i + 1] = i < 47;
+    }
+    expect("48 nodes in the set", scalebench_add(nodes, 96, table, TABLE, scratch, SCRATCH), counts(48, 48));
+    for (unsigned place = 1; place <= 48; place++) {
+        nodes[2 * place - 2] = 2;
+        expect("one node of 48", scalebench_ask(nodes, 96, table, TABLE), stopped_at(place));
+        nodes[94] = 2;
+        expect("the deepest of two", scalebench_ask(nodes, 96, table, TABLE), stopped_at(48));
+        nodes[94] = nodes[2 * place - 2] = 1;
+    }
+    for (unsigned place = 2; place <= 48; place++)
+        expect("a part", scalebench_ask(nodes + 2 * place - 2, 98 - 2 * place, table, TABLE), PART);
 }
 
 static void one_byte(const char *what, unsigned at, uint8_t byte, uint64_t want)
@@ -111,6 +171,8 @@ int main(void)
 {
     listings();
     approved();
+    not_approved();
+    every_place();
     fields();
     automata();
     return finished();

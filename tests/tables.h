@@ -29,6 +29,10 @@ static inline int finished(void)
     return failed != 0;
 }
 
+/* What ask answers for a tree that is part of an approved one, and for one that the node at this place stops. */
+enum { PART = 512 };
+static inline uint64_t stopped_at(uint64_t place) { return place << 16; }
+
 /* What intake, add and remove answer that are not refused. */
 static inline uint64_t counts(uint64_t states, uint64_t transitions) { return states << 16 | transitions << 32; }
 

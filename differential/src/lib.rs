@@ -6,5 +6,6 @@ pub mod dice;
 pub mod library;
 pub mod lines;
 pub mod series;
+pub mod stops;
 pub mod swaps;
 pub mod tally;

@@ -2,7 +2,8 @@
 
 use crate::library;
 use reference::text::{self, READ_BYTES};
-use std::collections::BTreeMap;
+use reference::tree::MAX_NODES;
+use std::collections::{BTreeMap, BTreeSet};
 
 /// The calls, in the order in which their refusals are listed below.
 #[derive(Clone, Copy, Debug, PartialEq, Eq, PartialOrd, Ord)]
@@ -17,6 +18,8 @@ pub enum Call {
 #[derive(Default)]
 pub struct Tally {
     met: BTreeMap<(Call, u64), usize>,
+    /// The places at which ask said that a tree stops.
+    places: BTreeSet<u64>,
     pub passed: usize,
     pub failed: usize,
 }
@@ -36,7 +39,7 @@ impl Tally {
     }
 
     fn answers(&mut self, call: Call, listing: &[u8], library: u64, reference: u64) {
-        // The refusal and the kind; the numbers of states and transitions are no answer of their own.
+        // The refusal and the kind; the place and the numbers of states and transitions are no answer of their own.
         *self.met.entry((call, library & 0xffff)).or_default() += 1;
         self.expect(library == reference, || {
             format!("{call:?} of {listing:?}: library {library:#x}, reference {reference:#x}")
@@ -52,7 +55,11 @@ impl Tally {
 
     /// Ask and intake.
     pub fn read(&mut self, listing: &[u8], table: &[u8]) {
-        self.answers(Call::Ask, listing, library::ask(listing, table), reference::ask(listing, table).packed());
+        let answer = library::ask(listing, table);
+        if answer & 0xffff == 0 {
+            self.places.insert(answer >> 16);
+        }
+        self.answers(Call::Ask, listing, answer, reference::ask(listing, table).packed());
         self.intake(table);
     }
 
@@ -101,11 +108,13 @@ impl Tally {
         self.met.values().sum()
     }
 
-    /// No refusal of a call, and no answer of it, was left untried.
+    /// No refusal of a call, no answer of it, and no place of a listing was left untried.
     pub fn all_met(&mut self) {
+        let places = std::mem::take(&mut self.places);
+        self.expect(places.iter().copied().eq(1..=MAX_NODES as u64), || format!("places met: {places:?}"));
         for call in [Call::Ask, Call::Intake, Call::Add, Call::Remove, Call::Read] {
             let answers: Vec<u64> = match call {
-                Call::Ask => (0..=5).chain(7..=13).chain([256]).collect(),
+                Call::Ask => (0..=5).chain(7..=13).chain([256, 512]).collect(),
                 Call::Intake => [0, 5].into_iter().chain(7..=13).collect(),
                 Call::Add => (0..=14).chain([16, 17]).collect(),
                 Call::Remove => (0..=13).chain(15..=17).collect(),

@@ -21,18 +21,19 @@ LINES
 run 'the sample' 6 '1 done 2 2
 2 approved
 3 refused 15
-4 not
+4 not 1
 end 4 2 2' book
 told 'the sample' 'line 3: the tree is not approved'
+told 'the sample' 'line 4: not approved: node 1, label 2, the top'
 cp book sample
 run 'again' 6 '1 refused 14
 2 approved
 3 refused 15
-4 not
+4 not 1
 end 4 2 2' --new book
 same 'a refused change leaves the file' book sample
 printf '(ask (2))\n' | input
-run 'lines that are only answered' 0 '1 not
+run 'lines that are only answered' 0 '1 not 1
 end 1 2 2' book
 
 # One command: its status is the answer.
@@ -40,8 +41,15 @@ input </dev/null
 run 'no lines' 0 'end 0 2 2' book
 run 'approved' 0 '1 approved
 end 1 2 2' book '(ask (1 (1) (1)))'
-run 'not approved' 1 '1 not
+run 'not approved' 1 '1 not 3
 end 1 2 2' book '(ask (1 (1) (2)))'
+told 'not approved' 'line 1: not approved: node 3, label 2, under 1'
+run 'not approved below' 1 '1 not 4
+end 1 2 2' book '(ask (1 (1 (1) (31)) (2)))'
+told 'not approved below' 'line 1: not approved: node 4, label 31, under 1 > 1'
+run 'not approved, but a part' 1 '1 not part
+end 1 2 2' book '(ask (1))'
+told 'not approved, but a part' 'line 1: not approved: part of an approved assembly'
 run 'done' 0 '1 done 2 3
 end 1 2 3' book '(add (7))'
 run 'refused' 6 '1 refused 14
@@ -87,15 +95,16 @@ run 'lines' 6 '1 form 9
 10 form 6
 11 refused 2
 12 refused 3
-13 not
+13 not 48
 14 refused 1
 15 refused 1
 16 form 1
 17 long
 18 long
-19 not
+19 not 1
 end 19 0 0' book
 told 'malformed' 'line 1: not (add TREE)'
+told 'the deepest node' "line 13: not approved: node 48, label 1, under $(awk 'BEGIN { for (i = 1; i < 47; i++) printf "1 > "; print 1 }')"
 told 'long' 'line 18: above 512 bytes'
 
 # Input and output that fail.

@@ -5,14 +5,14 @@
 
 printf '(add (1))\n(add (2))\n(ask (2))\n(drop (1))\n(ask (1))\n' | input
 run 'a batch' 0 '3 approved
-5 not
+5 not 1
 end 5 1 1' --batch --new book
 holds 'one file' book
 run 'as lines' 0 '1 done 1 1
 2 done 1 2
 3 approved
 4 done 1 1
-5 not
+5 not 1
 end 5 1 1' --new lines
 same 'the same book' book lines
 

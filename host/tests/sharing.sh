@@ -48,7 +48,7 @@ run 'busy' 4 '' --wait 0 book '(add (8))'
 told 'busy' 'line 1: cannot change book: another program has it'
 run 'busy for a second' 4 '' --wait 1 book '(add (8))'
 run 'busy for a batch' 4 '' --batch --wait 0 book
-run 'asked meanwhile' 1 '1 not
+run 'asked meanwhile' 1 '1 not 1
 end 1 1 3' book '(ask (7))'
 run 'tried meanwhile' 0 '1 done 1 4
 end 1 1 4' --dry-run book '(add (7))'
@@ -104,9 +104,9 @@ rm book
 echo '(ask (12))' >&3
 exec 3>&-
 wait $one
-equal 'answers from the file that is there' "$? $(cat ../out1)" '3 1 not
+equal 'answers from the file that is there' "$? $(cat ../out1)" '3 1 not 1
 2 approved
-3 not'
+3 not 1'
 told 'answers from the file that is there' 'line 4: cannot open book: No such file'
 mv other book
 

@@ -48,7 +48,8 @@ impl Measured {
     fn row(&self) -> String {
         let answer = match (self.call, self.answer & 255, self.answer >> 8 & 255) {
             (_, 0, 1) => "approved".to_string(),
-            ("ask", 0, _) => "not".to_string(),
+            ("ask", 0, 2) => "not part".to_string(),
+            ("ask", 0, _) => format!("not {}", self.answer >> 16),
             (_, 0, _) => format!("{} {}", self.answer >> 16 & 65535, self.answer >> 32),
             (_, refusal, _) => format!("refused {refusal}"),
         };

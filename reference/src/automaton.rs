@@ -45,6 +45,14 @@ impl Automaton {
         self.output(tree.label, &args)
     }
 
+    /// The least place in the listing, counted from 1, of a part that leads to no state while each of its children
+    /// leads to one. A tree that leads to no state has such a part.
+    pub fn stop(&self, tree: &Tree) -> usize {
+        let stops = |part: &&Tree| self.run(part) == 0 && part.children.iter().all(|child| self.run(child) != 0);
+        let place = tree.parts().iter().position(stops).expect("some part stops a tree that leads to no state");
+        place + 1
+    }
+
     /// The minimal automaton of the language with the tree added or removed.
     pub fn changed(&self, tree: &Tree, add: bool, limit: usize) -> Result<Automaton, TooMany> {
         let mut split = Work::new(self, limit);

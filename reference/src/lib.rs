@@ -13,7 +13,10 @@ use table::{encode, intake, MAX_PRODUCT, MAX_STATES, MAX_TRANSITIONS, SCRATCH_BY
 #[derive(Clone, Copy, Debug, PartialEq, Eq)]
 pub enum Answer {
     Approved,
-    NotApproved,
+    /// Not approved, but part of an approved tree.
+    NotPart,
+    /// Not approved, and the part at this place of the listing, counted from 1, stops the tree.
+    NotAt(usize),
     Counts { states: usize, transitions: usize },
     Refused(u8),
 }
@@ -23,7 +26,8 @@ impl Answer {
     pub fn packed(self) -> u64 {
         match self {
             Answer::Approved => 256,
-            Answer::NotApproved => 0,
+            Answer::NotPart => 512,
+            Answer::NotAt(place) => 65_536 * place as u64,
             Answer::Counts { states, transitions } => 65_536 * states as u64 + 4_294_967_296 * transitions as u64,
             Answer::Refused(number) => u64::from(number),
         }
@@ -38,8 +42,11 @@ pub fn ask(listing: &[u8], table: &[u8]) -> Answer {
     let read = tree::read(listing).and_then(|tree| Ok((tree, intake(table)?)));
     match read {
         Err(number) => Answer::Refused(number),
-        Ok((tree, automaton)) if automaton.accepts(automaton.run(&tree)) => Answer::Approved,
-        Ok(_) => Answer::NotApproved,
+        Ok((tree, automaton)) => match automaton.run(&tree) {
+            0 => Answer::NotAt(automaton.stop(&tree)),
+            state if automaton.accepts(state) => Answer::Approved,
+            _ => Answer::NotPart,
+        },
     }
 }
 

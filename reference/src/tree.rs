@@ -22,6 +22,15 @@ impl Tree {
         1 + self.children.iter().map(Tree::nodes).sum::<usize>()
     }
 
+    /// The part at each node, in the order of the listing.
+    pub fn parts(&self) -> Vec<&Tree> {
+        let mut parts = vec![self];
+        for child in &self.children {
+            parts.extend(child.parts());
+        }
+        parts
+    }
+
     /// Label and child count of each node, node first, then its children.
     pub fn listing(&self) -> Vec<u8> {
         let mut bytes = Vec::new();

@@ -75,6 +75,37 @@ fn p5_to_p11() {
     assert_eq!(p6().add(&leaf(1)), done(3, 6));
 }
 
+/// Order 1: what ask says of trees that are not approved.
+#[test]
+fn places() {
+    let mut bench = Bench::new();
+    bench.add(&fork(1, 1, 1));
+    let answer = |tree: &Tree| ask(&tree.listing(), &bench.table);
+    assert_eq!(answer(&fork(1, 1, 1)), Answer::Approved);
+    assert_eq!(answer(&leaf(1)), Answer::NotPart);
+    assert_eq!(answer(&leaf(2)), Answer::NotAt(1));
+    assert_eq!(answer(&fork(1, 1, 2)), Answer::NotAt(3));
+    assert_eq!(answer(&fork(1, 2, 2)), Answer::NotAt(2));
+    assert_eq!(answer(&fork(2, 1, 1)), Answer::NotAt(1));
+    // Of nodes 3 and 6, which stop, the first counts, and the nodes above them have children without a state.
+    let inner = Tree::new(1, vec![leaf(2), leaf(1)]);
+    assert_eq!(answer(&Tree::new(1, vec![inner.clone(), inner])), Answer::NotAt(3));
+    let chain = (1..48).fold(leaf(9), |tree, _| Tree::new(1, vec![tree]));
+    assert_eq!(answer(&chain), Answer::NotAt(48));
+}
+
+/// What ask says of a tree, from the set and the words of order 1 alone.
+fn answer_afresh(set: &BTreeSet<Tree>, tree: &Tree) -> Answer {
+    let known: BTreeSet<&Tree> = set.iter().flat_map(Tree::parts).collect();
+    let stops = |part: &&Tree| !known.contains(part) && part.children.iter().all(|child| known.contains(child));
+    match tree.parts().iter().position(stops) {
+        _ if set.contains(tree) => Answer::Approved,
+        _ if known.contains(tree) => Answer::NotPart,
+        Some(place) => Answer::NotAt(place + 1),
+        None => panic!("a tree that is no part has a part that stops"),
+    }
+}
+
 /// The paper's example, by section 3.4: the line for label a over q1 q3 is there.
 #[test]
 fn paper() {
@@ -198,7 +229,7 @@ fn series_equal_what_is_worked_out_afresh() {
         let mut set = BTreeSet::new();
         for _ in 0..60 {
             let tree = dice.tree(2);
-            assert_eq!(ask(&tree.listing(), &bench.table) == Answer::Approved, set.contains(&tree));
+            assert_eq!(ask(&tree.listing(), &bench.table), answer_afresh(&set, &tree));
             if dice.roll(3) < 2 {
                 assert_eq!(bench.add(&tree) == Answer::Refused(14), !set.insert(tree));
             } else {
