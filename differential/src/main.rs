@@ -1,6 +1,6 @@
 //! The proved library and the reference on the same bytes: series of calls from the empty table, from random legal
-//! tables and from such near the limits; damaged tables; all lengths; lines of text; changes in either order; trees that
-//! stop at every place. Answers and every byte that a call may write are compared, and every answer must be met.
+//! tables and from such near the limits; damaged tables; all lengths; lines of text; changes in either order; trees
+//! that stop at every place. Answers and every byte that a call may write are compared, and every answer must be met.
 
 use differential::dice::Dice;
 use differential::lines::lines;

@@ -104,7 +104,8 @@ run 'lines' 6 '1 form 9
 19 not 1
 end 19 0 0' book
 told 'malformed' 'line 1: not (add TREE)'
-told 'the deepest node' "line 13: not approved: node 48, label 1, under $(awk 'BEGIN { for (i = 1; i < 47; i++) printf "1 > "; print 1 }')"
+above=$(awk 'BEGIN { for (i = 1; i < 47; i++) printf "1 > "; print 1 }')
+told 'the deepest node' "line 13: not approved: node 48, label 1, under $above"
 told 'long' 'line 18: above 512 bytes'
 
 # Input and output that fail.
