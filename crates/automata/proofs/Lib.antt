@@ -15,6 +15,7 @@ pub mod Renumbered
 pub mod Minimal
 pub mod CanonicalRun
 pub mod Stops
+pub mod StopWalk
 pub mod Nodes
 pub mod PairRuns
 pub mod Product

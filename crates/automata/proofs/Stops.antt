@@ -1,14 +1,12 @@
 -- The place at which a tree stops: a tree that runs to no state has one, any other has none, and children that are run
 -- from left to right meet the least one first. In words of the set it is the first node that stops.
 use mathlib.Core.Bool.{Bool, _||_, cond, false, false≢true, not, true, true≢false}
-use mathlib.Core.List.{_++_, _∷_}
-use mathlib.Core.Logic.{_↔_, inl}
+use mathlib.Core.Logic.{_↔_}
 use mathlib.Core.Path.{_∙_, _≡_, ap, refl, subst, sym}
 use Prim.Native.Nat.{_+_, _-_, _≤_, suc, zero, ℕ}
-use native.Mathlib.Nat.{zero-add}
 use native.Mathlib.Omega.{arith}
 use lib.Dec.{eqb, ltb}
-use lib.ListN.{length, length-append}
+use lib.ListN.{length}
 use borrow.Author.Tests.{eq-eqb, eqb-false, eqb-true, ltb-false, ltb-true, ne-eqb, not-true}
 use Rattle.automata.specs.Automaton.{Automaton, lookup, run, runs}
 use Rattle.automata.specs.Canonical.{Canonical, Subtree}
@@ -23,8 +21,8 @@ use Rattle.automata.proofs.Unique.{children}
 use Rattle.lists.proofs.FirstPlace.{first-append, first-at, first-later, first-length, first-none, shift-some}
 use Rattle.lists.proofs.Intervals.{getD-in}
 use Rattle.lists.proofs.Positions.{shift-pos}
-use Rattle.lists.proofs.Tests.{and-both, and-left, and-right, in-any, in-append-right, or-none-left, or-none-right}
-use Rattle.trees.proofs.PreorderListing.{preorder-all, preorders-all}
+use Rattle.lists.proofs.Tests.{and-both, and-left, and-right, any-after, or-left, or-none-left, or-none-right}
+use Rattle.trees.proofs.PreorderListing.{preorder-all, preorders-all, preorders-append}
 
 module _ (A : Automaton) where
   -- the tree runs to a state
@@ -38,12 +36,15 @@ module _ (A : Automaton) where
     zero-free f (or-none-right (eqb 0 (run A t)) _ e),
   )
 
-  runs-children : (a : ℕ) (f : Forest) → Runs (node a f) → AllTrees Runs f
-  runs-children a f h = zero-free f (go (any (eqb 0) (runs A f)) refl h)
+  pub children-run : (a : ℕ) (f : Forest) → 1 ≤ run A (node a f) → any (eqb 0) (runs A f) ≡ false
+  children-run a f = go (any (eqb 0) (runs A f))
     where
-      go : (b : Bool) → any (eqb 0) (runs A f) ≡ b → 1 ≤ cond b 0 (lookup a (runs A f) (A .transitions)) → b ≡ false
-      go true e h = absurd (omega arith)
-      go false e h = refl
+      go : (b : Bool) → 1 ≤ cond b 0 (lookup a (runs A f) (A .transitions)) → b ≡ false
+      go true h = absurd (omega arith)
+      go false h = refl
+
+  runs-children : (a : ℕ) (f : Forest) → Runs (node a f) → AllTrees Runs f
+  runs-children a f h = zero-free f (children-run a f h)
 
   state-unstopped : (u : Tree) → Runs u → stops A u ≡ false
   state-unstopped (node a f) h = rw (ne-eqb (run A (node a f)) 0 (λ e. omega arith))
@@ -78,10 +79,11 @@ module _ (A : Automaton) where
   unfolding stopPlace stopPlaces
   place-child t f h = first-append (stops A) (preorder t) (preorders f) h
 
-  place-later : (t : Tree) (f : Forest) → 1 ≤ run A t → 1 ≤ stopPlaces A f →
-      stopPlaces A (cons t f) ≡ length (preorder t) + stopPlaces A f
-  unfolding stopPlace stopPlaces
-  place-later t f r h = first-later (stops A) (preorder t) (preorders f) (run-unstopped t r) h
+  place-after : (b f : Forest) → any (eqb 0) (runs A b) ≡ false → 1 ≤ stopPlaces A f →
+      stopPlaces A (b ⧺ f) ≡ length (preorders b) + stopPlaces A f
+  unfolding stopPlaces
+  place-after b f n h =
+      rw (preorders-append b f) (first-later (stops A) (preorders b) (preorders f) (runs-unstopped b n) h)
 
   mutual
     -- a tree without a state has a place
@@ -101,40 +103,30 @@ module _ (A : Automaton) where
             eqb 0 (run A t) ≡ b → (b || any (eqb 0) (runs A f)) ≡ true → 1 ≤ stopPlaces A (cons t f)
         go here after true z n =
             let h = here (sym (eqb-true 0 (run A t) z)) in omega (arith, place-child t f h)
-        go here after false z n =
-            let h = after n in
-            let r : 1 ≤ run A t = omega (arith, eqb-false 0 (run A t) z) in omega (arith, place-later t f r h)
+        go here after false z n = let h = after n in omega (arith, place-after (cons t nil) f (rw z) h)
 
   -- the place among the children and the node, if a child has no state
   pub stop-below : (a : ℕ) (f : Forest) → any (eqb 0) (runs A f) ≡ true → stopPlace A (node a f) ≡ suc (stopPlaces A f)
   stop-below a f n = place-below a f n ∙ shift-some (stopPlaces A f) (runs-stopped f n)
 
-  -- the first child's place, if it has no state; else the place among the others and its nodes
+  -- the first child's place, if it has no state
   pub stop-child : (t : Tree) (f : Forest) → run A t ≡ 0 → stopPlaces A (cons t f) ≡ stopPlace A t
   stop-child t f e = place-child t f (run-stopped t e)
 
-  pub stop-later : (t : Tree) (f : Forest) → 1 ≤ run A t → any (eqb 0) (runs A f) ≡ true →
-      stopPlaces A (cons t f) ≡ length (preorder t) + stopPlaces A f
-  stop-later t f r n = place-later t f r (runs-stopped f n)
-
-  first-child : (b : Forest) (u : Tree) (f : Forest) → any (eqb 0) (runs A b) ≡ false → run A u ≡ 0 →
-      stopPlaces A (b ⧺ cons u f) ≡ length (preorders b) + stopPlace A u
-  first-child nil u f n e = stop-child u f e ∙ sym (zero-add (stopPlace A u))
-  first-child (cons t b) u f n e =
-      let later = first-child b u f (or-none-right (eqb 0 (run A t)) _ n) e in
-      let r : 1 ≤ run A t = omega (arith, eqb-false 0 (run A t) (or-none-left _ _ n)) in
-      let h : 1 ≤ stopPlaces A (b ⧺ cons u f) = omega (arith, run-stopped u e) in
-      omega (arith, place-later t (b ⧺ cons u f) r h, length-append (preorder t) (preorders b))
+  -- children that run to states, and the place among those after them
+  pub stop-after : (b f : Forest) → any (eqb 0) (runs A b) ≡ false → any (eqb 0) (runs A f) ≡ true →
+      stopPlaces A (b ⧺ f) ≡ length (preorders b) + stopPlaces A f
+  stop-after b f n m = place-after b f n (runs-stopped f m)
 
   -- Children that are run from left to right meet the place at the first child without a state: before it are the node
   -- and the nodes of the children before that one.
   pub stop-at-child : (a : ℕ) (b : Forest) (u : Tree) (f : Forest) → any (eqb 0) (runs A b) ≡ false → run A u ≡ 0 →
       stopPlace A (node a (b ⧺ cons u f)) ≡ suc (length (preorders b) + stopPlace A u)
   stop-at-child a b u f n e =
-      let here = in-append-right (runs A b) (run A u ∷ runs A f) (run A u) (inl refl) in
-      let some : any (eqb 0) (runs A (b ⧺ cons u f)) ≡ true =
-      rw runs-append (in-any (eqb 0) (runs A b ++ (run A u ∷ runs A f)) (run A u) here (eq-eqb 0 (run A u) (sym e))) in
-      stop-below a (b ⧺ cons u f) some ∙ ap suc (first-child b u f n e)
+      let here : any (eqb 0) (runs A (cons u f)) ≡ true = or-left _ _ (eq-eqb 0 (run A u) (sym e)) in
+      let below : any (eqb 0) (runs A (b ⧺ cons u f)) ≡ true =
+      rw runs-append (any-after (eqb 0) (runs A b) (runs A (cons u f)) n ∙ here) in
+      omega (arith, stop-below a (b ⧺ cons u f) below, stop-after b (cons u f) n here, stop-child u f e)
 
   -- a place is one of the nodes
   pub stop-within : (t : Tree) → stopPlace A t ≤ length (preorder t)

@@ -138,6 +138,11 @@ module _ {A : Type 0} where
   in-append-right [] ys x m = m
   in-append-right (z ∷ xs) ys x m = inr (in-append-right xs ys x m)
 
+  -- a list without an element that passes, before another
+  pub any-after : (p : A → Bool) (xs ys : List A) → any p xs ≡ false → any p (xs ++ ys) ≡ any p ys
+  any-after p [] ys e = refl
+  any-after p (x ∷ xs) ys e = rw (or-none-left (p x) _ e) (any-after p xs ys (or-none-right (p x) _ e))
+
   pub append-in : (xs ys : List A) (x : A) → x ∈ (xs ++ ys) → (x ∈ xs) ⊎ (x ∈ ys)
   append-in [] ys x m = inr m
   append-in (z ∷ xs) ys x (inl e) = inl (inl e)

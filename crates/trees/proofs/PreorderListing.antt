@@ -15,7 +15,7 @@ use Rattle.lists.specs.Tests.{_∈_}
 use Rattle.trees.specs.Listing.{firstTree, listing, listingConditions, listingRefusal, listings, readTree}
 use Rattle.trees.specs.Listing.{wholeNodes}
 use Rattle.trees.specs.Preorder.{preorder, preorders, subtreeAt}
-use Rattle.trees.specs.Tree.{AllTrees, Forest, Tree, cons, count, nil, noTree, node}
+use Rattle.trees.specs.Tree.{AllTrees, Forest, Tree, _⧺_, cons, count, nil, noTree, node}
 use Rattle.lists.proofs.Conditions.{unbroken-hold}
 use Rattle.lists.proofs.Tests.{and-left, and-right, append-in}
 use Rattle.trees.proofs.Listing.{append-none, listing-read, read-tree, two-more}
@@ -104,7 +104,12 @@ passed-nodes s e =
     let short = leb-true (length s) maxListing (and-right (leb nodeBytes (length s)) _ (and-left _ _ (h .0))) in
     omega (arith, listing-length (readTree s), ap length (listing-read s (h .1 .1 .1 .0)))
 
--- ---- what passes to children
+-- ---- lists of trees, and what passes to children
+
+pub preorders-append : (f g : Forest) → preorders (f ⧺ g) ≡ preorders f ++ preorders g
+preorders-append nil g = refl
+preorders-append (cons t f) g =
+    rw (preorders-append f g) (sym (append-assoc (preorder t) (preorders f) (preorders g)))
 
 module _ (P : Tree → Type 0) (down : (a : ℕ) (f : Forest) → P (node a f) → AllTrees P f) where
   mutual
