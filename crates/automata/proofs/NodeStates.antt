@@ -10,7 +10,7 @@ use Rattle.format.specs.Format.{nodeBytes}
 use Rattle.lists.proofs.Intervals.{getD-map}
 use Rattle.trees.specs.Listing.{listing, readTree}
 use Rattle.trees.specs.Preorder.{preorder, preorders}
-use Rattle.trees.specs.Tree.{Forest, Tree, cons, nil, node}
+use Rattle.trees.specs.Tree.{Forest, Tree, cons, nil, noTree, node}
 use Rattle.trees.proofs.Preorder.{preorder-at}
 
 -- ---- one state for each node
@@ -27,7 +27,7 @@ forest-states-length A f = length-map (preorders f) (run A)
 pub node-state : (A : Automaton) (t : Tree) (i : ℕ) → i < length (preorder t) →
     getD (nodeStates A t) i 0 ≡ run A (readTree (drop (nodeBytes * i) (listing t)))
 unfolding nodeStates
-node-state A t i h = getD-map (run A) (preorder t) i (node 0 nil) 0 h ∙ ap (run A) (preorder-at t i)
+node-state A t i h = getD-map (run A) (preorder t) i noTree 0 h ∙ ap (run A) (preorder-at t i)
 
 -- and 0 if there is no node i
 pub node-state-none : (A : Automaton) (t : Tree) (i : ℕ) → length (preorder t) ≤ i → getD (nodeStates A t) i 0 ≡ 0

@@ -22,7 +22,7 @@ use Rattle.lists.proofs.FirstPlace.{first-append, first-at, first-later, first-
 use Rattle.lists.proofs.Intervals.{getD-in}
 use Rattle.lists.proofs.Positions.{shift-pos}
 use Rattle.lists.proofs.Tests.{and-both, and-left, and-right, any-after, or-left, or-none-left, or-none-right}
-use Rattle.trees.proofs.PreorderListing.{preorder-all, preorders-all, preorders-append}
+use Rattle.trees.proofs.Preorder.{preorder-all, preorders-all, preorders-append}
 
 module _ (A : Automaton) where
   -- the tree runs to a state

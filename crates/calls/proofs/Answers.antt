@@ -30,7 +30,7 @@ use Rattle.lists.proofs.Tests.{and-left, and-right}
 use Rattle.table.proofs.Decoded.{decoded-count, decoded-states}
 use Rattle.table.proofs.Intake.{unrefused-passes}
 use Rattle.table.proofs.Laid.{layout-laid}
-use Rattle.trees.proofs.PreorderListing.{passed-nodes}
+use Rattle.trees.proofs.Preorder.{passed-nodes}
 
 -- ---- what a call gives
 

@@ -4,4 +4,3 @@ pub mod Legal
 pub mod Listing
 pub mod ListingRefusal
 pub mod Preorder
-pub mod PreorderListing

@@ -15,7 +15,7 @@ use Rattle.trees.proofs.Forests.{first-count, first-whole, later-count,
 -- ---- reading undoes listing
 
 mutual
-  pub read-tree : (t : Tree) (s : List ℕ) → readTrees (listing t ++ s) ≡ cons t (readTrees s)
+  read-tree : (t : Tree) (s : List ℕ) → readTrees (listing t ++ s) ≡ cons t (readTrees s)
   read-tree (node a f) s = go (read-trees f s)
     where
       go : readTrees (listings f ++ s) ≡ f ⧺ readTrees s →
@@ -99,7 +99,7 @@ LegalNodes [] = Unit {0}
 LegalNodes (a ∷ []) = Unit {0}
 LegalNodes (a ∷ c ∷ s) = LegalNode a c × LegalNodes s
 
-pub two-more : (i : ℕ) → nodeBytes * suc i ≡ suc (suc (nodeBytes * i))
+two-more : (i : ℕ) → nodeBytes * suc i ≡ suc (suc (nodeBytes * i))
 two-more i = omega arith
 
 label-more : (a c : ℕ) (s : List ℕ) (i : ℕ) → labelAt (a ∷ c ∷ s) (suc i) ≡ labelAt s i
