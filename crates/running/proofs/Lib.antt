@@ -5,3 +5,4 @@ pub mod NodeBytes
 pub mod Nodes
 pub mod Tables
 pub mod Parts
+pub mod Stopping

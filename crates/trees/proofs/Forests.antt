@@ -1,7 +1,7 @@
 -- The first trees of a forest and those after them: their number, their listings, and forests put together.
 use mathlib.Core.List.{_++_, append-assoc}
 use mathlib.Core.Path.{_∙_, _≡_, ap, refl, sym}
-use Prim.Native.Nat.{_-_, _≤_, suc, zero, ℕ}
+use Prim.Native.Nat.{_+_, _-_, _≤_, suc, zero, ℕ}
 use native.Mathlib.Nat.{sub-zero}
 use native.Mathlib.Omega.{arith}
 use Rattle.trees.specs.Listing.{firstTrees, laterTrees, listing, listings}
@@ -47,3 +47,14 @@ first-whole (cons t f) g = ap (cons t) (first-whole f g)
 pub later-whole : (f g : Forest) → laterTrees (count f) (f ⧺ g) ≡ g
 later-whole nil g = refl
 later-whole (cons t f) g = later-whole f g
+
+-- the first trees, and the first of those after them
+first-none : (k : ℕ) → firstTrees k nil ≡ nil
+first-none zero = refl
+first-none (suc k) = refl
+
+pub first-both : (k p : ℕ) (f : Forest) → firstTrees k f ⧺ firstTrees p (laterTrees k f) ≡ firstTrees (p + k) f
+first-both zero p f = let e : p ≡ p + 0 = omega arith in ap (λ (n : ℕ). firstTrees n f) e
+first-both (suc k) p nil = first-none p ∙ sym (first-none (p + suc k))
+first-both (suc k) p (cons t f) =
+    let e : p + suc k ≡ suc (p + k) = omega arith in rw e (ap (cons t) (first-both k p f))

@@ -4,3 +4,4 @@ pub mod Legal
 pub mod Listing
 pub mod ListingRefusal
 pub mod Preorder
+pub mod Suffixes
