@@ -1,18 +1,20 @@
 -- Ask and intake: what a refusal number says, and what the calls know if nothing is refused.
-use mathlib.Core.Bool.{Bool}
+use mathlib.Core.Bool.{false, true}
 use mathlib.Core.List.{List, _++_, _∷_}
 use mathlib.Core.Logic.{_≢_}
 use mathlib.Core.Path.{_∙_, _≡_, ap, ap₂, refl, sym}
 use Prim.Native.Nat.{ℕ}
 use borrow.Author.Tests.{eq-eqb, ne-eqb}
-use Rattle.automata.specs.Automaton.{accepts}
-use Rattle.calls.specs.Calls.{approval, askAnswer, askRefusal, intakeAnswer, refusedOr}
+use Rattle.automata.specs.Automaton.{Automaton, accepts, run}
+use Rattle.automata.specs.Stops.{stopPlace}
+use Rattle.calls.specs.Calls.{askAnswer, askRefusal, asked, intakeAnswer, refusedOr}
 use Rattle.calls.specs.declared.Answer.{Answer}
-use Rattle.calls.specs.declared.Answer.the-variants.{Accepted, Refused}
+use Rattle.calls.specs.declared.Answer.the-variants.{Accepted, Approved, NotAt, NotPart, Refused}
 use Rattle.fields.specs.Fields.{InTable}
 use Rattle.table.specs.Intake.{contentConditions, lengthCondition, tableRefusal}
 use Rattle.table.specs.Layout.{decode, stateCount, transitionCount}
 use Rattle.trees.specs.Listing.{listingConditions, listingRefusal, readTree}
+use Rattle.trees.specs.Tree.{Tree}
 use Rattle.calls.proofs.Conditions.{table-from-one}
 use Rattle.fields.proofs.Transitions.{layout-in-table}
 use Rattle.lists.proofs.Conditions.{append-broken, append-unbroken, from-one-append, hold-append, hold-unbroken}
@@ -32,16 +34,6 @@ unfolding askRefusal listingRefusal tableRefusal
 listing-passed s b e z f =
     append-unbroken (listingConditions s) (lengthCondition b ∷ contentConditions b) (listing-from-one s) e z f
 
--- nothing is refused: neither the listing nor the table is
-pub ask-passed : (s b : List ℕ) → askRefusal s b ≡ 0 → (listingRefusal s ≡ 0) × (tableRefusal b ≡ 0)
-unfolding askRefusal listingRefusal tableRefusal
-ask-passed s b e =
-    let h = hold-append (listingConditions s) (lengthCondition b ∷ contentConditions b)
-    (unbroken-hold (listingConditions s ++ (lengthCondition b ∷ contentConditions b))
-    (from-one-append (listingConditions s) (lengthCondition b ∷ contentConditions b) (listing-from-one s)
-    (table-from-one b)) e) in
-    (hold-unbroken (listingConditions s) (h .0), hold-unbroken (lengthCondition b ∷ contentConditions b) (h .1))
-
 pub passed-table : (b : List ℕ) → tableRefusal b ≡ 0 → InTable b
 passed-table b e = let p = unrefused-passes b e in layout-in-table b (p .length) (p .layout)
 
@@ -54,10 +46,29 @@ pub ask-refused : (s b : List ℕ) {r : ℕ} → r ≡ askRefusal s b → r ≢ 
 unfolding askAnswer
 ask-refused s b {r} e n = ap Refused e ∙ sym (refused-or (askRefusal s b) _ (λ d. n (e ∙ d)))
 
-pub ask-answered : (s b : List ℕ) {r : ℕ} {a : Bool} → r ≡ askRefusal s b → r ≡ 0 →
-    a ≡ accepts (decode b) (readTree s) → approval a ≡ askAnswer s b
-unfolding askAnswer
-ask-answered s b {r} e z f = rw (eq-eqb (askRefusal s b) 0 (sym e ∙ z)) (ap approval f)
+-- nothing is refused
+module _ (s b : List ℕ) {r : ℕ} (e : r ≡ askRefusal s b) (z : r ≡ 0) where
+  abbrev A : Automaton
+  A = decode b
+
+  abbrev t : Tree
+  t = readTree s
+
+  ask-asked : askAnswer s b ≡ asked A t
+  unfolding askAnswer
+  ask-asked = rw (eq-eqb (askRefusal s b) 0 (sym e ∙ z))
+
+  pub ask-stopped : run A t ≡ 0 → {k : ℕ} → k ≡ stopPlace A t → NotAt k ≡ askAnswer s b
+  unfolding asked
+  ask-stopped n d = rw d (sym (ask-asked ∙ rw n))
+
+  pub ask-approved : accepts A t ≡ true → Approved ≡ askAnswer s b
+  unfolding asked
+  ask-approved a = sym (ask-asked ∙ rw a)
+
+  pub ask-part : run A t ≢ 0 → accepts A t ≡ false → NotPart ≡ askAnswer s b
+  unfolding asked
+  ask-part n a = sym (ask-asked ∙ rw (a, ne-eqb (run A t) 0 n))
 
 pub take-refused : (b : List ℕ) {r : ℕ} → r ≡ tableRefusal b → r ≢ 0 → Refused r ≡ intakeAnswer b
 unfolding intakeAnswer

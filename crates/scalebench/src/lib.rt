@@ -16,6 +16,7 @@ use format::TABLE_BYTES;
 use intake::content_refusal;
 use running::accepts_state;
 use running::node_states;
+use running::stops::stop_place;
 
 // A byte as a number to return.
 fn wide64(x: u8) -> u64
@@ -44,7 +45,8 @@ fn answer_number(answer: Answer) -> u64
 {
     match answer {
         Answer::Approved => 256,
-        Answer::NotApproved => 0,
+        Answer::NotPart => 512,
+        Answer::NotAt { place } => 65536 * wide64(place),
         Answer::Accepted {
             states,
             transitions,
@@ -68,7 +70,7 @@ fn ask_refusal(tree: &[u8], table: &[u8]) -> u8
     intake::refusal(table)
 }
 
-// Whether the table's set has the tree.
+// Whether the table's set has the tree, and if not, what stops the tree.
 pub fn ask(tree: &[u8], table: &[u8]) -> Answer
     ensures { λ r. ⌜ r ≡ askAnswer (now (tree .entry)) (now (table .entry)) ⌝ }
 {
@@ -77,10 +79,16 @@ pub fn ask(tree: &[u8], table: &[u8]) -> Answer
         return Answer::Refused { number };
     }
     let reached = node_states(tree, table);
-    if accepts_state(table, reached[0]) {
+    let q = reached[0];
+    if q == 0 {
+        return Answer::NotAt {
+            place: stop_place(tree, &reached),
+        };
+    }
+    if accepts_state(table, q) {
         return Answer::Approved;
     }
-    Answer::NotApproved
+    Answer::NotPart
 }
 
 // Whether the table is one that these calls leave.
