@@ -26,11 +26,11 @@ use Rattle.products.specs.Reached.{Reached, nthReaches}
 use Rattle.products.specs.Result.{Answers, Holding, Holds, numberUsed, pairNumbered}
 use Rattle.products.specs.declared.Produced.{Produced}
 use Rattle.products.specs.declared.Produced.the-variants.{TooMany, Transitions}
-use Rattle.subtrees.specs.Store.{Lists, bottomUp, noTree}
+use Rattle.subtrees.specs.Store.{Lists, bottomUp}
 use Rattle.subtrees.specs.declared.Subtrees.{Subtrees}
 use Rattle.table.specs.Layout.{argOf, arityOf, nthTransition, transitionsIn}
 use Rattle.trees.specs.Legal.{AllLegal, Legal}
-use Rattle.trees.specs.Tree.{Forest, Tree, cons, eqTree, nil, node}
+use Rattle.trees.specs.Tree.{Forest, Tree, cons, eqTree, nil, noTree, node}
 use Rattle.automata.proofs.ProductViewCount.{view-count}
 use Rattle.fields.proofs.Transitions.{arg-at, args-length, in-args}
 use Rattle.lists.proofs.Intervals.{getD-in}

@@ -16,8 +16,8 @@ use Rattle.lists.specs.Positions.{Pair, upFrom}
 use Rattle.lists.specs.Tests.{_∈_, any}
 use Rattle.products.specs.Growth.{Keyed, SomeBelow}
 use Rattle.products.specs.Pairs.{NodeAt, nodeTransition, pairOf}
-use Rattle.subtrees.specs.Store.{childAt, childNumbers, noTree, treesNumbered}
-use Rattle.trees.specs.Tree.{Tree, node}
+use Rattle.subtrees.specs.Store.{childAt, childNumbers, treesNumbered}
+use Rattle.trees.specs.Tree.{Tree, noTree, node}
 use Rattle.automata.proofs.Change.{subtrees-closed}
 use Rattle.automata.proofs.Steps.{Has, Taken, lookup-in, lookup-view, step-view}
 use Rattle.automata.proofs.Subtrees.{numbered-subtree, run-subtree}

@@ -16,8 +16,8 @@ use Rattle.automata.specs.ProductView.{pairsWith}
 use Rattle.lists.specs.Positions.{Pair, eqPair}
 use Rattle.lists.specs.Tests.{_∈_, every}
 use Rattle.products.specs.Pairs.{inUse, pairOf}
-use Rattle.subtrees.specs.Store.{Stored, noTree, treeNumbered}
-use Rattle.trees.specs.Tree.{Forest, Tree, cons, eqTree, nil, node}
+use Rattle.subtrees.specs.Store.{Stored, treeNumbered}
+use Rattle.trees.specs.Tree.{Forest, Tree, cons, eqTree, nil, noTree, node}
 use Rattle.automata.proofs.Change.{subtrees-closed}
 use Rattle.automata.proofs.ProductLaws.{pairs-exact}
 use Rattle.automata.proofs.Subtrees.{run-subtree, subtree-numbered}

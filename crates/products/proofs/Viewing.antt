@@ -17,8 +17,8 @@ use Rattle.lists.specs.Tests.{_∈_, any, every}
 use Rattle.products.specs.Choices.{Candidate, Chosen, Reaches, candidate, outOver, over}
 use Rattle.products.specs.Growth.{SomeBelow}
 use Rattle.products.specs.Pairs.{LostAt, inUse, pairOf}
-use Rattle.subtrees.specs.Store.{childAt, childNumbers, noTree, treeNumbered}
-use Rattle.trees.specs.Tree.{Forest, Tree, cons, nil, node}
+use Rattle.subtrees.specs.Store.{childAt, childNumbers, treeNumbered}
+use Rattle.trees.specs.Tree.{Forest, Tree, cons, nil, noTree, node}
 use Rattle.automata.proofs.Change.{subtrees-closed}
 use Rattle.automata.proofs.Distinguishable.{run-fits}
 use Rattle.automata.proofs.Order.{lookup-transition}

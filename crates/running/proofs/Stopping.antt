@@ -2,27 +2,23 @@
 use mathlib.Core.Bool.{Bool, cond, false, true}
 use mathlib.Core.List.{List}
 use mathlib.Core.Path.{_∙_, _≡_, ap, refl, subst, sym}
-use Prim.Native.Nat.{_*_, _+_, _-_, _<_, _≤_, suc, zero, ℕ}
+use Prim.Native.Nat.{_*_, _+_, _-_, _<_, _≤_, suc, ℕ}
 use native.Mathlib.Omega.{arith}
 use lib.Dec.{eqb, ltb}
-use lib.ListN.{drop, getD, length}
+use lib.ListN.{getD}
 use borrow.Author.Tests.{eqb-false, eqb-true, ltb-false, ltb-true}
 use Rattle.automata.specs.Automaton.{Automaton, run}
-use Rattle.automata.specs.NodeStates.{nodeStates}
 use Rattle.automata.specs.Stops.{stopPlace}
-use Rattle.format.specs.Format.{maxArity, nodeBytes}
+use Rattle.format.specs.Format.{maxArity}
 use Rattle.running.specs.Running.{HoldsStates}
 use Rattle.running.specs.Stopping.{walk, walked}
 use Rattle.running.specs.declared.stops.Below.{Below}
-use Rattle.trees.specs.Listing.{childrenAt, firstTree, firstTrees, labelAt, laterTrees, listing, nodesIn, oneTree}
+use Rattle.trees.specs.Listing.{childrenAt, firstTree, firstTrees, labelAt, laterTrees, nodesIn}
 use Rattle.trees.specs.Listing.{readTree, readTrees}
-use Rattle.trees.specs.Preorder.{preorder}
-use Rattle.trees.specs.Tree.{Forest, Tree, _⧺_, cons, count, node}
-use Rattle.automata.proofs.NodeStates.{node-state}
+use Rattle.trees.specs.Tree.{Forest, Tree, cons, count, node}
 use Rattle.automata.proofs.StopWalk.{Walk, walk-end, walk-on, walk-start, walk-stopped}
+use Rattle.running.proofs.Tables.{node-byte}
 use Rattle.trees.proofs.Forests.{first-both, later-count}
-use Rattle.trees.proofs.Listing.{listing-read}
-use Rattle.trees.proofs.Preorder.{preorder-bytes}
 use Rattle.trees.proofs.Suffixes.{Passed, children-there, nodes-end, nodesFrom, read-next, read-whole}
 
 -- Before node i: of the trees that are listed from there on, the first `left` are still to come below node `stop`. So
@@ -78,14 +74,8 @@ module _ {s : List ℕ} (ok : Passed s) where
 
     -- the byte of node i is the state of its subtree
     state-there : (A : Automaton) → HoldsStates A (readTree s) bs → getD bs i 0 ≡ run A (tree i)
-    unfolding oneTree
     state-there A H =
-        let e = listing-read s (ok .lists) in
-        let h : i < length (preorder (readTree s)) =
-        omega (arith, next-node, ok .even, ap length e, preorder-bytes (readTree s)) in
-        H .each i ∙ node-state A (readTree s) i h
-        ∙ ap (λ (l : List ℕ). run A (readTree (drop (nodeBytes * i) l))) e
-        ∙ ap (λ (f : Forest). run A (firstTree f)) (read-next ok i next-node)
+        node-byte ok H i next-node ∙ ap (λ (f : Forest). run A (firstTree f)) (read-next ok i next-node)
 
     -- it is the first of the trees to come
     first-there : firstTrees left (readTrees (nodesFrom s i)) ≡

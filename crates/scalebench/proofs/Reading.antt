@@ -1,8 +1,8 @@
 -- Ask and intake: what a refusal number says, and what the calls know if nothing is refused.
 use mathlib.Core.Bool.{false, true}
-use mathlib.Core.List.{List, _++_, _∷_}
+use mathlib.Core.List.{List, _∷_}
 use mathlib.Core.Logic.{_≢_}
-use mathlib.Core.Path.{_∙_, _≡_, ap, ap₂, refl, sym}
+use mathlib.Core.Path.{_∙_, _≡_, ap, ap₂, sym}
 use Prim.Native.Nat.{ℕ}
 use borrow.Author.Tests.{eq-eqb, ne-eqb}
 use Rattle.automata.specs.Automaton.{Automaton, accepts, run}
@@ -15,10 +15,8 @@ use Rattle.table.specs.Intake.{contentConditions, lengthCondition, tableRefusal
 use Rattle.table.specs.Layout.{decode, stateCount, transitionCount}
 use Rattle.trees.specs.Listing.{listingConditions, listingRefusal, readTree}
 use Rattle.trees.specs.Tree.{Tree}
-use Rattle.calls.proofs.Conditions.{table-from-one}
 use Rattle.fields.proofs.Transitions.{layout-in-table}
-use Rattle.lists.proofs.Conditions.{append-broken, append-unbroken, from-one-append, hold-append, hold-unbroken}
-use Rattle.lists.proofs.Conditions.{unbroken-hold}
+use Rattle.lists.proofs.Conditions.{append-broken, append-unbroken}
 use Rattle.table.proofs.Decoded.{decoded-count, decoded-states}
 use Rattle.table.proofs.Intake.{unrefused-passes}
 use Rattle.trees.proofs.ListingRefusal.{listing-from-one}

@@ -19,10 +19,10 @@ use Rattle.trees.specs.Tree.{Tree, cons, count, eqTree, nil, node}
 use Rattle.subtrees.proofs.Numbers.{Among, among-drop, among-index, among-more, numbered-append}
 use Rattle.subtrees.proofs.Numbers.{numbered-count, numbered-first, numbered-later}
 use Rattle.subtrees.proofs.Orders.{found-node, foundIn, in-reverse, reverse-in}
-use Rattle.subtrees.proofs.Suffixes.{Passed, children-there, node-byte, nodes-end, nodesFrom, read-next}
-use Rattle.subtrees.proofs.Suffixes.{read-whole}
 use Rattle.trees.proofs.Trees.{cons-tree}
 use Rattle.lists.specs.Positions.{byteFrom}
+use Rattle.running.proofs.Tables.{node-byte}
+use Rattle.trees.proofs.Suffixes.{Passed, children-there, nodes-end, nodesFrom, read-next, read-whole}
 
 -- the label and the number of children of the node before node i
 abbrev pub labelBefore : List ℕ → ℕ → ℕ

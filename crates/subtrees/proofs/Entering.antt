@@ -18,8 +18,8 @@ use Rattle.lists.specs.Positions.{upFrom}
 use Rattle.lists.specs.Tests.{_∈_, every}
 use Rattle.subtrees.specs.Steps.{Children, ChildrenStored, Entered, First, Sized, addLast, sameChild}
 use Rattle.subtrees.specs.Steps.{sameNode}
-use Rattle.subtrees.specs.Store.{Stored, childAt, childNumbers, noTree, treeNumbered, treesNumbered}
-use Rattle.trees.specs.Tree.{Tree, node}
+use Rattle.subtrees.specs.Store.{Stored, childAt, childNumbers, treeNumbered, treesNumbered}
+use Rattle.trees.specs.Tree.{Tree, noTree, node}
 use Rattle.lists.proofs.Distinct.{append-distinct}
 use Rattle.lists.proofs.Intervals.{at-every, every-at, getD-in, getD-tabulated, in-getD, length-tabulated}
 use Rattle.lists.proofs.Intervals.{tabulated}

@@ -2,6 +2,5 @@ pub mod Arrays
 pub mod Numbers
 pub mod Orders
 pub mod Entering
-pub mod Suffixes
 pub mod Collecting
 pub mod Listed

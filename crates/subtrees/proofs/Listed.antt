@@ -13,8 +13,8 @@ use Rattle.automata.specs.Automaton.{Automaton, run}
 use Rattle.automata.specs.Change.{subtreeNumber, subtrees}
 use Rattle.lists.specs.Tests.{_∈_}
 use Rattle.subtrees.specs.declared.Subtrees.{Subtrees}
-use Rattle.subtrees.specs.Store.{Lists, bottomUp, noTree, treeNumbered}
-use Rattle.trees.specs.Tree.{Tree, eqTree}
+use Rattle.subtrees.specs.Store.{Lists, bottomUp, treeNumbered}
+use Rattle.trees.specs.Tree.{Tree, eqTree, noTree}
 use Rattle.lists.proofs.Intervals.{getD-in, in-getD}
 use Rattle.lists.proofs.Positions.{position-at, position-pos}
 use Rattle.subtrees.proofs.Numbers.{distinct-index}

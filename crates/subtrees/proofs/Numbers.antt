@@ -6,9 +6,9 @@ use Prim.Native.Nat.{_-_, _<_, _≤_, suc, zero, ℕ}
 use native.Mathlib.Omega.{arith}
 use lib.ListN.{List·getD-append, drop, getD, length, take}
 use Rattle.lists.specs.Tests.{Distinct}
-use Rattle.subtrees.specs.Store.{noTree, treeNumbered, treesNumbered}
+use Rattle.subtrees.specs.Store.{treeNumbered, treesNumbered}
 use Rattle.trees.specs.Listing.{firstTrees, laterTrees}
-use Rattle.trees.specs.Tree.{Tree, cons, count}
+use Rattle.trees.specs.Tree.{Tree, cons, count, noTree}
 use Rattle.lists.proofs.Intervals.{getD-in}
 use Rattle.trees.proofs.Trees.{cons-forest, cons-tree}
 

@@ -12,17 +12,13 @@ use Rattle.lists.specs.Positions.{upFrom}
 use Rattle.lists.specs.Tests.{Distinct, _∈_}
 use Rattle.running.specs.Running.{HoldsStates}
 use Rattle.subtrees.specs.declared.Subtrees.{Subtrees}
-use Rattle.trees.specs.Tree.{Forest, Tree, cons, nil, node}
+use Rattle.trees.specs.Tree.{Forest, Tree, cons, nil, noTree, node}
 
 -- ---- trees by number
 
 -- the distinct subtrees of a tree, children before parents
 abbrev pub bottomUp : Tree → List Tree
 bottomUp t = reverse (subtrees t)
-
--- what stands for a tree that has no number
-abbrev pub noTree : Tree
-noTree = node 0 nil
 
 -- the tree with a number, and those with numbers in order
 abbrev pub treeNumbered : List Tree → ℕ → Tree

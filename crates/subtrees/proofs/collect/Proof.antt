@@ -1,5 +1,5 @@
 -- The loop at i has gone through the nodes from i on: their trees are on the stack, their subtrees in the arrays.
-use Rattle.subtrees.proofs.Suffixes.{passed}
+use Rattle.trees.proofs.Suffixes.{passed}
 use Rattle.subtrees.proofs.Collecting.{Collecting, collecting-at, collecting-end, collecting-next}
 use Rattle.subtrees.proofs.Collecting.{collecting-start, end-top, pop-children, pop-narrow, pop-room}
 use Rattle.subtrees.proofs.Arrays.{filled-at}
