@@ -32,7 +32,7 @@ static void cost_of_ask(const char *what)
     uint64_t refusals = 0;
     double began = seconds(), each;
     do {
-        refusals += scalebench_ask(leaf, sizeof leaf, table, TABLE);
+        refusals += scalebench_refusal(scalebench_ask(leaf, sizeof leaf, table, TABLE));
         each = (seconds() - began) / ++asks;
     } while (each * asks < 0.05);
     expect(what, refusals, 0);
