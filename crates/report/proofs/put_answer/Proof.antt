@@ -89,22 +89,30 @@ returns-2 c = (rw (c .before .before .before .enum-told2 .given .1) (c .put-word
 returns-3 : tie.Need-returns-3
 unfolding answerText
 returns-3 c =
-    (rw (c .before .before .before .before .before .before .answer .given .1) (put-then (c .before .before .put-word3 .ensures) (c .put-field .ensures .0)), omega arith)
+    let word = c .before .before in
+    let known = word .before .before .before .before in
+    (rw (known .answer .given .1) (put-then (word .put-word3 .ensures) (c .put-field .ensures .0)), omega arith)
 
 returns-4 : tie.Need-returns-4
 unfolding answerText
 returns-4 c =
-    (rw (c .before .before .before .before .before .before .answer2 .given .1) (put-then (c .before .before .put-word4 .ensures) (c .put-counts .ensures .0)), omega arith)
+    let word = c .before .before in
+    let known = word .before .before .before .before in
+    (rw (known .answer2 .given .1) (put-then (word .put-word4 .ensures) (c .put-counts .ensures .0)), omega arith)
 
 returns-5 : tie.Need-returns-5
 unfolding answerText
 returns-5 c =
-    (rw (c .before .before .before .before .before .before .answer3 .given .1) (put-then (c .before .before .put-word5 .ensures) (c .put-counts2 .ensures .0)), omega arith)
+    let word = c .before .before in
+    let known = word .before .before .before .before in
+    (rw (known .answer3 .given .1) (put-then (word .put-word5 .ensures) (c .put-counts2 .ensures .0)), omega arith)
 
 returns-6 : tie.Need-returns-6
 unfolding answerText
 returns-6 c =
-    (rw (c .before .before .before .before .before .before .answer4 .given .1) (put-then (c .before .before .put-word6 .ensures) (c .put-field2 .ensures .0)), omega arith)
+    let word = c .before .before in
+    let known = word .before .before .before .before in
+    (rw (known .answer4 .given .1) (put-then (word .put-word6 .ensures) (c .put-field2 .ensures .0)), omega arith)
 
 pub put-answer-spec : {M : Type 1} → statement M
 put-answer-spec =

@@ -59,7 +59,8 @@ returns-3 c =
     let at-if1 = at-node-states .before in
     let start = at-if1 .before .before .before .before in
     let tree = start .args .tree .now in
-    let accepted = c .before .accepts-state .ensures (readTree tree) (root-byte (at-node-states .node-states .ensures)) in
+    let root = root-byte (at-node-states .node-states .ensures) in
+    let accepted = c .before .accepts-state .ensures (readTree tree) root in
     ask-approved tree (start .args .table .now) (at-if1 .before .ask-refusal .ensures) (at-if1 .if1 .left)
     (sym accepted ∙ c .if3 .taken)
 
