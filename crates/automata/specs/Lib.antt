@@ -20,3 +20,4 @@ pub mod TreePairs
 pub mod Valid
 pub mod Example
 pub mod Others
+pub mod Totals
