@@ -31,7 +31,7 @@ use Rattle.trees.proofs.Trees.{depth-plug}
 
 module _ (A : Automaton) (ok : statesInRange A ≡ true) where
   -- the number of states that lead to q
-  pub rank : ℕ → ℕ
+  unfoldable pub rank : ℕ → ℕ
   rank q = length (filter (λ p. leads A p q) (upFrom 1 (states A)))
 
   module _ (ac : acyclic A ≡ true) where
@@ -59,7 +59,7 @@ module _ (A : Automaton) (ok : statesInRange A ≡ true) where
             absurd (acyclic-iff A ok .0 ac p (leads-iff A ok p p .0 (back .1)))
 
     mutual
-      depth-rank : (t : Tree) → (run A t ≡ 0) ⊎ (depth t ≤ suc (rank (run A t)))
+      pub depth-rank : (t : Tree) → (run A t ≡ 0) ⊎ (depth t ≤ suc (rank (run A t)))
       depth-rank (node a f) = go (step-view A a (runs A f)) (λ n h e. depths-rank f n h e)
         where
           go : (step A a (runs A f) ≡ 0) ⊎ Taken A a (runs A f) →
@@ -101,16 +101,17 @@ module _ (A : Automaton) (ok : statesInRange A ≡ true) where
                 (states A),
           )
 
-pow : Context → ℕ → Context
+-- a context in itself, n times
+pub pow : Context → ℕ → Context
 pow d zero = []
 pow d (suc k) = d ++ pow d k
 
-pow-length : (d : Context) → 1 ≤ length d → (k : ℕ) → k ≤ length (pow d k)
+pub pow-length : (d : Context) → 1 ≤ length d → (k : ℕ) → k ≤ length (pow d k)
 unfolding pow
 pow-length d h zero = omega arith
 pow-length d h (suc k) = omega (arith, length-append d (pow d k), pow-length d h k)
 
-pow-run : (A : Automaton) (d : Context) (q : ℕ) → runContext A d q ≡ q → (k : ℕ) →
+pub pow-run : (A : Automaton) (d : Context) (q : ℕ) → runContext A d q ≡ q → (k : ℕ) →
     runContext A (pow d k) q ≡ q
 unfolding pow
 pow-run A d q e zero = refl

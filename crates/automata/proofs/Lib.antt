@@ -41,3 +41,10 @@ pub mod NoSmaller
 pub mod General
 pub mod Others
 pub mod TwoOutputs
+pub mod TotalsLists
+pub mod TotalsSums
+pub mod TotalsWithin
+pub mod TotalsFinite
+pub mod Totals
+pub mod TotalsCapped
+pub mod TotalSamples

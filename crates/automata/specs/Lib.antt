@@ -21,3 +21,4 @@ pub mod Valid
 pub mod Example
 pub mod Others
 pub mod Totals
+pub mod TotalSamples

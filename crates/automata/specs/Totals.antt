@@ -2,11 +2,13 @@
 -- depth: a state that has finitely many trees has none that is deeper than there are states.
 use mathlib.Core.Bool.{cond}
 use mathlib.Core.List.{List, [], _∷_, map}
-use Prim.Native.Nat.{_*_, _+_, suc, zero, ℕ}
+use mathlib.Core.Path.{_≡_}
+use Prim.Native.Nat.{_*_, _+_, _≤_, suc, zero, ℕ}
 use lib.Dec.{eqb}
 use lib.ListN.{getD, replicate}
-use Rattle.automata.specs.Automaton.{Automaton, Transition, accepting, states}
+use Rattle.automata.specs.Automaton.{Automaton, Transition, accepting, run, states}
 use Rattle.lists.specs.Positions.{upFrom}
+use Rattle.trees.specs.Tree.{Tree, depth}
 
 -- the product of the numbers of some states
 abbrev pub productOver : (ℕ → ℕ) → List ℕ → ℕ
@@ -28,6 +30,14 @@ unfoldable pub treesWithin : Automaton → ℕ → List ℕ
 treesWithin A zero = replicate (states A) 0
 treesWithin A (suc d) =
     let ns = treesWithin A d in map (λ q. sumInto (numberAt ns) q (A .transitions)) (upFrom 1 (states A))
+
+-- a tree of state q that has at most d nodes on the longest way down
+abbrev pub Within : Automaton → ℕ → ℕ → Tree → Type 0
+Within A d q t = (run A t ≡ q) × (depth t ≤ d)
+
+-- state q has finitely many trees: some depth that none of them exceeds, as there are finitely many transitions
+abbrev pub FinitelyMany : Automaton → ℕ → Type 0
+FinitelyMany A q = (d : ℕ) × ((t : Tree) → run A t ≡ q → depth t ≤ d)
 
 -- the number of trees of state q, if it has finitely many
 unfoldable pub treesOf : Automaton → ℕ → ℕ

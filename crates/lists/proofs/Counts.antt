@@ -1,7 +1,8 @@
 -- How many elements have a property, counted by their values in another list.
 use mathlib.Core.List.{List, [], _∷_, map}
-use mathlib.Core.Logic.{inl, inr}
-use mathlib.Core.Path.{_≡_, refl, subst, sym}
+use mathlib.Core.Logic.{_↔_, inl, inr}
+use mathlib.Core.Path.{_∙_, _≡_, refl, subst, sym}
+use Prim.Native.Nat.{ℕ}
 use native.Mathlib.Omega.{arith}
 use lib.ListN.{length, length-map}
 use Rattle.lists.specs.Tests.{Counts, Distinct, Exactly, _∈_}
@@ -69,3 +70,21 @@ module _ {A B : Type 0} where
 pub exactly-counts : {A : Type 0} (P : A → Type 0) (L : List A) → Exactly P L → Counts P (length L)
 exactly-counts P L E =
     counts-mapped (λ x. x) P L (E .once) (λ x y p q e. e) (λ x. E .members x .1) (λ x i. (x, E .members x .0 i, refl))
+
+-- a property that says the same
+pub exactly-same : {A : Type 0} (P Q : A → Type 0) (L : List A) → ((x : A) → P x ↔ Q x) → Exactly P L → Exactly Q L
+exactly-same P Q L same E = record {
+  once = E .once;
+  members = λ x. (λ i. same x .0 (E .members x .0 i), λ q. E .members x .1 (same x .1 q));
+}
+
+pub counts-same : {A : Type 0} (P Q : A → Type 0) (n : ℕ) → ((x : A) → P x ↔ Q x) → Counts P n → Counts Q n
+counts-same P Q n same C = record {
+  list = C .list;
+  exactly = exactly-same P Q (C .list) same (C .exactly);
+  every-length = λ L E. C .every-length L (exactly-same Q P L (λ x. (same x .1, same x .0)) E);
+}
+
+-- a property has one number
+pub counts-unique : {A : Type 0} (P : A → Type 0) (m n : ℕ) → Counts P m → Counts P n → m ≡ n
+counts-unique P m n C D = sym (C .every-length (D .list) (D .exactly)) ∙ D .every-length (D .list) (D .exactly)

@@ -2,6 +2,7 @@ pub mod Tests
 pub mod FirstPlace
 pub mod Positions
 pub mod Intervals
+pub mod Limits
 pub mod Loops
 pub mod Closure
 pub mod Conditions

@@ -172,6 +172,11 @@ module _ {A B : Type 0} where
       let v : map f xs ≡ map f ys = cc in
       cc (h x y (inl refl) (inl refl) u, map-inj f xs ys (λ a b i j. h a b (inr i) (inr j)) v)
 
+-- a list that is there if a test passes
+pub length-if : {A : Type 0} (b : Bool) (xs : List A) (n : ℕ) → length xs ≡ n → length (cond b xs []) ≡ cond b n 0
+length-if true xs n e = e
+length-if false xs n e = refl
+
 -- a test of the values of a function
 pub every-mapped : {A B : Type 0} (p : B → Bool) (f : A → B) (xs : List A) →
     every p (map f xs) ≡ every (λ x. p (f x)) xs
