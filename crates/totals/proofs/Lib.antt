@@ -1,0 +1,6 @@
+pub mod Limits
+pub mod Tables
+pub mod Sums
+pub mod Depths
+pub mod Accepting
+pub mod Passed
