@@ -1,5 +1,5 @@
 -- What `read_form` and `close_line` return and what their calls ask, each as a law that a search finds.
-use mathlib.Core.Bool.{Bool, cond, false, true}
+use mathlib.Core.Bool.{cond, false, true}
 use mathlib.Core.List.{List, [], _++_, _∷_}
 use mathlib.Core.Logic.{_⊎_, inl, inr}
 use mathlib.Core.Path.{_∙_, _≡_, ap, refl, subst}
@@ -9,15 +9,15 @@ use native.Mathlib.Omega.{arith}
 use lib.Dec.{eqb}
 use lib.ListN.{drop, drop-of-length-le, getD, length, length-append, length-replicate, replicate}
 use lib.Seq.{length-sets, sets, sets-eq}
-use borrow.Author.Tests.{eq-eqb, eqb-true, ne-eqb}
+use borrow.Author.Tests.{eq-eqb, ne-eqb}
 use Rattle.format.specs.Format.{listingBytes, maxLine}
-use Rattle.text.specs.Contracts.{FormRead, LineEnd, NoTree, ReaderAt, TreeRead, TreeText, agreed, readFrom}
+use Rattle.text.specs.Contracts.{FormRead, LineEnd, NoTree, ReaderAt, TreeRead, TreeText, readFrom}
 use Rattle.text.specs.Contracts.{shortestHead}
 use Rattle.text.specs.Columns.{Ahead, OnLine, advanced, lineStart}
 use Rattle.text.specs.Grammar.{closeBracket, openBracket, treeText}
 use Rattle.text.specs.Outcome.{noListing, padded}
-use Rattle.text.specs.Reader.{Open, bad, ending, expecting, lineRead, next, readForm, scan, stuck, treeRead}
-use Rattle.text.specs.Reader.{whole}
+use Rattle.text.specs.Reader.{Open, agreed, bad, ending, expecting, lineRead, next, readForm, scan, stuck}
+use Rattle.text.specs.Reader.{treeRead, whole}
 use Rattle.text.specs.declared.cursor.Cursor.{Cursor}
 use Rattle.text.specs.declared.FormParsed.{FormParsed}
 use Rattle.text.specs.declared.FormParsed.the-variants.{Broken, Whole}
@@ -26,6 +26,7 @@ use Rattle.text.specs.declared.TreesRead.the-variants.{Bad, Trees}
 use Rattle.trees.specs.Listing.{listing}
 use Rattle.trees.specs.Tree.{Tree}
 use Rattle.lists.proofs.Tests.{test}
+use Rattle.text.proofs.Agreement.{agreed-whole, agreed-within}
 use Rattle.text.proofs.Cursors.{ahead, ahead-on-line, read-byte, read-end, read-on, read-stuck, start-on-line}
 use Rattle.text.proofs.Forms.{formStart, scan-expected, whole-form}
 use Rattle.text.proofs.Heads.{length-blank}
@@ -66,33 +67,6 @@ module _ (s : List ℕ) (c : Cursor) (u : ℕ) (o : OnLine s c) where
 
 -- ---- the head of a form
 
-pub agreed-within : (s w : List ℕ) → (agreed s w ≤ length s) × (agreed s w ≤ length w)
-unfolding agreed
-agreed-within [] w = (omega arith, omega arith)
-agreed-within (b ∷ s) [] = (omega arith, omega arith)
-agreed-within (b ∷ s) (v ∷ w) = go (agreed-within s w) (eqb b v)
-  where
-    go : (agreed s w ≤ length s) × (agreed s w ≤ length w) → (t : Bool) →
-        (cond t (suc (agreed s w)) 0 ≤ suc (length s)) × (cond t (suc (agreed s w)) 0 ≤ suc (length w))
-    go x true = (omega arith, omega arith)
-    go x false = (omega arith, omega arith)
-
-agreed-whole : (s w : List ℕ) → length w ≤ agreed s w → s ≡ w ++ drop (length w) s
-unfolding agreed
-agreed-whole [] [] h = refl
-agreed-whole [] (v ∷ w) h = absurd (omega arith)
-agreed-whole (b ∷ s) [] h = refl
-agreed-whole (b ∷ s) (v ∷ w) h = go (λ k. agreed-whole s w k) (test (eqb b v))
-  where
-    go : (length w ≤ agreed s w → s ≡ w ++ drop (length w) s) → (eqb b v ≡ true) ⊎ (eqb b v ≡ false) →
-        b ∷ s ≡ v ∷ (w ++ drop (length w) s)
-    go ih (inl e) =
-        let k = rw e at h in
-        let d = eqb-true b v e in
-        let q = ih (omega arith) in
-        λ i. d i ∷ q i
-    go ih (inr e) = let k = rw e at h in absurd (omega arith)
-
 -- a line that leaves its head is not allowed from there on
 head-broken : (s w u : List ℕ) (n : ℕ) (os : List Open) → agreed s w < length w →
     ending (n + length s) (scan s n (expecting (w ++ u) os)) ≡ bad (n + agreed s w)
@@ -131,7 +105,7 @@ sets-blank v h =
 module _ (w s : List ℕ) (n : length s ≤ maxLine) (k : ℕ) (a : k ≡ agreed s w) (b d : Cursor) (e : b ≡ lineStart)
     (f : d ≡ advanced b k) where
   -- the bytes in which the line agrees with the head are read
-  agreed-ahead : Ahead lineStart k d
+  pub agreed-ahead : Ahead lineStart k d
   agreed-ahead =
       ahead (start-on-line s n) k d (f ∙ ap (λ (x : Cursor). advanced x k) e) (omega (arith, agreed-within s w .0))
 

@@ -3,12 +3,12 @@
 use mathlib.Core.List.{List, [], _++_, _∷_, append-assoc}
 use mathlib.Core.Logic.{_⊎_, inl, inr}
 use mathlib.Core.Path.{_∙_, _≡_, ap, subst, sym}
-use Prim.Native.Nat.{_+_, _-_, _≤_, suc, ℕ}
+use Prim.Native.Nat.{_+_, _-_, suc, ℕ}
 use native.Mathlib.Nat.{add-zero}
 use native.Mathlib.Omega.{arith}
 use lib.ListN.{length, length-append, take}
 use lib.Seq.{take-all, take-at}
-use Rattle.text.specs.Grammar.{Labelled, closeBracket, openBracket, treeText}
+use Rattle.text.specs.Grammar.{Begins, FirstBad, Labelled, closeBracket, openBracket, treeText}
 use Rattle.text.specs.Reader.{Open, Place, among, bad, ending, expecting, lineRead, naming, next, readForm}
 use Rattle.text.specs.Reader.{scan, stuck, treeRead, whole}
 use Rattle.trees.specs.Tree.{Tree}
@@ -62,29 +62,29 @@ ending-bad n (treeRead u) m e = inl (tt, cc)
 ending-bad n (lineRead u) m e = let z : _≡_ {A = ℕ} 0 1 = cc in absurd (omega arith)
 ending-bad n (stuck k) m e = inr cc
 
--- s is the beginning of a form with a tree whose labels fit
-pub record FormBegins (w s : List ℕ) : Type 0 where
-  pub rest : List ℕ
+-- s is a form with a tree whose labels fit
+pub record FormOf (w s : List ℕ) : Type 0 where
   pub tree : Tree
   pub labels : Labelled tree
-  pub text : s ++ rest ≡ formText w tree
+  pub text : s ≡ formText w tree
 
-live-begins : (w s : List ℕ) → Live (scan s 1 (formStart w)) → FormBegins w s
+live-begins : (w s : List ℕ) → Live (scan s 1 (formStart w)) → Begins (FormOf w) s
 live-begins w s h =
     let c = complete (scan s 1 (formStart w)) h in
     let (e, l) = scan-sound w (s ++ c .rest) 1 (c .tree)
     (scan-append s (c .rest) 1 (formStart w) ∙ c .ends (1 + length s)) in
-    record { rest = c .rest; tree = c .tree; labels = l; text = e }
+    record { rest = c .rest; line = record { tree = c .tree; labels = l; text = e } }
 
--- column m is that of the first byte that no such form has there
-pub record FormStop (w s : List ℕ) (m : ℕ) : Type 0 where
-  pub within : (1 ≤ m) × (m ≤ suc (length s))
-  pub before : FormBegins w (take (m - 1) s)
-  pub there : m ≤ length s → FormBegins w (take m s) → ⊥
+-- what is malformed is no form
+bad-no-form : (w s : List ℕ) (m : ℕ) → readForm w s ≡ bad m → FormOf w s → ⊥
+bad-no-form w s m e x =
+    let r = ap (readForm w) (x .text) ∙ form-whole w (x .tree) (x .labels) in
+    let z : _≡_ {A = ℕ} 0 1 = cc in
+    omega arith
 
-stop-form : (w s : List ℕ) (m : ℕ) → Stop s 1 (formStart w) m → FormStop w s m
+stop-form : (w s : List ℕ) (m : ℕ) → readForm w s ≡ bad m → Stop s 1 (formStart w) m → FirstBad (FormOf w) s m
 unfolding readForm scan ending
-stop-form w s m x =
+stop-form w s m q x =
     let f = x .first in
     let b = x .byte ∷ [] in
     let d : m - 1 ≡ length f = omega (arith, x .column) in
@@ -98,11 +98,12 @@ stop-form w s m x =
     length-append f (x .byte ∷ x .rest) in
     record {
       within = (omega (arith, x .column), omega (arith, x .column));
-      before = subst (FormBegins w) (sym before-byte) (live-begins w f (x .live));
-      there = λ h g. refused (subst (FormBegins w) past-byte g);
+      before = subst (Begins (FormOf w)) (sym before-byte) (live-begins w f (x .live));
+      there = λ h g. refused (subst (Begins (FormOf w)) past-byte g);
+      malformed = bad-no-form w s m q;
     }
   where
-    refused : FormBegins w (x .first ++ (x .byte ∷ [])) → ⊥
+    refused : Begins (FormOf w) (x .first ++ (x .byte ∷ [])) → ⊥
     refused g =
         let f = x .first in
         let b = x .byte ∷ [] in
@@ -111,22 +112,20 @@ stop-form w s m x =
         scan-append f (x .byte ∷ g .rest) 1 (formStart w) ∙
         ap (λ (k : ℕ). scan (g .rest) (suc k) (next k (scan f 1 (formStart w)) (x .byte))) (sym (x .column)) ∙
         ap (scan (g .rest) (suc m)) (x .stops) ∙ scan-stuck (g .rest) (suc m) m in
-        let q : readForm w (formText w (g .tree)) ≡ bad m =
-        ap (readForm w) (sym (g .text)) ∙ ap (ending (suc (length ((f ++ b) ++ g .rest)))) p in
-        let r = form-whole w (g .tree) (g .labels) in
-        let z : _≡_ {A = ℕ} 0 1 = cc in
-        absurd (omega arith)
+        bad-no-form w ((f ++ b) ++ g .rest) m (ap (ending (suc (length ((f ++ b) ++ g .rest)))) p) (g .line)
 
-pub bad-form : (w s : List ℕ) (m : ℕ) → readForm w s ≡ bad m → FormStop w s m
+pub bad-form : (w s : List ℕ) (m : ℕ) → readForm w s ≡ bad m → FirstBad (FormOf w) s m
 unfolding readForm
 bad-form w s m e = go (ending-bad _ _ m e)
   where
-    go : (Live (scan s 1 (formStart w)) × (m ≡ suc (length s))) ⊎ (scan s 1 (formStart w) ≡ stuck m) → FormStop w s m
+    go : (Live (scan s 1 (formStart w)) × (m ≡ suc (length s))) ⊎ (scan s 1 (formStart w) ≡ stuck m) →
+        FirstBad (FormOf w) s m
     go (inl (l, q)) =
         let all : take (m - 1) s ≡ s = take-all (m - 1) s (omega arith) in
         record {
           within = (omega arith, omega arith);
-          before = subst (FormBegins w) (sym all) (live-begins w s l);
+          before = subst (Begins (FormOf w)) (sym all) (live-begins w s l);
           there = λ h g. absurd (omega arith);
+          malformed = bad-no-form w s m e;
         }
-    go (inr q) = stop-form w s m (first-stuck s 1 (formStart w) m tt q)
+    go (inr q) = stop-form w s m e (first-stuck s 1 (formStart w) m tt q)

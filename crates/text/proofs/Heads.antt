@@ -12,11 +12,11 @@ use mir.Syntax.{w16}
 use mir.Val.{Fits}
 use borrow.Author.Tests.{eq-eqb, ne-eqb, not-false, not-true}
 use Rattle.format.specs.Format.{listingBytes}
-use Rattle.text.specs.Contracts.{LabelRead, LabelTo, agreed}
+use Rattle.text.specs.Contracts.{LabelRead, LabelTo}
 use Rattle.lists.specs.Decimal.{digit}
 use Rattle.text.specs.Grammar.{labelText}
 use Rattle.text.specs.Outcome.{noListing}
-use Rattle.text.specs.Reader.{extends, isDigit}
+use Rattle.text.specs.Reader.{agreed, extends, isDigit}
 use Rattle.text.specs.declared.Label.the-variants.{Nothing, Number}
 use Rattle.lists.proofs.Clearing.{ClearedTo, cleared-end}
 use Rattle.text.proofs.Labels.{Extends, digit-bounds, extends-true, label-digit, label-extended}

@@ -2,6 +2,8 @@ pub mod Scan
 pub mod Labels
 pub mod Text
 pub mod Places
+pub mod Languages
+pub mod Agreement
 pub mod Forms
 pub mod LineMeaning
 pub mod Heads
@@ -10,5 +12,6 @@ pub mod Sizes
 pub mod TreeReader
 pub mod ChildrenReader
 pub mod FormReader
+pub mod TotalReader
 pub mod Lines
 pub mod Samples

@@ -1,105 +1,127 @@
--- What `readLine` says of a line: the command and the listing of its tree exactly if it is well-formed, else the
--- column of the first byte that no well-formed line has there; and which lines are long.
+-- What `readLine` says of a line: a command and the listing of its tree exactly if the line is their text, the total
+-- exactly if it is (total), else the column of the first byte that no well-formed line has there; and which lines are
+-- long.
 use mathlib.Core.Bool.{false, true}
-use mathlib.Core.List.{List, _++_, append-assoc}
+use mathlib.Core.List.{List, _++_}
 use mathlib.Core.Logic.{_↔_, _⊎_, inl, inr}
 use mathlib.Core.Path.{_∙_, _≡_, ap, refl, subst, sym}
-use Prim.Native.Nat.{_<_, _≤_, max, ℕ}
+use Prim.Native.Nat.{_<_, _≤_, ℕ}
 use native.Mathlib.Omega.{arith}
-use lib.Dec.{eqb, leb}
-use lib.ListN.{drop, getD, length, take, take-append-drop}
-use lib.Seq.{take-take}
-use borrow.Author.Tests.{eqb-false, eqb-true, le-leb, leb-false, leb-true, lt-leb}
+use lib.Dec.{leb}
+use lib.ListN.{getD, length}
+use borrow.Author.Tests.{leb-false, lt-leb}
 use Rattle.format.specs.Format.{maxLine}
-use Rattle.text.specs.Grammar.{Command, CommandLine, FirstBad, head, toAdd, toAsk, toDrop}
-use Rattle.text.specs.Reader.{Line, Reading, asLine, bad, form, formed, further, long, readForm}
-use Rattle.text.specs.Reader.{readLine, whole}
+use Rattle.lists.specs.Tests.{sameList}
+use Rattle.text.specs.Grammar.{Command, CommandLine, FirstBad, WellFormed, head, onTree, toAdd, toAsk, toDrop}
+use Rattle.text.specs.Grammar.{total, totalText}
+use Rattle.text.specs.Reader.{Line, Reading, asLine, bad, ending, form, formed, further, long, next, readAs}
+use Rattle.text.specs.Reader.{readForm, readLine, readTotal, scan, totalled, whole}
 use Rattle.trees.specs.Listing.{listing}
-use Rattle.trees.specs.Tree.{Tree}
-use Rattle.lists.proofs.Tests.{test}
-use Rattle.text.proofs.Forms.{FormBegins, FormStop, bad-form, form-whole, whole-form}
+use Rattle.lists.proofs.Tests.{sameList-refl, sameList-true, test}
+use Rattle.text.proofs.Agreement.{agreed-bad}
+use Rattle.text.proofs.Forms.{FormOf, bad-form, form-whole, whole-form}
+use Rattle.text.proofs.Languages.{Either, either-bad, same-bad}
 
--- the three ways to read a line, by their command
-module _ (R : Command → Reading) where
-  furthest : Line
-  furthest = further (asLine toAdd (R toAdd)) (further (asLine toDrop (R toDrop)) (asLine toAsk (R toAsk)))
+-- ---- one way to read a line
 
-  -- all three are malformed, and one of them comes to column m and none further
-  record Furthest (m : ℕ) : Type 0 where
-    command : Command
-    reached : R command ≡ bad m
-    others : (c : Command) → (k : ℕ) × (R c ≡ bad k) × (k ≤ m)
+-- what a way to read the line s says of it, if it looks for the lines of P
+abbrev Says : (List ℕ → Type 0) → List ℕ → Line → Type 0
+Says P s (formed c l) = CommandLine s c l
+Says P s totalled = s ≡ totalText
+Says P s (form m) = FirstBad P s m
+Says P s long = maxLine < length s
 
-  -- one of the three is well-formed, or they are all malformed
-  data Cases : Type 0 where
-    one-whole : (c : Command) (t : Tree) → R c ≡ whole t → furthest ≡ formed c (listing t) → Cases
-    all-bad : (m : ℕ) → Furthest m → furthest ≡ form m → Cases
+says-command : (s : List ℕ) (c : Command) → Says (FormOf (head c)) s (readAs c s)
+says-command s c = go (readForm (head c) s) refl
+  where
+    go : (r : Reading) → readForm (head c) s ≡ r → Says (FormOf (head c)) s (asLine c r)
+    go (whole t) e =
+        let (x, f) = whole-form (head c) s t e in
+        record { tree = t; labels = f; text = x; bytes = refl }
+    go (bad m) e = bad-form (head c) s m e
 
-  furthest-cases : Cases
-  unfolding furthest
-  furthest-cases = go (R toAdd) refl (R toDrop) refl (R toAsk) refl
-    where
-      furthest-bad : (i j k m : ℕ) → R toAdd ≡ bad i → R toDrop ≡ bad j → R toAsk ≡ bad k → m ≡ max i (max j k) →
-          (eqb i m ≡ true) ⊎ (eqb i m ≡ false) → (eqb j m ≡ true) ⊎ (eqb j m ≡ false) → Furthest m
-      furthest-bad i j k m p q r e a b =
-          let o = one a b in record { command = o .0; reached = o .1; others = all }
-        where
-          all : (c : Command) → (k : ℕ) × (R c ≡ bad k) × (k ≤ m)
-          all toAdd = (i, p, omega arith)
-          all toDrop = (j, q, omega arith)
-          all toAsk = (k, r, omega arith)
+abbrev IsTotal : List ℕ → Type 0
+IsTotal s = s ≡ totalText
 
-          one : (eqb i m ≡ true) ⊎ (eqb i m ≡ false) → (eqb j m ≡ true) ⊎ (eqb j m ≡ false) →
-              (c : Command) × (R c ≡ bad m)
-          one (inl h) b = (toAdd, p ∙ ap bad (eqb-true i m h))
-          one (inr h) (inl g) = (toDrop, q ∙ ap bad (eqb-true j m g))
-          one (inr h) (inr g) =
-              let h' = eqb-false i m h in
-              let g' = eqb-false j m g in
-              let d : k ≡ m = omega arith in
-              (toAsk, r ∙ ap bad d)
+says-total : (s : List ℕ) → Says IsTotal s (readTotal s)
+unfolding readTotal
+says-total s = go (test (sameList s totalText))
+  where
+    go : (sameList s totalText ≡ true) ⊎ (sameList s totalText ≡ false) → Says IsTotal s (readTotal s)
+    go (inl e) = rw e (sameList-true s totalText e)
+    go (inr e) = rw e (agreed-bad s totalText other)
+      where
+        other : s ≡ totalText → ⊥
+        other d =
+            let q = ap (λ x. sameList x totalText) d ∙ sameList-refl totalText in
+            let z : _≡_ {A = ℕ} 0 1 = cc in
+            omega arith
 
-      go : (x : Reading) → R toAdd ≡ x → (y : Reading) → R toDrop ≡ y → (z : Reading) → R toAsk ≡ z →
-          Cases
-      go (whole t) p y q z r = one-whole toAdd t p (rw p)
-      go (bad i) p (whole t) q z r = one-whole toDrop t q (rw (p, q))
-      go (bad i) p (bad j) q (whole t) r = one-whole toAsk t r (rw (p, q, r))
-      go (bad i) p (bad j) q (bad k) r =
-          let m = max i (max j k) in
-          all-bad m (furthest-bad i j k m p q r refl (test (eqb i m)) (test (eqb j m))) (rw (p, q, r))
+-- ---- all of them
 
-  formed-one : (c : Command) (l : List ℕ) → furthest ≡ formed c l → (t : Tree) × (R c ≡ whole t) × (l ≡ listing t)
-  formed-one c l e = go furthest-cases
-    where
-      go : Cases →
-          (t : Tree) × (R c ≡ whole t) × (l ≡ listing t)
-      go (one-whole d t q f) = let p : d ≡ c = cc in (t, rw p at q, cc)
-      go (all-bad m x f) = let z : _≡_ {A = ℕ} 0 1 = cc in absurd (omega arith)
+module _ (P Q : List ℕ → Type 0) (s : List ℕ) where
+  says-further : (r q : Line) → Says P s r → Says Q s q → Says (Either P Q) s (further r q)
+  says-further (formed c l) q x y = x
+  says-further totalled q x y = x
+  says-further long q x y = x
+  says-further (form m) (formed c l) x y = y
+  says-further (form m) totalled x y = y
+  says-further (form m) (form n) x y = either-bad x y
+  says-further (form m) long x y = y
 
-  one-formed : (c : Command) (t : Tree) → R c ≡ whole t → ((d : Command) (u : Tree) → R d ≡ whole u → d ≡ c) →
-      furthest ≡ formed c (listing t)
-  one-formed c t e h = go furthest-cases
-    where
-      go : Cases → furthest ≡ formed c (listing t)
-      go (one-whole d u q f) = let p = h d u q in let v : u ≡ t = cc in cc
-      go (all-bad m x f) =
-          let (k, q, j) = x .others c in
-          let z : _≡_ {A = ℕ} 0 1 = cc in
-          absurd (omega arith)
+  -- the same language in other words
+  says-same : ((x : List ℕ) → P x → Q x) → ((x : List ℕ) → Q x → P x) → (r : Line) → Says P s r → Says Q s r
+  says-same f g (formed c l) x = x
+  says-same f g totalled x = x
+  says-same f g (form m) x = same-bad f g x
+  says-same f g long x = x
 
-  form-furthest : (m : ℕ) → furthest ≡ form m → Furthest m
-  form-furthest m e = go furthest-cases
-    where
-      go : Cases → Furthest m
-      go (one-whole d u q f) = let z : _≡_ {A = ℕ} 0 1 = cc in absurd (omega arith)
-      go (all-bad n x f) = let d : n ≡ m = cc in subst Furthest d x
+-- the lines of the four ways
+abbrev Ways : List ℕ → Type 0
+Ways = Either (FormOf (head toAdd)) (Either (FormOf (head toDrop)) (Either (FormOf (head toAsk)) IsTotal))
 
-  furthest-not-long : furthest ≡ long → ⊥
-  furthest-not-long e = go furthest-cases
-    where
-      go : Cases → ⊥
-      go (one-whole d u q f) = let z : _≡_ {A = ℕ} 0 1 = cc in omega arith
-      go (all-bad n x f) = let z : _≡_ {A = ℕ} 0 1 = cc in omega arith
+well-formed : (c : Command) (s : List ℕ) → FormOf (head c) s → WellFormed s
+well-formed c s x =
+    onTree c (listing (x .tree)) (record { tree = x .tree; labels = x .labels; text = x .text; bytes = refl })
+
+way-formed : (s : List ℕ) → Ways s → WellFormed s
+way-formed s (inl x) = well-formed toAdd s x
+way-formed s (inr (inl x)) = well-formed toDrop s x
+way-formed s (inr (inr (inl x))) = well-formed toAsk s x
+way-formed s (inr (inr (inr e))) = total e
+
+form-of : {c : Command} {s l : List ℕ} → CommandLine s c l → FormOf (head c) s
+form-of x = record { tree = x .tree; labels = x .labels; text = x .text }
+
+formed-way : (s : List ℕ) → WellFormed s → Ways s
+formed-way s (onTree toAdd l x) = inl (form-of x)
+formed-way s (onTree toDrop l x) = inr (inl (form-of x))
+formed-way s (onTree toAsk l x) = inr (inr (inl (form-of x)))
+formed-way s (total e) = inr (inr (inr e))
+
+-- the furthest of the four ways
+abbrev furthest : List ℕ → Line
+furthest s = further (readAs toAdd s) (further (readAs toDrop s) (further (readAs toAsk s) (readTotal s)))
+
+says-furthest : (s : List ℕ) → Says WellFormed s (furthest s)
+says-furthest s =
+    says-same Ways WellFormed s way-formed formed-way (furthest s)
+    (says-further _ _ s (readAs toAdd s) _ (says-command s toAdd)
+    (says-further _ _ s (readAs toDrop s) _ (says-command s toDrop)
+    (says-further _ _ s (readAs toAsk s) (readTotal s) (says-command s toAsk) (says-total s))))
+
+says-line : (s : List ℕ) → Says WellFormed s (readLine s)
+unfolding readLine
+says-line s = go (test (leb (length s) maxLine))
+  where
+    go : (leb (length s) maxLine ≡ true) ⊎ (leb (length s) maxLine ≡ false) → Says WellFormed s (readLine s)
+    go (inl h) = rw h (says-furthest s)
+    go (inr h) = rw h (leb-false (length s) maxLine h)
+
+says : (s : List ℕ) (r : Line) → readLine s ≡ r → Says WellFormed s r
+says s r e = subst (Says WellFormed s) e (says-line s)
+
+-- ---- a line is read in one way only
 
 -- the third byte distinguishes the commands
 head-apart : (c d : Command) (s r : List ℕ) → head c ++ s ≡ head d ++ r → c ≡ d
@@ -113,87 +135,40 @@ head-apart toAsk toAdd s r e = absurd (omega (arith, ap (λ (l : List ℕ). getD
 head-apart toAsk toDrop s r e = absurd (omega (arith, ap (λ (l : List ℕ). getD l 2 0) e))
 head-apart toAsk toAsk s r e = refl
 
+-- the second byte distinguishes them from (total)
+head-not-total : (c : Command) (s : List ℕ) → head c ++ s ≡ totalText → ⊥
+head-not-total toAdd s e = omega (arith, ap (λ (l : List ℕ). getD l 1 0) e)
+head-not-total toDrop s e = omega (arith, ap (λ (l : List ℕ). getD l 1 0) e)
+head-not-total toAsk s e = omega (arith, ap (λ (l : List ℕ). getD l 1 0) e)
+
+command-once : (s : List ℕ) (c d : Command) (l m : List ℕ) → CommandLine s c l → CommandLine s d m →
+    formed c l ≡ formed d m
+command-once s c d l m x y =
+    let p : c ≡ d = head-apart c d _ _ (sym (x .text) ∙ y .text) in
+    let q = ap (readForm (head c)) (x .text) ∙ form-whole (head c) (x .tree) (x .labels) in
+    let r = ap (readForm (head d)) (y .text) ∙ form-whole (head d) (y .tree) (y .labels) in
+    let t : x .tree ≡ y .tree = cc in
+    cc
+
 -- ---- the laws
-
-abbrev readings : List ℕ → Command → Reading
-readings s c = readForm (head c) s
-
-short-line : (s : List ℕ) → length s ≤ maxLine → readLine s ≡ furthest (readings s)
-unfolding readLine furthest
-short-line s h = rw (le-leb (length s) maxLine h)
-
-long-line : (s : List ℕ) → maxLine < length s → readLine s ≡ long
-unfolding readLine
-long-line s h = rw (lt-leb (length s) maxLine h)
 
 pub line-formed : (s : List ℕ) (c : Command) (l : List ℕ) → length s ≤ maxLine →
     readLine s ≡ formed c l ↔ CommandLine s c l
-line-formed s c l h = (
-  λ e.
-      let (t, q, b) = formed-one (readings s) c l (sym (short-line s h) ∙ e) in
-      let (x, f) = whole-form (head c) s t q in
-      record { tree = t; labels = f; text = x; bytes = b },
-  λ x.
-      let t = x .tree in
-      let q : readings s c ≡ whole t = ap (readForm (head c)) (x .text) ∙ form-whole (head c) t (x .labels) in
-      let only : (d : Command) (u : Tree) → readings s d ≡ whole u → d ≡ c = λ d u e.
-      head-apart d c _ _ (sym (whole-form (head d) s u e .0) ∙ x .text) in
-      short-line s h ∙ one-formed (readings s) c t q only ∙ ap (formed c) (sym (x .bytes)),
-)
+line-formed s c l h = (λ e. says s (formed c l) e, λ x. go x (readLine s) refl)
+  where
+    go : CommandLine s c l → (r : Line) → readLine s ≡ r → readLine s ≡ formed c l
+    go x (formed d m) e = e ∙ command-once s d c m l (says s (formed d m) e) x
+    go x totalled e = absurd (head-not-total c _ (sym (x .text) ∙ says s totalled e))
+    go x (form m) e = absurd (says s (form m) e .malformed (onTree c l x))
+    go x long e = let k : maxLine < length s = says s long e in absurd (omega arith)
+
+pub line-total : (s : List ℕ) → readLine s ≡ totalled ↔ s ≡ totalText
+unfolding readLine readForm readTotal scan next ending
+line-total s = (λ e. says s totalled e, λ e. ap readLine e)
+
+pub line-form : (s : List ℕ) (m : ℕ) → readLine s ≡ form m → FirstBad WellFormed s m
+line-form s m e = says s (form m) e
 
 pub line-long : (s : List ℕ) → readLine s ≡ long ↔ maxLine < length s
-line-long s = (λ e. go (test (leb (length s) maxLine)) e, λ h. long-line s h)
-  where
-    go : (leb (length s) maxLine ≡ true) ⊎ (leb (length s) maxLine ≡ false) → readLine s ≡ long → maxLine < length s
-    go (inl h) e =
-        absurd (furthest-not-long (readings s) (sym (short-line s (leb-true (length s) maxLine h)) ∙ e))
-    go (inr h) e = leb-false (length s) maxLine h
-
--- if no form with the head of c begins so early, none begins later
-none-later : (w s : List ℕ) (k m : ℕ) → FormStop w s k → k ≤ m → m ≤ length s → FormBegins w (take m s) → ⊥
-none-later w s k m x h l g =
-    x .there (omega arith) (record {
-      rest = drop k (take m s) ++ g .rest;
-      tree = g .tree;
-      labels = g .labels;
-      text = rw (
-        ← append-assoc (take k s) (drop k (take m s)) (g .rest),
-        ← take-take k m s h,
-        take-append-drop k
-            (take m s),
-      ) (g .text);
-    })
-
-pub line-form : (s : List ℕ) (m : ℕ) → readLine s ≡ form m → FirstBad s m
-line-form s m e = go (test (leb (length s) maxLine))
-  where
-    found : Furthest (readings s) m → FirstBad s m
-    found x =
-        let stop = bad-form (head (x .command)) s m (x .reached) in
-        let b = stop .before in
-        record {
-          within = stop .within;
-          before = record {
-            rest = b .rest;
-            line = record { command = x .command; tree = b .tree; labels = b .labels; text = b .text };
-          };
-          there = λ h g.
-              let c = g .line .command in
-              let (k, q, j) = x .others c in
-              none-later (head c) s k m (bad-form (head c) s k q) j h
-              (record { rest = g .rest; tree = g .line .tree; labels = g .line .labels; text = g .line .text });
-          malformed = λ v.
-              let (k, q, j) = x .others (v .command) in
-              let r = ap (readForm (head (v .command))) (v .text) ∙
-              form-whole (head (v .command)) (v .tree) (v .labels) in
-              let z : _≡_ {A = ℕ} 0 1 = cc in
-              omega arith;
-        }
-
-    go : (leb (length s) maxLine ≡ true) ⊎ (leb (length s) maxLine ≡ false) → FirstBad s m
-    go (inl h) =
-        found (form-furthest (readings s) m (sym (short-line s (leb-true (length s) maxLine h)) ∙ e))
-    go (inr h) =
-        let l = long-line s (leb-false (length s) maxLine h) in
-        let z : _≡_ {A = ℕ} 0 1 = cc in
-        absurd (omega arith)
+unfolding readLine
+line-long s = (λ e. says s long e, λ h. rw (lt-leb (length s) maxLine h))

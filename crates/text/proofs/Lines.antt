@@ -1,4 +1,4 @@
--- What `read_line` returns, by what the three forms of a line are read as; and the size of a line's listing.
+-- What `read_line` returns, by what the four ways to read a line give; and the size of a line's listing.
 use mathlib.Core.List.{List, [], _++_, _∷_}
 use mathlib.Core.Path.{_∙_, _≡_, ap, refl}
 use Prim.Native.Nat.{_-_, _<_, _≤_, max, ℕ}
@@ -7,17 +7,17 @@ use lib.ListN.{length, length-append, replicate, take}
 use lib.Seq.{take-append-seam}
 use borrow.Author.Tests.{le-leb}
 use Rattle.format.specs.Format.{listingBytes, maxLine}
-use Rattle.text.specs.Contracts.{FormRead, shortestHead}
+use Rattle.text.specs.Contracts.{FormRead, TotalRead, shortestHead}
 use Rattle.text.specs.Grammar.{Command, closeBracket, head, toAdd, toAsk, toDrop, treeText}
 use Rattle.text.specs.Outcome.{noListing, listed, padded, parsed, parsedAs}
-use Rattle.text.specs.Reader.{bad, formed, readForm, readLine}
+use Rattle.text.specs.Reader.{bad, form, formed, readForm, readLine, readTotal}
 use Rattle.text.specs.declared.cursor.Cursor.{Cursor}
 use Rattle.text.specs.declared.FormParsed.{FormParsed}
 use Rattle.text.specs.declared.FormParsed.the-variants.{Broken, Whole}
-use Rattle.text.specs.declared.Parsed.the-variants.{Form, Long}
+use Rattle.text.specs.declared.Parsed.the-variants.{Form, Long, Total}
 use Rattle.trees.specs.Listing.{listing}
 use Rattle.text.proofs.Forms.{whole-form}
-use Rattle.text.proofs.LineMeaning.{line-formed, line-long}
+use Rattle.text.proofs.LineMeaning.{line-formed, line-long, line-total}
 use Rattle.text.proofs.Sizes.{tree-size}
 
 pub parsed-long : (s m : List ℕ) → maxLine < length s → m ≡ noListing →
@@ -46,11 +46,22 @@ module _ (c : Command) (s m : List ℕ) (r : FormParsed) (x : FormRead (head c) 
     unfolding FormRead
     broken-size = (rw z at x) .1
 
-pub parsed-broken : (s m : List ℕ) (i j k n : ℕ) → length s ≤ maxLine → readForm (head toAdd) s ≡ bad i →
-    readForm (head toDrop) s ≡ bad j → readForm (head toAsk) s ≡ bad k → n ≡ max i (max j k) →
-    m ≡ noListing → (Form n ≡ parsed (readLine s)) × (m ≡ listed (readLine s))
-unfolding readLine parsed listed
-parsed-broken s m i j k n h p q r d b = rw (le-leb (length s) maxLine h, p, q, r) (ap Form d, b)
+-- the line was read as (total)
+module _ (s m : List ℕ) (r : FormParsed) (x : TotalRead s r) (b : m ≡ noListing) where
+  pub parsed-total : (n : ℕ) → r ≡ Whole n → (Total ≡ parsed (readLine s)) × (m ≡ listed (readLine s))
+  unfolding parsed listed TotalRead
+  parsed-total n z =
+      let (e, o) = rw z at x in
+      rw (line-total s .1 e) (refl, b)
+
+  -- and is malformed, as in every other way
+  pub parsed-broken : (i j k n : ℕ) (d : Cursor) → r ≡ Broken d → length s ≤ maxLine → readForm (head toAdd) s ≡ bad i →
+      readForm (head toDrop) s ≡ bad j → readForm (head toAsk) s ≡ bad k → n ≡ max i (max j (max k (d .column))) →
+      (Form n ≡ parsed (readLine s)) × (m ≡ listed (readLine s))
+  unfolding readLine parsed listed TotalRead
+  parsed-broken i j k n d z h p q o e =
+      let t : readTotal s ≡ form (d .column) = rw z at x in
+      rw (le-leb (length s) maxLine h, p, q, o, t) (ap Form e, b)
 
 -- the listing of a line is what the table starts with, and fits it
 pub padded-listing : (l : List ℕ) → take (length l) (padded l) ≡ l

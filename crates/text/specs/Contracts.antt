@@ -1,18 +1,17 @@
 -- The contracts of the functions within the reader: what they return, in terms of the grammar and of the scan.
-use mathlib.Core.Bool.{cond, false}
+use mathlib.Core.Bool.{false}
 use mathlib.Core.List.{List, [], _++_, _∷_}
 use mathlib.Core.Path.{_≡_}
 use Prim.Native.Nat.{_*_, _+_, _≤_, suc, ℕ}
-use lib.Dec.{eqb}
 use lib.ListN.{drop, getD, length, take}
 use lib.Seq.{sets}
 use Rattle.format.specs.Format.{listingBytes, maxLabel, nodeBytes}
 use Rattle.text.specs.Columns.{Ahead, OnLine}
 use Rattle.text.specs.Grammar.{AllLabelled, Labelled, childrenText, closeBracket, labelText, openBracket}
-use Rattle.text.specs.Grammar.{treeText}
+use Rattle.text.specs.Grammar.{totalText, treeText}
 use Rattle.text.specs.Outcome.{padded}
 use Rattle.text.specs.Reader.{Open, Place, Reading, among, bad, ending, expecting, extends, isDigit}
-use Rattle.text.specs.Reader.{readForm, scan, treeRead, whole}
+use Rattle.text.specs.Reader.{form, readForm, readTotal, scan, treeRead, whole}
 use Rattle.text.specs.declared.cursor.Cursor.{Cursor}
 use Rattle.text.specs.declared.FormParsed.{FormParsed}
 use Rattle.text.specs.declared.FormParsed.the-variants.{Broken, Whole}
@@ -26,12 +25,6 @@ use Rattle.trees.specs.Tree.{Forest, Tree, count}
 -- the fewest bytes before a tree, those of "(add "
 abbrev pub shortestHead : ℕ
 shortestHead = 5
-
--- the number of first bytes in which two lists agree
-unfoldable pub agreed : List ℕ → List ℕ → ℕ
-agreed [] w = 0
-agreed (b ∷ s) [] = 0
-agreed (b ∷ s) (v ∷ w) = cond (eqb b v) (suc (agreed s w)) 0
 
 -- the first i bytes of s are the label a
 pub record LabelTo (s : List ℕ) (i a : ℕ) : Type 0 where
@@ -102,3 +95,8 @@ LineEnd s c u (Broken d) = (t : Tree) → readFrom s c (treeRead t) ≡ bad (d .
 unfoldable pub FormRead : List ℕ → List ℕ → List ℕ → FormParsed → Type 0
 FormRead w s m (Whole n) = (t : Tree) × (readForm w s ≡ whole t) × (n ≡ length (listing t)) × (m ≡ padded (listing t))
 FormRead w s m (Broken d) = (readForm w s ≡ bad (d .column)) × (length m ≡ listingBytes)
+
+-- the reading of a line that is to be (total), which has no listing
+unfoldable pub TotalRead : List ℕ → FormParsed → Type 0
+TotalRead s (Whole n) = (s ≡ totalText) × (n ≡ 0)
+TotalRead s (Broken d) = readTotal s ≡ form (d .column)

@@ -1,4 +1,5 @@
--- The text of a line of the bench program, as document 01 words it: (add TREE), (drop TREE) or (ask TREE).
+-- The text of a line of the bench program: (add TREE), (drop TREE) or (ask TREE), as document 01 words it, or the
+-- (total) of order 2.
 use mathlib.Core.List.{List, [], _++_, _∷_}
 use mathlib.Core.Path.{_≡_}
 use Prim.Native.Nat.{_-_, _≤_, suc, ℕ}
@@ -43,6 +44,10 @@ head toAsk = openBracket ∷ 97 ∷ 115 ∷ 107 ∷ space ∷ []
 abbrev pub commandText : Command → Tree → List ℕ
 commandText c t = head c ++ (treeText t ++ (closeBracket ∷ []))
 
+-- the line that asks for the total, without a space and without a tree
+abbrev pub totalText : List ℕ
+totalText = openBracket ∷ 116 ∷ 111 ∷ 116 ∷ 97 ∷ 108 ∷ closeBracket ∷ []
+
 -- no label of a tree is above the largest, which is 255
 abbrev mutual
   pub Labelled : Tree → Type 0
@@ -52,13 +57,6 @@ abbrev mutual
   AllLabelled nil = Unit {0}
   AllLabelled (cons t f) = Labelled t × AllLabelled f
 
--- a line is the text of a command and a tree, of any size, with labels up to the largest
-pub record WellFormed (s : List ℕ) : Type 0 where
-  pub command : Command
-  pub tree : Tree
-  pub labels : Labelled tree
-  pub text : s ≡ commandText command tree
-
 -- a line is the text of the command c and a tree, of any size, with labels up to the largest; l is the tree's
 -- listing
 pub record CommandLine (s : List ℕ) (c : Command) (l : List ℕ) : Type 0 where
@@ -67,15 +65,20 @@ pub record CommandLine (s : List ℕ) (c : Command) (l : List ℕ) : Type 0 wher
   pub text : s ≡ commandText c tree
   pub bytes : l ≡ listing tree
 
--- s is the beginning of a well-formed line
-pub record Begins (s : List ℕ) : Type 0 where
-  pub rest : List ℕ
-  pub line : WellFormed (s ++ rest)
+-- a line is well-formed if it is the text of a command and such a tree, or asks for the total
+pub data WellFormed (s : List ℕ) : Type 0 where
+  onTree : (c : Command) (l : List ℕ) → CommandLine s c l → WellFormed s
+  total : s ≡ totalText → WellFormed s
 
--- Column m is that of the first byte that no well-formed line has there after the bytes before it; the end of the
--- line counts as such a byte.
-pub record FirstBad (s : List ℕ) (m : ℕ) : Type 0 where
+-- s is the beginning of a line of the language P
+pub record Begins (P : List ℕ → Type 0) (s : List ℕ) : Type 0 where
+  pub rest : List ℕ
+  pub line : P (s ++ rest)
+
+-- Column m is that of the first byte that no line of P has there after the bytes before it; the end of the line counts
+-- as such a byte.
+pub record FirstBad (P : List ℕ → Type 0) (s : List ℕ) (m : ℕ) : Type 0 where
   pub within : (1 ≤ m) × (m ≤ suc (length s))
-  pub before : Begins (take (m - 1) s)
-  pub there : m ≤ length s → Begins (take m s) → ⊥
-  pub malformed : WellFormed s → ⊥
+  pub before : Begins P (take (m - 1) s)
+  pub there : m ≤ length s → Begins P (take m s) → ⊥
+  pub malformed : P s → ⊥

@@ -4,9 +4,9 @@ use Prim.Native.Nat.{_-_, ℕ}
 use lib.ListN.{length, replicate}
 use Rattle.format.specs.Format.{listingBytes}
 use Rattle.text.specs.Grammar.{Command, toAdd, toAsk, toDrop}
-use Rattle.text.specs.Reader.{Line, form, formed, long}
+use Rattle.text.specs.Reader.{Line, form, formed, long, totalled}
 use Rattle.text.specs.declared.Parsed.{Parsed}
-use Rattle.text.specs.declared.Parsed.the-variants.{Add, Ask, Drop, Form, Long}
+use Rattle.text.specs.declared.Parsed.the-variants.{Add, Ask, Drop, Form, Long, Total}
 
 -- a table of zeros, and one that holds a listing and zeros after it
 unfoldable pub noListing : List ℕ
@@ -23,10 +23,12 @@ parsedAs toAsk n = Ask n
 
 unfoldable pub parsed : Line → Parsed
 parsed (formed c l) = parsedAs c (length l)
+parsed totalled = Total
 parsed (form n) = Form n
 parsed long = Long
 
 unfoldable pub listed : Line → List ℕ
 listed (formed c l) = padded l
+listed totalled = noListing
 listed (form n) = noListing
 listed long = noListing

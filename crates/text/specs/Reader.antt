@@ -6,7 +6,8 @@ use lib.Dec.{eqb, leb, ltb}
 use lib.ListN.{length}
 use Rattle.format.specs.Format.{maxLabel, maxLine}
 use Rattle.lists.specs.Decimal.{digit}
-use Rattle.text.specs.Grammar.{Command, closeBracket, head, openBracket, space, toAdd, toAsk, toDrop}
+use Rattle.lists.specs.Tests.{sameList}
+use Rattle.text.specs.Grammar.{Command, closeBracket, head, openBracket, space, toAdd, toAsk, toDrop, totalText}
 use Rattle.trees.specs.Listing.{listing}
 use Rattle.trees.specs.Tree.{Forest, Tree, _⧺_, cons, nil, node}
 
@@ -85,9 +86,10 @@ ending n (stuck m) = bad m
 unfoldable pub readForm : List ℕ → List ℕ → Reading
 readForm w s = ending (suc (length s)) (scan s 1 (expecting (w ++ (openBracket ∷ [])) []))
 
--- what a line is: a command with the listing of its tree, malformed from a column on, or too long
+-- what a line is: a command with the listing of its tree, (total), malformed from a column on, or too long
 pub data Line : Type 0 where
   formed : Command → List ℕ → Line
+  totalled : Line
   form : ℕ → Line
   long : Line
 
@@ -99,14 +101,28 @@ asLine c (bad n) = form n
 -- of two ways to read a line the one that is well-formed, else the one that comes further
 abbrev pub further : Line → Line → Line
 further (formed c l) r = formed c l
+further totalled r = totalled
 further long r = long
 further (form m) (formed c l) = formed c l
+further (form m) totalled = totalled
 further (form m) (form n) = form (max m n)
 further (form m) long = long
 
 abbrev pub readAs : Command → List ℕ → Line
 readAs c s = asLine c (readForm (head c) s)
 
+-- the number of first bytes in which two lists agree
+unfoldable pub agreed : List ℕ → List ℕ → ℕ
+agreed [] w = 0
+agreed (b ∷ s) [] = 0
+agreed (b ∷ s) (v ∷ w) = cond (eqb b v) (suc (agreed s w)) 0
+
+-- what a line is, read as (total): another line is malformed in the column after the bytes in which the two agree
+unfoldable pub readTotal : List ℕ → Line
+readTotal s = cond (sameList s totalText) totalled (form (suc (agreed s totalText)))
+
+-- what a line is, by the four ways to read it
 unfoldable pub readLine : List ℕ → Line
 readLine s =
-    cond (leb (length s) maxLine) (further (readAs toAdd s) (further (readAs toDrop s) (readAs toAsk s))) long
+    cond (leb (length s) maxLine)
+    (further (readAs toAdd s) (further (readAs toDrop s) (further (readAs toAsk s) (readTotal s)))) long

@@ -3,7 +3,7 @@ use mathlib.Core.List.{List, [], _∷_}
 use mathlib.Core.Path.{_≡_}
 use Prim.Native.Nat.{ℕ}
 use Rattle.text.specs.Grammar.{toAdd, toDrop}
-use Rattle.text.specs.Reader.{Line, form, formed, readLine}
+use Rattle.text.specs.Reader.{Line, form, formed, readLine, totalled}
 
 -- a line and what it is read as
 abbrev pub Sample : Type 0
@@ -21,6 +21,15 @@ samples =
       40 ∷ 97 ∷ 100 ∷ 100 ∷ 32 ∷ 40 ∷ 49 ∷ 32 ∷ 40 ∷ 49 ∷ 41 ∷ 32 ∷ 40 ∷ 50 ∷ 41 ∷ 41 ∷ 41 ∷ [],
       formed toAdd (1 ∷ 2 ∷ 1 ∷ 0 ∷ 2 ∷ 0 ∷ []),
     ) ∷ []
+
+-- of order 2: "(total)" | "(t" | "(tadd" | "(tota" | "(total" | "(total )" | "(totals)" | "(total))"
+unfoldable pub totalSamples : List Sample
+totalSamples =
+    (40 ∷ 116 ∷ 111 ∷ 116 ∷ 97 ∷ 108 ∷ 41 ∷ [], totalled) ∷ (40 ∷ 116 ∷ [], form 3) ∷
+    (40 ∷ 116 ∷ 97 ∷ 100 ∷ 100 ∷ [], form 3) ∷ (40 ∷ 116 ∷ 111 ∷ 116 ∷ 97 ∷ [], form 6) ∷
+    (40 ∷ 116 ∷ 111 ∷ 116 ∷ 97 ∷ 108 ∷ [], form 7) ∷ (40 ∷ 116 ∷ 111 ∷ 116 ∷ 97 ∷ 108 ∷ 32 ∷ 41 ∷ [], form 7) ∷
+    (40 ∷ 116 ∷ 111 ∷ 116 ∷ 97 ∷ 108 ∷ 115 ∷ 41 ∷ [], form 7) ∷
+    (40 ∷ 116 ∷ 111 ∷ 116 ∷ 97 ∷ 108 ∷ 41 ∷ 41 ∷ [], form 8) ∷ []
 
 -- every line of a table is read as it says
 unfoldable pub AllRead : List Sample → Type 0

@@ -5,11 +5,11 @@ ghost use Prim.Native.Nat.{_-_, _≤_};
 ghost use lib.ListN.{length, set};
 ghost use Rattle.format.specs.Format.{listingBytes, maxLabel, maxLine};
 ghost use Rattle.lists.specs.Decimal.{digit};
-ghost use Rattle.text.specs.Contracts.{ChildrenRead, FormRead, LabelRead, LineEnd, ReaderAt, TreeRead, agreed};
+ghost use Rattle.text.specs.Contracts.{ChildrenRead, FormRead, LabelRead, LineEnd, ReaderAt, TotalRead, TreeRead};
 ghost use Rattle.text.specs.Contracts.{shortestHead};
 ghost use Rattle.text.specs.Columns.{OnLine};
 ghost use Rattle.text.specs.Outcome.{noListing, listed, parsed};
-ghost use Rattle.text.specs.Reader.{extends, isDigit, readLine};
+ghost use Rattle.text.specs.Reader.{agreed, extends, isDigit, readLine};
 use cursor::Cursor;
 use cursor::further;
 use cursor::start;
@@ -32,11 +32,12 @@ const ZERO: u8 = 48;
 
 const NINE: u8 = 57;
 
-// What a line is: a command with the length of its tree's listing, malformed from a column on, or above 512 bytes.
+// What a line is: a command with the length of its tree's listing, "(total)", malformed from a column on, or too long.
 pub enum Parsed {
     Add { len: usize },
     Drop { len: usize },
     Ask { len: usize },
+    Total,
     Form { column: usize },
     Long,
 }
@@ -250,6 +251,23 @@ fn read_form(line: &[u8], head: &[u8], listing: &mut [u8; LISTING_BYTES]) -> For
     }
 }
 
+// Reads a line that is to be "(total)", which has no listing.
+fn read_total(line: &[u8]) -> FormParsed
+    requires { ⌜ length (now line) ≤ maxLine ⌝ }
+    ensures { λ r. ⌜ TotalRead (now (line .entry)) r ⌝ }
+{
+    let text = b"(total)";
+    let len = agreeing(line, text);
+    let end = stepped(start(), len);
+    if len < text.len() {
+        return FormParsed::Broken { at: end };
+    }
+    if len < line.len() {
+        return FormParsed::Broken { at: end };
+    }
+    FormParsed::Whole { len: 0 }
+}
+
 // Reads a line. The listing of its tree goes to `listing`, with zeros after it; all zeros if there is none.
 pub fn read_line(line: &[u8], listing: &mut [u8; LISTING_BYTES]) -> Parsed
     requires { ⌜ length (now listing) ≡ listingBytes ⌝ }
@@ -273,6 +291,9 @@ pub fn read_line(line: &[u8], listing: &mut [u8; LISTING_BYTES]) -> Parsed
         FormParsed::Broken { at } => at,
     };
     clear(listing);
-    let end = further(add, further(drop, ask));
+    let FormParsed::Broken { at } = read_total(line) else {
+        return Parsed::Total;
+    };
+    let end = further(add, further(drop, further(ask, at)));
     Parsed::Form { column: end.column }
 }

@@ -1,9 +1,10 @@
--- `text::read_line` meets its contract: the forms are tried one after the other, and the furthest cursor counts.
+-- `text::read_line` meets its contract: the ways to read a line are tried one after the other, and the furthest cursor
+-- counts.
 use mathlib.Core.Path.{_∙_, ap}
 use Prim.Native.Nat.{max}
 use native.Mathlib.Omega.{arith}
 use Rattle.text.specs.Grammar.{toAdd, toAsk, toDrop}
-use Rattle.text.proofs.Lines.{broken-form, broken-size, parsed-broken, parsed-long, parsed-whole}
+use Rattle.text.proofs.Lines.{broken-form, broken-size, parsed-broken, parsed-long, parsed-total, parsed-whole}
 use borrow.Author.Needs.{needs}
 use Rattle.text.proofs.read_line.Statement.{statement}
 use Rattle.text.proofs.read_line.Tie as tie
@@ -91,30 +92,53 @@ clear-requires-2 c κs =
     let after-read-form3 = after-at3 .before .before in
     broken-size toAsk _ _ _ (after-read-form3 .read-form3 .ensures) _ (after-at3 .at3 .given .1)
 
+read-total-requires : tie.Need-read-total-requires
+read-total-requires c κs = search needs
+
+enum-known-at-4 : tie.Need-enum-known-at-4
+enum-known-at-4 c = search needs
+
+enum-told : tie.Need-enum-told
+enum-told c = search needs
+
+returns-5 : tie.Need-returns-5
+returns-5 c =
+    let after-read-total = c .before .before in
+    let after-clear2 = after-read-total .before in
+    let told = c .enum-told .given in
+    parsed-total _ _ _ (after-read-total .read-total .ensures) (after-clear2 .clear2 .ensures) (told .0 .0) (told .1)
+
 further-requires : tie.Need-further-requires
 further-requires c κs = search needs
 
 further-requires-2 : tie.Need-further-requires-2
 further-requires-2 c κs = search needs
 
-returns-5 : tie.Need-returns-5
-returns-5 c =
-    let after-further = c .before in
-    let after-clear2 = after-further .before in
+further-requires-3 : tie.Need-further-requires-3
+further-requires-3 c κs = search needs
+
+returns-6 : tie.Need-returns-6
+returns-6 c =
+    let after-further2 = c .before in
+    let after-further = after-further2 .before in
+    let after-at4 = after-further .before .before in
+    let after-read-total = after-at4 .before .before in
+    let after-clear2 = after-read-total .before in
     let after-at3 = after-clear2 .before .before .before in
     let after-read-form3 = after-at3 .before .before in
     let after-at2 = after-read-form3 .before .before .before .before in
     let after-read-form2 = after-at2 .before .before in
     let after-at = after-read-form2 .before .before .before .before in
     let after-read-form = after-at .before .before in
+    let after-if1 = after-read-form .before .before .before in
     let p = broken-form toAdd _ _ _ (after-read-form .read-form .ensures) _ (after-at .at .given .1) in
     let q =
     broken-form toDrop _ _ _ (after-read-form2 .read-form2 .ensures) _ (after-at2 .at2 .given .1) in
     let r =
     broken-form toAsk _ _ _ (after-read-form3 .read-form3 .ensures) _ (after-at3 .at3 .given .1) in
-    parsed-broken _
-    _ _ _ _ _ (omega arith) p q r (c .further2 .ensures ∙ ap (max _) (after-further .further .ensures))
-    (after-clear2 .clear2 .ensures)
+    let e = after-further2 .further2 .ensures ∙ ap (max _) (after-further .further .ensures) in
+    parsed-broken _ _ _ (after-read-total .read-total .ensures) (after-clear2 .clear2 .ensures) _ _ _ _ _ (after-at4
+    .at4 .given .1) (after-if1 .if1 .left) p q r (c .further3 .ensures ∙ ap (max _) e)
 
 pub read-line-spec : {M : Type 1} → statement M
 read-line-spec =
@@ -138,6 +162,11 @@ read-line-spec =
     returns-4
     enum-known-at-3
     clear-requires-2
+    read-total-requires
+    enum-known-at-4
+    enum-told
+    returns-5
     further-requires
     further-requires-2
-    returns-5)
+    further-requires-3
+    returns-6)
