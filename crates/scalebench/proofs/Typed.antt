@@ -13,7 +13,7 @@ use Rattle.format.specs.Format.{listingBytes, maxLine}
 use Rattle.scalebench.specs.Typed.{Small, lineNumber}
 use Rattle.text.specs.Grammar.{Command, toAdd, toAsk, toDrop}
 use Rattle.text.specs.Outcome.{listed, padded, parsed, parsedAs}
-use Rattle.text.specs.Reader.{Line, form, formed, long, readLine}
+use Rattle.text.specs.Reader.{Line, form, formed, long, readLine, totalled}
 use Rattle.text.specs.declared.Parsed.{Parsed}
 use Rattle.text.proofs.Heads.{length-blank}
 use Rattle.text.proofs.LineMeaning.{line-form, line-long}
@@ -32,6 +32,7 @@ copied-end from {to} x h e =
 
 abbrev isLong : Line → Bool
 isLong (formed c l) = false
+isLong totalled = false
 isLong (form n) = false
 isLong long = true
 
@@ -55,6 +56,7 @@ module _ (s : List ℕ) where
     where
       go : (l : Line) → readLine s ≡ l → Small (parsed l)
       go (formed c l) e = small-as c (formed-size s c l (short e refl) e)
+      go totalled e = tt
       go (form n) e = omega (arith, line-form s n e .within .1, short e refl)
       go long e = tt
 
@@ -71,6 +73,7 @@ module _ (s : List ℕ) where
             length-replicate {A = ℕ} (listingBytes - length l) 0,
             formed-size s c l (short e refl) e,
           )
+      go totalled e = length-blank
       go (form n) e = length-blank
       go long e = length-blank
 

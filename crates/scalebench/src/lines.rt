@@ -50,6 +50,7 @@ fn line_number(line: Parsed) -> u64
         Parsed::Ask { len } => kind_number(3, len),
         Parsed::Form { column } => kind_number(4, column),
         Parsed::Long => 1280,
+        Parsed::Total => 1536,
     }
 }
 

@@ -1,5 +1,5 @@
--- The bytes in which a line and a text agree, and what follows if the line is to be the text: the first byte that is
--- not allowed is the one after them.
+-- The first bytes in which a line and a text agree. If the line is to be the text, the byte after them is the first bad
+-- one.
 use mathlib.Core.Bool.{Bool, cond, false, true}
 use mathlib.Core.List.{List, [], _++_, _∷_}
 use mathlib.Core.Logic.{_⊎_, inl, inr}
@@ -52,12 +52,12 @@ agreed-take (b ∷ s) (v ∷ w) = go (agreed-take s w) (test (eqb b v))
     go ih (inl e) = let d = eqb-true b v e in rw e (λ i. d i ∷ ih i)
     go ih (inr e) = rw e
 
--- bytes that both start with are among them
-agreed-least : (s r : List ℕ) (k : ℕ) → k ≤ length s → k ≤ agreed s (take k s ++ r)
+-- a start that both have is agreed
+start-agreed : (s r : List ℕ) (k : ℕ) → k ≤ length s → k ≤ agreed s (take k s ++ r)
 unfolding agreed
-agreed-least [] r k h = omega arith
-agreed-least (b ∷ s) r zero h = omega arith
-agreed-least (b ∷ s) r (suc k) h = rw (eqb-same b) (omega (arith, agreed-least s r k (omega arith)))
+start-agreed [] r k h = omega arith
+start-agreed (b ∷ s) r zero h = omega arith
+start-agreed (b ∷ s) r (suc k) h = rw (eqb-same b) (omega (arith, start-agreed s r k (omega arith)))
 
 -- a line that is to be the text w and is not
 pub agreed-bad : (s w : List ℕ) → (s ≡ w → ⊥) → FirstBad (λ x. x ≡ w) s (suc (agreed s w))
@@ -68,7 +68,7 @@ agreed-bad s w n =
       within = (omega arith, omega (arith, agreed-within s w .0));
       before = record { rest = drop k w; line = rw (e, agreed-take s w) (take-append-drop k w) };
       there = λ h g.
-          let p : suc k ≤ agreed s w = subst (λ x. suc k ≤ agreed s x) (g .line) (agreed-least s (g .rest) (suc k) h) in
+          let p : suc k ≤ agreed s w = subst (λ x. suc k ≤ agreed s x) (g .line) (start-agreed s (g .rest) (suc k) h) in
           omega arith;
       malformed = n;
     }

@@ -16,7 +16,7 @@ use Rattle.lists.proofs.Tests.{test}
 abbrev pub Either : (List ℕ → Type 0) → (List ℕ → Type 0) → List ℕ → Type 0
 Either P Q s = P s ⊎ Q s
 
--- if no line begins so early, none begins later
+-- no line goes on after its first bad byte
 none-later : {P : List ℕ → Type 0} {s : List ℕ} {k m : ℕ} → FirstBad P s k → k ≤ m → m ≤ length s →
     Begins P (take m s) → ⊥
 none-later {P} {s} {k} {m} x h l g =

@@ -36,6 +36,9 @@ kind-number-requires-4 c κs =
 enum-told : tie.Need-enum-told
 enum-told c = search needs
 
+enum-told-2 : tie.Need-enum-told-2
+enum-told-2 c = search needs
+
 returns : tie.Need-returns
 returns c = c .kind-number .ensures ∙ ap lineNumber (sym (c .before .before .line .given .1))
 
@@ -51,6 +54,9 @@ returns-4 c = c .kind-number4 .ensures ∙ ap lineNumber (sym (c .before .before
 returns-5 : tie.Need-returns-5
 returns-5 c = search needs
 
+returns-6 : tie.Need-returns-6
+returns-6 c = search needs
+
 pub line-number-spec : {M : Type 1} → statement M
 line-number-spec =
     tie.close
@@ -64,8 +70,10 @@ line-number-spec =
     enum-known-line-4
     kind-number-requires-4
     enum-told
+    enum-told-2
     returns
     returns-2
     returns-3
     returns-4
-    returns-5)
+    returns-5
+    returns-6)
