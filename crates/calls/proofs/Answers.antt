@@ -4,19 +4,20 @@ use mathlib.Core.List.{List, [], _++_, _∷_}
 use mathlib.Core.Path.{_≡_, ap, ap₂, refl}
 use Prim.Native.Nat.{_≤_, ℕ}
 use native.Mathlib.Omega.{arith}
-use lib.Dec.{eqb, leb}
+use lib.Dec.{eqb, leb, ltb}
 use lib.ListN.{length}
-use borrow.Author.Tests.{eqb-false, eqb-true, leb-true}
+use borrow.Author.Tests.{eqb-false, eqb-true, leb-true, ltb-true}
 use Rattle.automata.specs.Automaton.{Automaton, accepts, run, states}
 use Rattle.automata.specs.Stops.{stopPlace}
+use Rattle.automata.specs.Totals.{total}
 use Rattle.calls.specs.Answers.{CallKind, Gives, RefusalNumber, TableCounts, answerNumber, asking, changing}
-use Rattle.calls.specs.Answers.{taking}
+use Rattle.calls.specs.Answers.{numberAfter, taking, totalling}
 use Rattle.calls.specs.Calls.{Change, acceptedWith, addResult, askAnswer, askRefusal, asked, changeRefusal}
 use Rattle.calls.specs.Calls.{changeResult, changed, delete, doneWith, earlyConditions, insert, intakeAnswer}
-use Rattle.calls.specs.Calls.{outcome, refusedOr, removeResult, sizeConditions}
+use Rattle.calls.specs.Calls.{outcome, refusedOr, removeResult, sizeConditions, totalAnswer, totalled}
 use Rattle.calls.specs.declared.Answer.{Answer}
-use Rattle.calls.specs.declared.Answer.the-variants.{Accepted, Approved, Done, NotAt, NotPart, Refused}
-use Rattle.format.specs.Format.{maxNodes, maxStates, maxTransitions}
+use Rattle.calls.specs.declared.Answer.the-variants.{Accepted, Approved, Done, NotAt, NotPart, Over, Refused, Total}
+use Rattle.format.specs.Format.{maxNodes, maxStates, maxTransitions, numberLimit}
 use Rattle.lists.specs.Conditions.{Condition}
 use Rattle.table.specs.Intake.{automatonConditions, contentConditions, fitsTable, lengthCondition, tableRefusal}
 use Rattle.table.specs.Layout.{decode}
@@ -73,6 +74,21 @@ intake-gives b =
     let l = layout-laid b (unrefused-passes b z .layout) in
     (omega (arith, decoded-states b, l .states), omega (arith, decoded-count b, l .count)))
 
+totalled-gives : (n : ℕ) → Gives totalling (totalled n)
+unfolding totalled
+totalled-gives n = go (ltb n numberLimit) refl
+  where
+    go : (t : Bool) → ltb n numberLimit ≡ t → Gives totalling (cond t (Total n) Over)
+    go true e = ltb-true n numberLimit e
+    go false e = tt
+
+pub total-gives : (b : List ℕ) → Gives totalling (totalAnswer b)
+unfolding totalAnswer tableRefusal
+total-gives b =
+    refused-gives totalling (tableRefusal b) (totalled (total (decode b)))
+    (broken-at-most 17 (lengthCondition b ∷ contentConditions b) (table-at-most b)) (λ k h. h)
+    (λ z. totalled-gives (total (decode b)))
+
 -- the numbers of an automaton that fits a table
 fits-counts : (A : Automaton) → fitsTable A ≡ true → TableCounts (states A) (length (A .transitions))
 fits-counts A f = (
@@ -104,31 +120,41 @@ remove-gives s b w = change-gives (delete (readTree s)) s b w
 
 -- ---- numbers
 
--- no two answers of a kind of call have one number
-pub answer-injective : (x : CallKind) (a b : Answer) → Gives x a → Gives x b → answerNumber a ≡ answerNumber b → a ≡ b
-answer-injective asking Approved Approved g h e = refl
-answer-injective asking Approved NotPart g h e = absurd (omega arith)
-answer-injective asking Approved (NotAt k) g h e = absurd (omega (arith, e))
-answer-injective asking Approved (Refused k) g h e = absurd (omega (arith, e, h .1))
-answer-injective asking NotPart Approved g h e = absurd (omega arith)
-answer-injective asking NotPart NotPart g h e = refl
-answer-injective asking NotPart (NotAt k) g h e = absurd (omega (arith, e))
-answer-injective asking NotPart (Refused k) g h e = absurd (omega (arith, e, h .1))
-answer-injective asking (NotAt j) Approved g h e = absurd (omega (arith, e))
-answer-injective asking (NotAt j) NotPart g h e = absurd (omega (arith, e))
-answer-injective asking (NotAt j) (NotAt k) g h e = ap NotAt (omega (arith, e))
-answer-injective asking (NotAt j) (Refused k) g h e = absurd (omega (arith, e, g .0, h .1))
-answer-injective asking (Refused j) Approved g h e = absurd (omega (arith, e, g .1))
-answer-injective asking (Refused j) NotPart g h e = absurd (omega (arith, e, g .1))
-answer-injective asking (Refused j) (NotAt k) g h e = absurd (omega (arith, e, g .1, h .0))
-answer-injective asking (Refused j) (Refused k) g h e = ap Refused e
-answer-injective taking (Accepted n m) (Accepted j k) g h e =
+-- no two answers of a kind of call give a host the same numbers
+pub answer-injective : (x : CallKind) (a b : Answer) → Gives x a → Gives x b → answerNumber a ≡ answerNumber b →
+    ((k : ℕ) → numberAfter a k ≡ numberAfter b k) → a ≡ b
+answer-injective asking Approved Approved g h e w = refl
+answer-injective asking Approved NotPart g h e w = absurd (omega arith)
+answer-injective asking Approved (NotAt k) g h e w = absurd (omega (arith, e))
+answer-injective asking Approved (Refused k) g h e w = absurd (omega (arith, e, h .1))
+answer-injective asking NotPart Approved g h e w = absurd (omega arith)
+answer-injective asking NotPart NotPart g h e w = refl
+answer-injective asking NotPart (NotAt k) g h e w = absurd (omega (arith, e))
+answer-injective asking NotPart (Refused k) g h e w = absurd (omega (arith, e, h .1))
+answer-injective asking (NotAt j) Approved g h e w = absurd (omega (arith, e))
+answer-injective asking (NotAt j) NotPart g h e w = absurd (omega (arith, e))
+answer-injective asking (NotAt j) (NotAt k) g h e w = ap NotAt (omega (arith, e))
+answer-injective asking (NotAt j) (Refused k) g h e w = absurd (omega (arith, e, g .0, h .1))
+answer-injective asking (Refused j) Approved g h e w = absurd (omega (arith, e, g .1))
+answer-injective asking (Refused j) NotPart g h e w = absurd (omega (arith, e, g .1))
+answer-injective asking (Refused j) (NotAt k) g h e w = absurd (omega (arith, e, g .1, h .0))
+answer-injective asking (Refused j) (Refused k) g h e w = ap Refused e
+answer-injective taking (Accepted n m) (Accepted j k) g h e w =
     let y : m ≡ k = omega (arith, e, g .0, h .0) in ap₂ Accepted (omega (arith, e, y)) y
-answer-injective taking (Accepted n m) (Refused k) g h e = absurd (omega (arith, e, g .0, h .0, h .1))
-answer-injective taking (Refused k) (Accepted n m) g h e = absurd (omega (arith, e, h .0, g .0, g .1))
-answer-injective taking (Refused j) (Refused k) g h e = ap Refused e
-answer-injective changing (Done n m) (Done j k) g h e =
+answer-injective taking (Accepted n m) (Refused k) g h e w = absurd (omega (arith, e, g .0, h .0, h .1))
+answer-injective taking (Refused k) (Accepted n m) g h e w = absurd (omega (arith, e, h .0, g .0, g .1))
+answer-injective taking (Refused j) (Refused k) g h e w = ap Refused e
+answer-injective changing (Done n m) (Done j k) g h e w =
     let y : m ≡ k = omega (arith, e, g .0, h .0) in ap₂ Done (omega (arith, e, y)) y
-answer-injective changing (Done n m) (Refused k) g h e = absurd (omega (arith, e, g .0, h .0, h .1))
-answer-injective changing (Refused k) (Done n m) g h e = absurd (omega (arith, e, h .0, g .0, g .1))
-answer-injective changing (Refused j) (Refused k) g h e = ap Refused e
+answer-injective changing (Done n m) (Refused k) g h e w = absurd (omega (arith, e, g .0, h .0, h .1))
+answer-injective changing (Refused k) (Done n m) g h e w = absurd (omega (arith, e, h .0, g .0, g .1))
+answer-injective changing (Refused j) (Refused k) g h e w = ap Refused e
+answer-injective totalling (Total n) (Total m) g h e w = ap Total (w 0)
+answer-injective totalling (Total n) Over g h e w = absurd (omega arith)
+answer-injective totalling (Total n) (Refused k) g h e w = absurd (omega (arith, e, h .0))
+answer-injective totalling Over (Total n) g h e w = absurd (omega arith)
+answer-injective totalling Over Over g h e w = refl
+answer-injective totalling Over (Refused k) g h e w = absurd (omega (arith, e, h .1))
+answer-injective totalling (Refused j) (Total n) g h e w = absurd (omega (arith, e, g .0))
+answer-injective totalling (Refused j) Over g h e w = absurd (omega (arith, e, g .1))
+answer-injective totalling (Refused j) (Refused k) g h e w = ap Refused e

@@ -10,10 +10,11 @@ use borrow.Author.Tests.{eqb-true, leb-true}
 use Rattle.automata.specs.Acyclic.{Bounded}
 use Rattle.automata.specs.Automaton.{Automaton, accepting, accepts, emptyAutomaton, run, states}
 use Rattle.automata.specs.Canonical.{Canonical}
+use Rattle.automata.specs.Totals.{total}
 use Rattle.calls.specs.Calls.{Change, acceptedWith, addResult, askAnswer, askRefusal, asked}
 use Rattle.calls.specs.Calls.{changeRefusal, changeResult, changed, changedTree, delete, doneWith}
 use Rattle.calls.specs.Calls.{earlyConditions, insert, intakeAnswer, outcome, presence, refusedOr, removeResult}
-use Rattle.calls.specs.Calls.{scratchAfter, scratchCondition, sizeConditions}
+use Rattle.calls.specs.Calls.{scratchAfter, scratchCondition, sizeConditions, totalAnswer, totalled}
 use Rattle.calls.specs.Claim.{Agrees, InStep, Meaning}
 use Rattle.calls.specs.Series.{AllBring, BringsBytes, Call, Model, Response, add, canonicalOf, changedSet}
 use Rattle.calls.specs.Series.{emptyModel, member, modelConditions, modelOf, modelRefusal, onlyAnswer, perform}
@@ -28,6 +29,7 @@ use Rattle.trees.specs.Tree.{Tree}
 use Rattle.automata.proofs.CanonicalChange.{canonical-fits}
 use Rattle.automata.proofs.Legal.{accepted-legal, canonical-legal}
 use Rattle.automata.proofs.ProductCounted.{product-counted}
+use Rattle.automata.proofs.Totals.{canonical-total}
 use Rattle.calls.proofs.Conditions.{model-from-one, table-from-one}
 use Rattle.calls.proofs.Model.{change-canonical, changed-bounded, changed-legal, model-accepts}
 use Rattle.calls.proofs.Reports.{asked-reports}
@@ -76,6 +78,10 @@ module _ (b : List ℕ) (m : Model) (X : InStep b m) where
   unfolding intakeAnswer
   intake-same = rw (unrefused, decoded)
 
+  total-same : totalAnswer b ≡ totalled (total (canonicalOf m))
+  unfolding totalAnswer
+  total-same = rw (unrefused, decoded)
+
   pub in-step-meaning : Meaning m
   unfolding queryResult
   in-step-meaning = record {
@@ -88,6 +94,11 @@ module _ (b : List ℕ) (m : Model) (X : InStep b m) where
       response = ap onlyAnswer (ap (askAnswer s) (sym (X .table)) ∙ ask-same s);
     };
     taken = ap onlyAnswer (ap intakeAnswer (sym (X .table)) ∙ intake-same);
+    counted = record {
+      number = total (canonicalOf m);
+      counts = canonical-total (member m) (canonicalOf m) (X .canonical) (X .bounded);
+      response = ap onlyAnswer (ap totalAnswer (sym (X .table)) ∙ total-same);
+    };
   }
 
   -- ---- changes

@@ -1,12 +1,12 @@
--- The answers that each kind of call can give, and the one number that a C host gets for each.
-use Prim.Native.Nat.{_*_, _+_, _≤_, ℕ}
+-- The answers that each kind of call can give, and the numbers that a C host gets for each.
+use Prim.Native.Nat.{_*_, _+_, _<_, _≤_, ℕ}
 use Rattle.calls.specs.declared.Answer.{Answer}
-use Rattle.calls.specs.declared.Answer.the-variants.{Accepted, Approved, Done, NotAt, NotPart, Refused}
-use Rattle.format.specs.Format.{maxNodes, maxStates, maxTransitions}
+use Rattle.calls.specs.declared.Answer.the-variants.{Accepted, Approved, Done, NotAt, NotPart, Over, Refused, Total}
+use Rattle.format.specs.Format.{maxNodes, maxStates, maxTransitions, numberLimit}
 
--- ask, intake, and the two calls that change the set
+-- ask, intake, the two calls that change the set, and the total
 pub data CallKind : Type 0 where
-  asking taking changing : CallKind
+  asking taking changing totalling : CallKind
 
 -- 01 numbers refusals from 1 to 17
 abbrev pub RefusalNumber : ℕ → Type 0
@@ -27,19 +27,33 @@ Gives asking NotPart = Unit {0}
 Gives asking (NotAt k) = PlaceNumber k
 Gives asking (Accepted n m) = ⊥
 Gives asking (Done n m) = ⊥
+Gives asking (Total n) = ⊥
+Gives asking Over = ⊥
 Gives asking (Refused k) = RefusalNumber k
 Gives taking Approved = ⊥
 Gives taking NotPart = ⊥
 Gives taking (NotAt k) = ⊥
 Gives taking (Accepted n m) = TableCounts n m
 Gives taking (Done n m) = ⊥
+Gives taking (Total n) = ⊥
+Gives taking Over = ⊥
 Gives taking (Refused k) = RefusalNumber k
 Gives changing Approved = ⊥
 Gives changing NotPart = ⊥
 Gives changing (NotAt k) = ⊥
 Gives changing (Accepted n m) = ⊥
 Gives changing (Done n m) = TableCounts n m
+Gives changing (Total n) = ⊥
+Gives changing Over = ⊥
 Gives changing (Refused k) = RefusalNumber k
+Gives totalling Approved = ⊥
+Gives totalling NotPart = ⊥
+Gives totalling (NotAt k) = ⊥
+Gives totalling (Accepted n m) = ⊥
+Gives totalling (Done n m) = ⊥
+Gives totalling (Total n) = n < numberLimit
+Gives totalling Over = Unit {0}
+Gives totalling (Refused k) = RefusalNumber k
 
 -- the numbers of states and of transitions in one number
 abbrev pub countsNumber : ℕ → ℕ → ℕ
@@ -52,4 +66,17 @@ answerNumber NotPart = 512
 answerNumber (NotAt k) = 65536 * k
 answerNumber (Accepted n m) = countsNumber n m
 answerNumber (Done n m) = countsNumber n m
+answerNumber (Total n) = 0
+answerNumber Over = 256
 answerNumber (Refused k) = k
+
+-- what a C host then has in the number that it lent: the total, or what was there
+abbrev pub numberAfter : Answer → ℕ → ℕ
+numberAfter Approved old = old
+numberAfter NotPart old = old
+numberAfter (NotAt k) old = old
+numberAfter (Accepted n m) old = old
+numberAfter (Done n m) old = old
+numberAfter (Total n) old = n
+numberAfter Over old = old
+numberAfter (Refused k) old = old

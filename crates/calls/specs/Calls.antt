@@ -1,16 +1,17 @@
--- The four calls on bytes, whole: what each answers and what it leaves in the lent tables, for any bytes
+-- The calls on bytes, whole: what each answers and what it leaves in the lent tables, for any bytes
 -- of any length.
 use mathlib.Core.Bool.{Bool, _||_, cond, not}
 use mathlib.Core.List.{List, [], _++_, _∷_}
 use Prim.Native.Nat.{ℕ}
-use lib.Dec.{eqb, leb}
+use lib.Dec.{eqb, leb, ltb}
 use lib.ListN.{length, replicate}
 use Rattle.automata.specs.Automaton.{Automaton, accepts, run, states}
 use Rattle.automata.specs.Change.{deleteTree, insertTree, productTransitions}
 use Rattle.automata.specs.Stops.{stopPlace}
+use Rattle.automata.specs.Totals.{total}
 use Rattle.calls.specs.declared.Answer.{Answer}
-use Rattle.calls.specs.declared.Answer.the-variants.{Accepted, Approved, Done, NotAt, NotPart, Refused}
-use Rattle.format.specs.Format.{maxProduct, scratchBytes}
+use Rattle.calls.specs.declared.Answer.the-variants.{Accepted, Approved, Done, NotAt, NotPart, Over, Refused, Total}
+use Rattle.format.specs.Format.{maxProduct, numberLimit, scratchBytes}
 use Rattle.lists.specs.Conditions.{Condition, condition, firstBroken}
 use Rattle.table.specs.Intake.{contentConditions, fitsTable, lengthCondition, tableRefusal}
 use Rattle.table.specs.Layout.{decode, encode}
@@ -33,6 +34,10 @@ acceptedWith A = Accepted (states A) (length (A .transitions))
 abbrev pub doneWith : Automaton → Answer
 doneWith A = Done (states A) (length (A .transitions))
 
+-- the number of trees, or that it is over
+unfoldable pub totalled : ℕ → Answer
+totalled n = cond (ltb n numberLimit) (Total n) Over
+
 -- ---- calls that only read the table
 
 -- ask: 1 to 5 and 7 to 13
@@ -45,6 +50,10 @@ askAnswer s b = refusedOr (askRefusal s b) (asked (decode b) (readTree s))
 -- intake: 5 and 7 to 13
 unfoldable pub intakeAnswer : List ℕ → Answer
 intakeAnswer b = refusedOr (tableRefusal b) (acceptedWith (decode b))
+
+-- the total: 5 and 7 to 13
+unfoldable pub totalAnswer : List ℕ → Answer
+totalAnswer b = refusedOr (tableRefusal b) (totalled (total (decode b)))
 
 -- ---- calls that change the set
 

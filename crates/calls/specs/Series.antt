@@ -7,7 +7,7 @@ use Rattle.automata.specs.Automaton.{Automaton, accepts, emptyAutomaton}
 use Rattle.automata.specs.Change.{productTransitions}
 use Rattle.calls.specs.Calls.{Change, Result, addResult, askAnswer, changed, changedTree, delete, doneWith}
 use Rattle.calls.specs.Calls.{insert, intakeAnswer, presence, refusedOr, removeResult, scratchAfter}
-use Rattle.calls.specs.Calls.{scratchCondition}
+use Rattle.calls.specs.Calls.{scratchCondition, totalAnswer}
 use Rattle.calls.specs.declared.Answer.{Answer}
 use Rattle.format.specs.Format.{AllBytes, maxProduct}
 use Rattle.lists.specs.Conditions.{Condition, condition, firstBroken}
@@ -19,7 +19,7 @@ use Rattle.trees.specs.Tree.{Tree, eqTree}
 -- a call that only reads the table, with what it brings: ask a listing
 pub data Query : Type 0 where
   ask : List ℕ → Query
-  intake : Query
+  intake total : Query
 
 -- a call with what it brings: add and remove a listing and a scratch
 pub data Call : Type 0 where
@@ -56,6 +56,7 @@ pub record Reply (X : Type 0) : Type 0 where
 unfoldable pub queryResult : Query → List ℕ → Response
 queryResult (ask s) b = onlyAnswer (askAnswer s b)
 queryResult intake b = onlyAnswer (intakeAnswer b)
+queryResult total b = onlyAnswer (totalAnswer b)
 
 abbrev pub replied : Result → Reply (List ℕ)
 replied r = record { response = record { answer = r .answer; lent = r .scratch }; next = r .table }

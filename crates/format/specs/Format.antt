@@ -1,5 +1,5 @@
 -- The widths and limits of document 01, each stated once. The constants of src/lib.rt are the same numbers.
-use Prim.Native.Nat.{_*_, _+_, _<_, ℕ}
+use Prim.Native.Nat.{_*_, _+_, _<_, _^_, ℕ}
 use mathlib.Core.List.{List}
 use lib.ListN.{getD}
 
@@ -79,6 +79,10 @@ byteValues = 256
 -- the same for two bytes
 abbrev pub bytePairs : ℕ
 bytePairs = byteValues * byteValues
+
+-- the least number that does not fit 64 bits
+abbrev pub numberLimit : ℕ
+numberLimit = 2 ^ 64
 
 -- what a slice of bytes holds
 abbrev pub AllBytes : List ℕ → Type 0
