@@ -11,14 +11,15 @@ use Rattle.automata.specs.Automaton.{Automaton}
 use Rattle.calls.proofs.Series.{in-step-meaning, one-call, zero-in-step}
 use Rattle.calls.specs.Calls.{addResult, changeResult, intakeAnswer, outcome, removeResult}
 use Rattle.calls.specs.Claim.{InStep}
-use Rattle.calls.specs.Series.{BringsBytes, Model, Response, emptyModel, perform, queryResult, respond}
+use Rattle.calls.specs.Series.{BringsBytes, Model, Response, emptyModel, perform, query, queryResult, respond}
+use Rattle.calls.specs.Series.{total}
 use Rattle.format.specs.Format.{AllBytes, maxLine, scratchBytes, tableBytes}
 use Rattle.report.specs.declared.Outcome.the-variants.{Answered}
 use Rattle.report.specs.Report.{lineText}
 use Rattle.serving.specs.Serving.{called, closing, closingFor, handled, served}
 use Rattle.text.proofs.LineMeaning.{line-long}
 use Rattle.text.specs.Grammar.{Command, toAdd, toAsk, toDrop}
-use Rattle.text.specs.Reader.{Line, form, formed, long, readLine}
+use Rattle.text.specs.Reader.{Line, form, formed, long, readLine, totalled}
 use Rattle.console.specs.Input.{linesOf}
 use Rattle.console.specs.Machine.{callOf, lineModel, lineOutcome, machine, machineFrom}
 use Rattle.console.specs.Console.{printed, printedFrom}
@@ -80,7 +81,7 @@ short s c l e = go (leb (length s) maxLine) refl
         let z : _≡_ {A = ℕ} 0 1 = cc in absurd (omega arith)
 
 line-step : (s : List ℕ) (line : Line) → readLine s ≡ line → (b : List ℕ) (m : Model) → InStep b m → LineStep line b m
-unfolding handled
+unfolding handled perform queryResult
 line-step s (formed c l) e b m X =
     let (a, Y) = one-call b m X (callOf c l) (brings c l (line-bytes s c l (short s c l e) e)) in
     record {
@@ -88,6 +89,9 @@ line-step s (formed c l) e b m X =
       next = rw (called-table c l b) Y;
       scratch = called-scratch c l b;
     }
+line-step s totalled e b m X =
+    let (a, Y) = one-call b m X (query total) tt in
+    record { outcome = ap Answered (ap (λ (x : Response). x .answer) a); next = X; scratch = refl }
 line-step s (form n) e b m X = record { outcome = refl; next = X; scratch = refl }
 line-step s long e b m X = record { outcome = refl; next = X; scratch = refl }
 

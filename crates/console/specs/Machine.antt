@@ -4,13 +4,13 @@ use mathlib.Core.List.{List, [], _++_, _∷_}
 use Prim.Native.Nat.{suc, ℕ}
 use lib.ListN.{length, replicate}
 use Rattle.automata.specs.Automaton.{states}
-use Rattle.calls.specs.Series.{Call, Model, add, ask, canonicalOf, emptyModel, query, remove, respond}
+use Rattle.calls.specs.Series.{Call, Model, add, ask, canonicalOf, emptyModel, query, remove, respond, total}
 use Rattle.format.specs.Format.{scratchBytes}
 use Rattle.report.specs.Report.{endText, lineText}
 use Rattle.report.specs.declared.Outcome.{Outcome}
 use Rattle.report.specs.declared.Outcome.the-variants.{Answered, Form, Long}
 use Rattle.text.specs.Grammar.{Command, toAdd, toAsk, toDrop}
-use Rattle.text.specs.Reader.{Line, form, formed, long, readLine}
+use Rattle.text.specs.Reader.{Line, form, formed, long, readLine, totalled}
 use Rattle.console.specs.Input.{linesOf}
 
 -- the call that a command makes, with a listing and a scratch of the right length
@@ -22,11 +22,13 @@ callOf toAsk s = query (ask s)
 -- what comes of a line, and the model after it
 abbrev pub lineOutcome : Line → Model → Outcome
 lineOutcome (formed c s) m = Answered (respond m (callOf c s) .response .answer)
+lineOutcome totalled m = Answered (respond m (query total) .response .answer)
 lineOutcome (form n) m = Form n
 lineOutcome long m = Long
 
 abbrev pub lineModel : Line → Model → Model
 lineModel (formed c s) m = respond m (callOf c s) .next
+lineModel totalled m = m
 lineModel (form n) m = m
 lineModel long m = m
 

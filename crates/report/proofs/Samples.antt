@@ -1,7 +1,7 @@
 -- The lines that document 01 prints for its example, and others, computed.
 use mathlib.Core.List.{[], _∷_}
 use mathlib.Core.Path.{_≡_, refl}
-use Rattle.calls.specs.declared.Answer.the-variants.{Done, NotAt, NotPart, Refused}
+use Rattle.calls.specs.declared.Answer.the-variants.{Done, NotAt, NotPart, Over, Refused, Total}
 use Rattle.lists.specs.Decimal.{decimal, digits}
 use Rattle.report.specs.Report.{answerText, endText, field, lineText, outcomeText}
 use Rattle.report.specs.declared.Outcome.the-variants.{Answered, Form}
@@ -20,6 +20,17 @@ not-sample = refl
 part-sample : lineText 5 (Answered NotPart) ≡ 53 ∷ 32 ∷ 110 ∷ 111 ∷ 116 ∷ 32 ∷ 112 ∷ 97 ∷ 114 ∷ 116 ∷ 10 ∷ []
 unfolding lineText outcomeText answerText field decimal digits
 part-sample = refl
+
+-- 3 total 4
+total-sample : lineText 3 (Answered (Total 4)) ≡ 51 ∷ 32 ∷ 116 ∷ 111 ∷ 116 ∷ 97 ∷ 108 ∷ 32 ∷ 52 ∷ 10 ∷ []
+unfolding lineText outcomeText answerText field decimal digits
+total-sample = refl
+
+-- 3 total over
+over-sample : lineText 3 (Answered Over) ≡
+    51 ∷ 32 ∷ 116 ∷ 111 ∷ 116 ∷ 97 ∷ 108 ∷ 32 ∷ 111 ∷ 118 ∷ 101 ∷ 114 ∷ 10 ∷ []
+unfolding lineText outcomeText answerText field decimal digits
+over-sample = refl
 
 -- 3 refused 15
 refused-sample : lineText 3 (Answered (Refused 15)) ≡

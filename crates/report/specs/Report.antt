@@ -1,9 +1,9 @@
 -- What the bench program prints for a line and at the end of its input, as document 01 words it. Fields stand one
--- space apart: the line number, a word, then states and transitions, the place, the refusal, or the column.
+-- space apart: the line number, a word, then states and transitions, the place, the total, the refusal, or the column.
 use mathlib.Core.List.{List, [], _++_, _∷_}
 use Prim.Native.Nat.{ℕ}
 use Rattle.calls.specs.declared.Answer.{Answer}
-use Rattle.calls.specs.declared.Answer.the-variants.{Accepted, Approved, Done, NotAt, NotPart, Refused}
+use Rattle.calls.specs.declared.Answer.the-variants.{Accepted, Approved, Done, NotAt, NotPart, Over, Refused, Total}
 use Rattle.lists.specs.Decimal.{decimal}
 use Rattle.report.specs.declared.Outcome.{Outcome}
 use Rattle.report.specs.declared.Outcome.the-variants.{Answered, Form, Long}
@@ -29,6 +29,12 @@ notWord = 110 ∷ 111 ∷ 116 ∷ []
 abbrev pub partWord : List ℕ
 partWord = 112 ∷ 97 ∷ 114 ∷ 116 ∷ []
 
+abbrev pub totalWord : List ℕ
+totalWord = 116 ∷ 111 ∷ 116 ∷ 97 ∷ 108 ∷ []
+
+abbrev pub overWord : List ℕ
+overWord = 111 ∷ 118 ∷ 101 ∷ 114 ∷ []
+
 abbrev pub refusedWord : List ℕ
 refusedWord = 114 ∷ 101 ∷ 102 ∷ 117 ∷ 115 ∷ 101 ∷ 100 ∷ []
 
@@ -52,6 +58,8 @@ answerText NotPart = notWord ++ (space ∷ partWord)
 answerText (NotAt place) = notWord ++ field place
 answerText (Accepted states transitions) = acceptedWord ++ (field states ++ field transitions)
 answerText (Done states transitions) = doneWord ++ (field states ++ field transitions)
+answerText (Total number) = totalWord ++ field number
+answerText Over = totalWord ++ (space ∷ overWord)
 answerText (Refused number) = refusedWord ++ field number
 
 -- what came of a line: an answer, the column from which it is malformed, or that it is too long

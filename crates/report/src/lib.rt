@@ -114,6 +114,11 @@ fn put_answer(out: &mut [u8; LINE_BYTES], at: usize, answer: Answer) -> usize
             let first = put_word(out, at, b"done");
             put_counts(out, first, states, transitions)
         }
+        Answer::Total { number } => {
+            let first = put_word(out, at, b"total");
+            put_field(out, first, number)
+        }
+        Answer::Over => put_word(out, at, b"total over"),
         Answer::Refused { number } => {
             let first = put_word(out, at, b"refused");
             put_field(out, first, number as u64)

@@ -3,8 +3,9 @@
 mod lines; // lines of text
 
 ghost use mathlib.Core.Path.{_≡_};
-ghost use Rattle.calls.specs.Answers.{answerNumber, countsNumber};
+ghost use Rattle.calls.specs.Answers.{answerNumber, countsNumber, numberAfter};
 ghost use Rattle.calls.specs.Calls.{addResult, askAnswer, askRefusal, changeResult, intakeAnswer, removeResult};
+ghost use Rattle.calls.specs.Calls.{totalAnswer};
 ghost use Rattle.change.specs.Changing.{changeOf, resultOf};
 ghost use Rattle.trees.specs.Listing.{readTree};
 ghost use Rattle.trees.specs.Tree.{Tree};
@@ -17,6 +18,7 @@ use intake::content_refusal;
 use running::accepts_state;
 use running::node_states;
 use running::stops::stop_place;
+use totals::Total;
 
 // A byte as a number to return.
 fn wide64(x: u8) -> u64
@@ -55,6 +57,8 @@ fn answer_number(answer: Answer) -> u64
             states,
             transitions,
         } => counts(states, transitions),
+        Answer::Total { .. } => 0,
+        Answer::Over => 256,
         Answer::Refused { number } => wide64(number),
     }
 }
@@ -103,6 +107,20 @@ pub fn take_in(table: &[u8]) -> Answer
     Answer::Accepted {
         states: wide16(table[0]),
         transitions: transitions as u16,
+    }
+}
+
+// How many trees the table's set has.
+pub fn total(table: &[u8]) -> Answer
+    ensures { λ r. ⌜ r ≡ totalAnswer (now (table .entry)) ⌝ }
+{
+    let number = intake::refusal(table);
+    if number != 0 {
+        return Answer::Refused { number };
+    }
+    match totals::total(table) {
+        Total::Number { value } => Answer::Total { number: value },
+        Total::Over => Answer::Over,
     }
 }
 
@@ -204,6 +222,27 @@ pub extern "C" fn scalebench_ask(tree: &[u8], table: &[u8]) -> u64
     ensures { λ r. ⌜ r ≡ answerNumber (askAnswer (now (tree .entry)) (now (table .entry))) ⌝ }
 {
     let answer = ask(tree, table);
+    answer_number(answer)
+}
+
+// The number that a host has after an answer: the total, or what was there.
+fn number_after(answer: Answer, old: u64) -> u64
+    ensures { λ r. ⌜ r ≡ numberAfter answer old ⌝ }
+{
+    let Answer::Total { number } = answer else {
+        return old;
+    };
+    number
+}
+
+#[no_mangle]
+pub extern "C" fn scalebench_total(table: &[u8], number: &mut u64) -> u64
+    ensures answer { λ r. ⌜ r ≡ answerNumber (totalAnswer (now (table .entry))) ⌝ }
+    ensures written { λ _. ⌜ now (number .exit) ≡
+        numberAfter (totalAnswer (now (table .entry))) (now (number .entry)) ⌝ }
+{
+    let answer = total(table);
+    *number = number_after(answer, *number);
     answer_number(answer)
 }
 

@@ -7,20 +7,20 @@ use denote.Enum.Declared.{tagOf}
 use types.Run.{OneOf, miss}
 use lib.ListN.{drop, length, length-append, replicate, take}
 use Rattle.format.specs.Format.{listingBytes}
-use Rattle.calls.specs.Calls.{Result, intakeAnswer}
+use Rattle.calls.specs.Calls.{Result, intakeAnswer, totalAnswer}
 use Rattle.calls.specs.declared.Answer.{Answer}
-use Rattle.calls.specs.declared.Answer.the-variants.{Accepted, Approved, Done, NotAt, NotPart, Refused}
+use Rattle.calls.specs.declared.Answer.the-variants.{Accepted, Approved, Done, NotAt, NotPart, Over, Refused, Total as Counted}
 use Rattle.calls.proofs.Answer.{the-type}
 use Rattle.report.specs.Printing.{Printed}
 use Rattle.report.specs.Report.{endText, lineText}
 use Rattle.report.specs.declared.Outcome.{Outcome}
-use Rattle.report.specs.declared.Outcome.the-variants.{Form as Malformed, Long as TooLong}
+use Rattle.report.specs.declared.Outcome.the-variants.{Answered, Form as Malformed, Long as TooLong}
 use Rattle.text.proofs.Lines.{padded-listing}
 use Rattle.text.specs.Grammar.{Command, toAdd, toAsk, toDrop}
 use Rattle.text.specs.Outcome.{listed, padded, parsed, parsedAs}
-use Rattle.text.specs.Reader.{Line, form, formed, long, readLine}
+use Rattle.text.specs.Reader.{Line, form, formed, long, readLine, totalled}
 use Rattle.text.specs.declared.Parsed.{Parsed}
-use Rattle.text.specs.declared.Parsed.the-variants.{Add, Ask, Drop, Form, Long}
+use Rattle.text.specs.declared.Parsed.the-variants.{Add, Ask, Drop, Form, Long, Total}
 use Rattle.serving.specs.Answering.{Serves, handling}
 use Rattle.serving.specs.Serving.{answered, called, closing, closingFor, handled, reported, served}
 
@@ -37,6 +37,7 @@ Says r (Drop n) = Commands r toDrop n
 Says r (Ask n) = Commands r toAsk n
 Says r (Form n) = r ≡ form n
 Says r Long = r ≡ long
+Says r Total = r ≡ totalled
 
 says-itself : (r : Line) → Says r (parsed r)
 unfolding Says parsed
@@ -45,6 +46,7 @@ says-itself (formed toDrop l) = record { listing = l; line = refl; size = refl }
 says-itself (formed toAsk l) = record { listing = l; line = refl; size = refl }
 says-itself (form n) = refl
 says-itself long = refl
+says-itself totalled = refl
 
 says : (r : Line) (x : Parsed) → parsed r ≡ x → Says r x
 says r x e = subst (Says r) e (says-itself r)
@@ -86,6 +88,13 @@ pub long-handled : (r : Line) → parsed r ≡ Long → (b w : List ℕ) → han
 unfolding Says handled
 long-handled r e b w = sym (ap (λ (l : Line). handled l b w) (says r Long e))
 
+-- the total changes nothing
+pub total-handled : (r : Line) → parsed r ≡ Total → (b w : List ℕ) (a : Answer) → a ≡ totalAnswer b →
+    handling (Answered a) b w ≡ handled r b w
+unfolding Says handled
+total-handled r e b w a h =
+    ap (λ x. handling (Answered x) b w) h ∙ sym (ap (λ (l : Line). handled l b w) (says r Total e))
+
 -- a line handled and its outcome printed
 pub printed-served : (n : ℕ) (s b w : List ℕ) (o : Outcome) (b' w' t : List ℕ) (r : ℕ) →
     handling o b' w' ≡ handled (readLine s) b w → Printed t (lineText n o) r → Serves n s b w t r b' w'
@@ -103,11 +112,13 @@ unfolding closing
 printed-closing n b t x r a e f p = subst (λ (y : List ℕ). Printed t y r) (sym f ∙ ap (closingFor n) e) p
 
 -- an answer of any other case than the fourth, which accepts a table, has no numbers
-pub other-closing : (n : ℕ) (a : Answer) → OneOf (0 ∷ 1 ∷ 2 ∷ 4 ∷ 5 ∷ []) (tagOf the-type a) →
+pub other-closing : (n : ℕ) (a : Answer) → OneOf (0 ∷ 1 ∷ 2 ∷ 4 ∷ 5 ∷ 6 ∷ 7 ∷ []) (tagOf the-type a) →
     closingFor n a ≡ endText n 0 0
 other-closing n Approved h = refl
 other-closing n NotPart h = refl
 other-closing n (NotAt k) h = refl
-other-closing n (Accepted j k) h = absurd (miss (0 ∷ 1 ∷ 2 ∷ 4 ∷ 5 ∷ []) 3 tt h)
+other-closing n (Accepted j k) h = absurd (miss (0 ∷ 1 ∷ 2 ∷ 4 ∷ 5 ∷ 6 ∷ 7 ∷ []) 3 tt h)
 other-closing n (Done j k) h = refl
+other-closing n (Counted k) h = refl
+other-closing n Over h = refl
 other-closing n (Refused k) h = refl

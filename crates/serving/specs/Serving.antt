@@ -2,14 +2,14 @@
 -- table and the scratch.
 use mathlib.Core.List.{List}
 use Prim.Native.Nat.{ℕ}
-use Rattle.calls.specs.Calls.{Result, addResult, askAnswer, intakeAnswer, removeResult}
+use Rattle.calls.specs.Calls.{Result, addResult, askAnswer, intakeAnswer, removeResult, totalAnswer}
 use Rattle.calls.specs.declared.Answer.{Answer}
-use Rattle.calls.specs.declared.Answer.the-variants.{Accepted, Approved, Done, NotAt, NotPart, Refused}
+use Rattle.calls.specs.declared.Answer.the-variants.{Accepted, Approved, Done, NotAt, NotPart, Over, Refused, Total}
 use Rattle.report.specs.Report.{endText, lineText}
 use Rattle.report.specs.declared.Outcome.{Outcome}
 use Rattle.report.specs.declared.Outcome.the-variants.{Answered, Form, Long}
 use Rattle.text.specs.Grammar.{Command, toAdd, toAsk, toDrop}
-use Rattle.text.specs.Reader.{Line, form, formed, long, readLine}
+use Rattle.text.specs.Reader.{Line, form, formed, long, readLine, totalled}
 
 -- the call that a command makes: ask changes nothing
 unfoldable pub called : Command → List ℕ → List ℕ → List ℕ → Result
@@ -26,9 +26,10 @@ pub record Handled : Type 0 where
 abbrev pub answered : Result → Handled
 answered r = record { outcome = Answered (r .answer); table = r .table; scratch = r .scratch }
 
--- a command goes to its call; a line that is malformed or too long changes nothing
+-- a command goes to its call; a line that asks for the total, is malformed or too long changes nothing
 unfoldable pub handled : Line → List ℕ → List ℕ → Handled
 handled (formed c s) b w = answered (called c s b w)
+handled totalled b w = record { outcome = Answered (totalAnswer b); table = b; scratch = w }
 handled (form n) b w = record { outcome = Form n; table = b; scratch = w }
 handled long b w = record { outcome = Long; table = b; scratch = w }
 
@@ -53,6 +54,8 @@ closingFor lines NotPart = endText lines 0 0
 closingFor lines (NotAt k) = endText lines 0 0
 closingFor lines (Accepted n m) = endText lines n m
 closingFor lines (Done n m) = endText lines 0 0
+closingFor lines (Total n) = endText lines 0 0
+closingFor lines Over = endText lines 0 0
 closingFor lines (Refused k) = endText lines 0 0
 
 unfoldable pub closing : ℕ → List ℕ → List ℕ

@@ -27,6 +27,7 @@ fn handle(line: &[u8], table: &mut [u8], scratch: &mut [u8]) -> Outcome
             Outcome::Answered(scalebench::remove(&listing[0..len], table, scratch))
         }
         Parsed::Ask { len } => Outcome::Answered(scalebench::ask(&listing[0..len], table)),
+        Parsed::Total => Outcome::Answered(scalebench::total(table)),
         Parsed::Form { column } => Outcome::Form {
             column: column as u64,
         },

@@ -72,47 +72,77 @@ slice-aggregate-put-word-6 c = search needs
 put-word-requires-6 : tie.Need-put-word-requires-6
 put-word-requires-6 c κs = search needs
 
-cast-put-field-2 : tie.Need-cast-put-field-2
-cast-put-field-2 c = search needs
-
 put-field-requires-2 : tie.Need-put-field-requires-2
 put-field-requires-2 c κs = search needs
 
+enum-told-3 : tie.Need-enum-told-3
+enum-told-3 c = search needs
+
+slice-aggregate-put-word-7 : tie.Need-slice-aggregate-put-word-7
+slice-aggregate-put-word-7 c = search needs
+
+put-word-requires-7 : tie.Need-put-word-requires-7
+put-word-requires-7 c κs = search needs
+
+enum-known-answer-5 : tie.Need-enum-known-answer-5
+enum-known-answer-5 c = search needs
+
+slice-aggregate-put-word-8 : tie.Need-slice-aggregate-put-word-8
+slice-aggregate-put-word-8 c = search needs
+
+put-word-requires-8 : tie.Need-put-word-requires-8
+put-word-requires-8 c κs = search needs
+
+cast-put-field-2 : tie.Need-cast-put-field-2
+cast-put-field-2 c = search needs
+
+put-field-requires-3 : tie.Need-put-field-requires-3
+put-field-requires-3 c κs = search needs
+
 returns : tie.Need-returns
 unfolding answerText
-returns c = (rw (c .before .before .before .enum-told .given .1) (c .put-word .ensures), omega arith)
+returns c =
+    (rw (c .before .before .before .enum-told .given .1) (c .put-word .ensures), omega arith)
 
 returns-2 : tie.Need-returns-2
 unfolding answerText
-returns-2 c = (rw (c .before .before .before .enum-told2 .given .1) (c .put-word2 .ensures), omega arith)
+returns-2 c =
+    (rw (c .before .before .before .enum-told2 .given .1) (c .put-word2 .ensures), omega arith)
 
 returns-3 : tie.Need-returns-3
 unfolding answerText
 returns-3 c =
-    let word = c .before .before in
-    let known = word .before .before .before .before in
-    (rw (known .answer .given .1) (put-then (word .put-word3 .ensures) (c .put-field .ensures .0)), omega arith)
+    let at-answer = c .before .before .before .before .before .before in
+    (rw (at-answer .answer .given .1) (put-then (c .before .before .put-word3 .ensures) (c .put-field .ensures .0)), omega arith)
 
 returns-4 : tie.Need-returns-4
 unfolding answerText
 returns-4 c =
-    let word = c .before .before in
-    let known = word .before .before .before .before in
-    (rw (known .answer2 .given .1) (put-then (word .put-word4 .ensures) (c .put-counts .ensures .0)), omega arith)
+    let at-answer = c .before .before .before .before .before .before in
+    (rw (at-answer .answer2 .given .1) (put-then (c .before .before .put-word4 .ensures) (c .put-counts .ensures .0)), omega arith)
 
 returns-5 : tie.Need-returns-5
 unfolding answerText
 returns-5 c =
-    let word = c .before .before in
-    let known = word .before .before .before .before in
-    (rw (known .answer3 .given .1) (put-then (word .put-word5 .ensures) (c .put-counts2 .ensures .0)), omega arith)
+    let at-answer = c .before .before .before .before .before .before in
+    (rw (at-answer .answer3 .given .1) (put-then (c .before .before .put-word5 .ensures) (c .put-counts2 .ensures .0)), omega arith)
 
 returns-6 : tie.Need-returns-6
 unfolding answerText
 returns-6 c =
-    let word = c .before .before in
-    let known = word .before .before .before .before in
-    (rw (known .answer4 .given .1) (put-then (word .put-word6 .ensures) (c .put-field2 .ensures .0)), omega arith)
+    let at-answer = c .before .before .before .before .before .before in
+    (rw (at-answer .answer4 .given .1) (put-then (c .before .before .put-word6 .ensures) (c .put-field2 .ensures .0)), omega arith)
+
+returns-7 : tie.Need-returns-7
+unfolding answerText
+returns-7 c =
+    (rw (c .before .before .before .enum-told3 .given .1) (c .put-word7 .ensures), omega arith)
+
+returns-8 : tie.Need-returns-8
+unfolding answerText
+returns-8 c =
+    let at-answer = c .before .before .before .before .before .before in
+    (rw (at-answer .answer5 .given .1) (put-then (c .before .before .put-word8 .ensures) (c .put-field3 .ensures .0)), omega arith)
 
 pub put-answer-spec : {M : Type 1} → statement M
 put-answer-spec =
@@ -140,11 +170,20 @@ put-answer-spec =
     enum-known-answer-4
     slice-aggregate-put-word-6
     put-word-requires-6
-    cast-put-field-2
     put-field-requires-2
+    enum-told-3
+    slice-aggregate-put-word-7
+    put-word-requires-7
+    enum-known-answer-5
+    slice-aggregate-put-word-8
+    put-word-requires-8
+    cast-put-field-2
+    put-field-requires-3
     returns
     returns-2
     returns-3
     returns-4
     returns-5
-    returns-6)
+    returns-6
+    returns-7
+    returns-8)
