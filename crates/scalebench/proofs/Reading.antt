@@ -37,7 +37,7 @@ passed-table b e = let p = unrefused-passes b e in layout-in-table b (p .length)
 
 -- ---- the answers
 
-refused-or : (n : ℕ) (a : Answer) → n ≢ 0 → refusedOr n a ≡ Refused n
+pub refused-or : (n : ℕ) (a : Answer) → n ≢ 0 → refusedOr n a ≡ Refused n
 refused-or n a h = rw (ne-eqb n 0 h)
 
 pub ask-refused : (s b : List ℕ) {r : ℕ} → r ≡ askRefusal s b → r ≢ 0 → Refused r ≡ askAnswer s b
