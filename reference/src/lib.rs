@@ -2,8 +2,10 @@
 //! layout and refusals. It shares nothing with the proved one and is compared with it, byte for byte.
 
 pub mod automaton;
+pub mod natural;
 pub mod table;
 pub mod text;
+pub mod total;
 pub mod tree;
 
 use automaton::{Automaton, TooMany};
@@ -18,6 +20,10 @@ pub enum Answer {
     /// Not approved, and the part at this place of the listing, counted from 1, stops the tree.
     NotAt(usize),
     Counts { states: usize, transitions: usize },
+    /// So many trees are approved.
+    Total(u64),
+    /// More trees are approved than 64 bits count.
+    Over,
     Refused(u8),
 }
 
@@ -29,8 +35,15 @@ impl Answer {
             Answer::NotPart => 512,
             Answer::NotAt(place) => 65_536 * place as u64,
             Answer::Counts { states, transitions } => 65_536 * states as u64 + 4_294_967_296 * transitions as u64,
+            Answer::Total(_) => 0,
+            Answer::Over => 256,
             Answer::Refused(number) => u64::from(number),
         }
+    }
+
+    /// What the C interface leaves in a number that was lent with this in it.
+    pub fn left(self, before: u64) -> u64 {
+        if let Answer::Total(number) = self { number } else { before }
     }
 }
 
@@ -54,6 +67,13 @@ pub fn take_in(table: &[u8]) -> Answer {
     match intake(table) {
         Err(number) => Answer::Refused(number),
         Ok(automaton) => counts(&automaton),
+    }
+}
+
+pub fn total(table: &[u8]) -> Answer {
+    match intake(table) {
+        Err(number) => Answer::Refused(number),
+        Ok(automaton) => total::exact(&automaton).small().map_or(Answer::Over, Answer::Total),
     }
 }
 

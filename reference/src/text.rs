@@ -3,12 +3,14 @@
 pub const MAX_LINE: usize = 512;
 pub const READ_BYTES: usize = 252;
 const HEADS: [&[u8]; 3] = [b"(add ", b"(drop ", b"(ask "];
+const TOTAL: &[u8] = b"(total)";
 
-/// A command by its place among add, drop and ask, with the listing of its tree; the column of the first byte that no
-/// well-formed line has there; or a line that is too long.
+/// A command by its place among add, drop and ask, with the listing of its tree; the line that asks for the total; the
+/// column of the first byte that no well-formed line has there; or a line that is too long.
 #[derive(Debug, PartialEq, Eq)]
 pub enum Line {
     Command(usize, Vec<u8>),
+    Total,
     Form(usize),
     Long,
 }
@@ -20,6 +22,7 @@ impl Line {
             Line::Command(place, listing) => 256 * (1 + *place as u64) + 65_536 * listing.len() as u64,
             Line::Form(column) => 256 * 4 + 65_536 * *column as u64,
             Line::Long => 256 * 5,
+            Line::Total => 256 * 6,
         }
     }
 
@@ -49,8 +52,11 @@ pub fn read(line: &[u8]) -> Line {
         return Line::Long;
     }
     let shared = |head: &[u8]| line.iter().zip(head).take_while(|(x, y)| x == y).count();
+    if line == TOTAL {
+        return Line::Total;
+    }
     let Some(place) = HEADS.iter().position(|head| shared(head) == head.len()) else {
-        return Line::Form(1 + HEADS.iter().map(|head| shared(head)).max().unwrap_or(0));
+        return Line::Form(1 + HEADS.iter().chain(&[TOTAL]).map(|head| shared(head)).max().unwrap_or(0));
     };
     let start = HEADS[place].len();
     match tree(&line[start..]) {

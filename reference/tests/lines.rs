@@ -8,6 +8,8 @@ fn commands() {
     assert_eq!(read(b"(drop (255))"), Line::Command(1, vec![255, 0]));
     assert_eq!(read(b"(ask (0 (10 (3)) (4)))"), Line::Command(2, vec![0, 2, 10, 1, 3, 0, 4, 0]));
     let nine = format!("(ask (1{}))", " (1)".repeat(9));
+    assert_eq!(read(b"(total)"), Line::Total);
+    assert_eq!((Line::Total.packed(), Line::Total.padded()), (1_536, vec![0; 252]));
     assert_eq!(read(nine.as_bytes()), Line::Command(2, [vec![1, 9], [1, 0].repeat(9)].concat()));
 }
 
@@ -28,6 +30,15 @@ fn columns() {
         ("(ask (1 (2) ))", 13),
         ("(ask (1 2))", 9),
         ("(ask (1))\r", 10),
+        ("(t", 3),
+        ("(tadd", 3),
+        ("(tota", 6),
+        ("(total", 7),
+        ("(total )", 7),
+        ("(totals)", 7),
+        ("(total))", 8),
+        ("(total) ", 8),
+        ("(add)", 5),
     ] {
         assert_eq!(read(line.as_bytes()), Line::Form(column), "{line}");
     }

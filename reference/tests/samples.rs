@@ -3,7 +3,7 @@
 use reference::automaton::{Automaton, Key};
 use reference::table::{encode, intake, SCRATCH_BYTES, TABLE_BYTES};
 use reference::tree::{read, Tree};
-use reference::{add, ask, remove, take_in, Answer};
+use reference::{add, ask, remove, take_in, total, Answer};
 use std::collections::{BTreeMap, BTreeSet};
 
 struct Bench {
@@ -236,6 +236,7 @@ fn series_equal_what_is_worked_out_afresh() {
                 assert_eq!(bench.remove(&tree) == Answer::Refused(15), !set.remove(&tree));
             }
             assert_eq!(bench.table, afresh(&set), "seed {seed}, set {set:?}");
+            assert_eq!(total(&bench.table), Answer::Total(set.len() as u64));
         }
     }
 }
