@@ -9,3 +9,4 @@ pub mod series;
 pub mod stops;
 pub mod swaps;
 pub mod tally;
+pub mod totals;

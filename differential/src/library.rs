@@ -4,6 +4,7 @@ mod c {
     extern "C" {
         pub fn scalebench_ask(tree: *const u8, tree_len: usize, table: *const u8, table_len: usize) -> u64;
         pub fn scalebench_intake(table: *const u8, table_len: usize) -> u64;
+        pub fn scalebench_total(table: *const u8, table_len: usize, number: *mut u64) -> u64;
         pub fn scalebench_add(
             tree: *const u8,
             tree_len: usize,
@@ -32,6 +33,11 @@ pub fn ask(tree: &[u8], table: &[u8]) -> u64 {
 pub fn intake(table: &[u8]) -> u64 {
     // SAFETY: as above.
     unsafe { c::scalebench_intake(table.as_ptr(), table.len()) }
+}
+
+pub fn total(table: &[u8], number: &mut u64) -> u64 {
+    // SAFETY: pointer and length are those of a slice that is only read, and the number is lent for writing alone.
+    unsafe { c::scalebench_total(table.as_ptr(), table.len(), number) }
 }
 
 pub fn add(tree: &[u8], table: &mut [u8], scratch: &mut [u8]) -> u64 {

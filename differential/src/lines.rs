@@ -6,7 +6,9 @@ use reference::text::READ_BYTES;
 use reference::tree::Tree;
 
 const LINES: usize = 20_000;
-const USED: &[u8] = b"()  0123456789adkoprs\r\n\0x";
+const USED: &[u8] = b"()  0123456789adkloprst\r\n\0x";
+const TOTAL: &[u8] = b"(total)";
+const TOTALS: usize = 2_000;
 
 /// Lines of all kinds, and listings of wrong lengths lent.
 pub fn lines(dice: &mut Dice, tally: &mut Tally) {
@@ -18,6 +20,7 @@ pub fn lines(dice: &mut Dice, tally: &mut Tally) {
         tally.line(&dice.damaged_line(&line), &noise);
         tally.line(&line[..dice.roll(line.len() + 1)], &noise);
     }
+    totals(dice, tally);
     let long = dice.line_of(&(0..125).fold(Tree::leaf(1), |tree, _| Tree::new(1, vec![tree])));
     for length in 0..=530 {
         let noise = dice.noise(READ_BYTES);
@@ -28,6 +31,25 @@ pub fn lines(dice: &mut Dice, tally: &mut Tally) {
         tally.line(&long, &noise[..length.min(READ_BYTES - 1)]);
     }
     tally.line(&long, &dice.noise(READ_BYTES + 1));
+}
+
+/// The line that asks for the total, and lines near it: cut, with more behind it, and with a byte changed.
+fn totals(dice: &mut Dice, tally: &mut Tally) {
+    let noise = dice.noise(READ_BYTES);
+    for length in 0..=TOTAL.len() {
+        tally.line(&TOTAL[..length], &noise);
+        for more in 0..=u8::MAX {
+            tally.line(&[&TOTAL[..length], &[more]].concat(), &noise);
+            tally.line(&[&TOTAL[..length], &[more], &TOTAL[length..]].concat(), &noise);
+        }
+    }
+    for _ in 0..TOTALS {
+        tally.line(&dice.damaged_line(TOTAL), &noise);
+    }
+    for line in ["(tadd (1))", "(total (1))", "(add)", "(total)(total)", "(total)\n", " (total)", "total", "(TOTAL)"] {
+        tally.line(line.as_bytes(), &noise);
+    }
+    tally.line(TOTAL, &noise[..READ_BYTES - 1]);
 }
 
 impl Dice {

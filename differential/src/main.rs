@@ -1,6 +1,7 @@
 //! The proved library and the reference on the same bytes: series of calls from the empty table, from random legal
 //! tables and from such near the limits; damaged tables; all lengths; lines of text; changes in either order; trees
-//! that stop at every place. Answers and every byte that a call may write are compared, and every answer must be met.
+//! that stop at every place; totals around 2^64. Answers and every byte that a call may write are compared, and every
+//! answer must be met.
 
 use differential::dice::Dice;
 use differential::lines::lines;
@@ -8,6 +9,7 @@ use differential::series::{next_tree, series};
 use differential::stops::stops;
 use differential::swaps::swaps;
 use differential::tally::{Call, Tally};
+use differential::totals::totals;
 use reference::automaton::Automaton;
 use reference::table::{encode, SCRATCH_BYTES, TABLE_BYTES};
 use reference::tree::Tree;
@@ -103,7 +105,7 @@ fn lengths(dice: &mut Dice, tally: &mut Tally) {
 fn main() {
     let mut dice = Dice::new(1);
     let mut tally = Tally::default();
-    for part in [all_series, near_limits, damaged_tables, any_automata, lengths, lines, swaps, stops] {
+    for part in [all_series, near_limits, damaged_tables, any_automata, lengths, lines, swaps, stops, totals] {
         part(&mut dice, &mut tally);
         println!("{} calls", tally.calls());
     }

@@ -22,6 +22,7 @@ pub fn series(dice: &mut Dice, tally: &mut Tally, start: &Automaton, calls: usiz
             1..=6 => tally.change(Call::Add, &listing, &mut table, &scratch),
             _ => tally.change(Call::Remove, &listing, &mut table, &scratch),
         }
+        tally.total(&table);
         used.push(tree);
     }
     tally.intake(&table);

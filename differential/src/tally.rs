@@ -13,6 +13,7 @@ pub enum Call {
     Add,
     Remove,
     Read,
+    Total,
 }
 
 #[derive(Default)]
@@ -53,7 +54,7 @@ impl Tally {
         });
     }
 
-    /// Ask and intake.
+    /// Ask, intake and total.
     pub fn read(&mut self, listing: &[u8], table: &[u8]) {
         let answer = library::ask(listing, table);
         if answer & 0xffff == 0 {
@@ -61,10 +62,22 @@ impl Tally {
         }
         self.answers(Call::Ask, listing, answer, reference::ask(listing, table).packed());
         self.intake(table);
+        self.total(table);
     }
 
     pub fn intake(&mut self, table: &[u8]) {
         self.answers(Call::Intake, &[], library::intake(table), reference::take_in(table).packed());
+    }
+
+    /// Total, with some number lent, which only a total overwrites.
+    pub fn total(&mut self, table: &[u8]) {
+        let lent = 0x5ca1_eb0a_7ab1_e000 + self.passed as u64;
+        let mut number = lent;
+        let answer = library::total(table, &mut number);
+        let reference = reference::total(table);
+        self.answers(Call::Total, &[], answer, reference.packed());
+        let want = reference.left(lent);
+        self.expect(number == want, || format!("Total: library {number}, reference {want}, lent {lent}"));
     }
 
     /// Add or remove; the table is left as the reference leaves it.
@@ -83,7 +96,7 @@ impl Tally {
         self.bytes(call, listing, "scratch", &own_scratch, &scratch);
     }
 
-    /// All four calls; the table is left as it is.
+    /// All calls on a table; it is left as it is.
     pub fn all(&mut self, listing: &[u8], table: &[u8], scratch: &[u8]) {
         self.read(listing, table);
         self.change(Call::Add, listing, &mut table.to_vec(), scratch);
@@ -112,13 +125,14 @@ impl Tally {
     pub fn all_met(&mut self) {
         let places = std::mem::take(&mut self.places);
         self.expect(places.iter().copied().eq(1..=MAX_NODES as u64), || format!("places met: {places:?}"));
-        for call in [Call::Ask, Call::Intake, Call::Add, Call::Remove, Call::Read] {
+        for call in [Call::Ask, Call::Intake, Call::Add, Call::Remove, Call::Read, Call::Total] {
             let answers: Vec<u64> = match call {
                 Call::Ask => (0..=5).chain(7..=13).chain([256, 512]).collect(),
                 Call::Intake => [0, 5].into_iter().chain(7..=13).collect(),
                 Call::Add => (0..=14).chain([16, 17]).collect(),
                 Call::Remove => (0..=13).chain(15..=17).collect(),
-                Call::Read => (0..=5).map(|kind| 256 * kind).collect(),
+                Call::Read => (0..=6).map(|kind| 256 * kind).collect(),
+                Call::Total => [0, 5].into_iter().chain(7..=13).chain([256]).collect(),
             };
             for answer in answers {
                 let met = self.met.contains_key(&(call, answer));
