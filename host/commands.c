@@ -8,6 +8,7 @@
 #include "output.h"
 
 #include <errno.h>
+#include <inttypes.h>
 #include <string.h>
 #include <unistd.h>
 
@@ -34,10 +35,16 @@ static enum status not_approved(const struct session *session, unsigned long num
     return STATUS_NOT;
 }
 
+/* What is only answered counts what other hosts have saved. */
+static enum status refresh(const struct session *session)
+{
+    return session->dry_run || session->batch ? STATUS_FINE : book_refresh(session->book);
+}
+
 static enum status ask(const struct session *session, unsigned long number, const uint8_t *tree, size_t length)
 {
     struct book *book = session->book;
-    enum status status = session->dry_run || session->batch ? STATUS_FINE : book_refresh(book);
+    enum status status = refresh(session);
     if (status != STATUS_FINE)
         return status;
     uint64_t answer = scalebench_ask(tree, length, book->table, sizeof book->table);
@@ -46,6 +53,24 @@ static enum status ask(const struct session *session, unsigned long number, cons
     if (!scalebench_approved(answer))
         return not_approved(session, number, tree, answer);
     output(session->quiet, "%lu approved\n", number);
+    return STATUS_FINE;
+}
+
+static enum status total(const struct session *session, unsigned long number)
+{
+    const struct book *book = session->book;
+    enum status status = refresh(session);
+    if (status != STATUS_FINE)
+        return status;
+    uint64_t trees = 0;
+    uint64_t answer = scalebench_total(book->table, sizeof book->table, &trees);
+    if (scalebench_refusal(answer))
+        return refused(session, number, scalebench_refusal(answer));
+    if (scalebench_over(answer)) {
+        output(session->quiet, "%lu total over\n", number);
+        explain("more than %" PRIu64 " assemblies are approved", UINT64_MAX);
+    } else
+        output(session->quiet, "%lu total %" PRIu64 "\n", number, trees);
     return STATUS_FINE;
 }
 
@@ -92,9 +117,11 @@ static enum status carry_out(const struct session *session, unsigned long number
         return change(session, number, scalebench_kind(read), tree, scalebench_length(read));
     case SCALEBENCH_ASK:
         return ask(session, number, tree, scalebench_length(read));
+    case SCALEBENCH_TOTAL:
+        return total(session, number);
     case SCALEBENCH_FORM:
         output(session->quiet, "%lu form %u\n", number, scalebench_column(read));
-        explain("not (add TREE), (drop TREE) or (ask TREE) from column %u on", scalebench_column(read));
+        explain("not (add TREE), (drop TREE), (ask TREE) or (total) from column %u on", scalebench_column(read));
         return STATUS_REFUSED;
     default:
         output(session->quiet, "%lu long\n", number);

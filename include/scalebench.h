@@ -8,13 +8,13 @@
  * Every call may be handed any bytes of any length: it checks all that it is given and answers with the first
  * condition that is broken. A pointer may be NULL if its length is 0.
  *
- * Aliasing. What a call writes (table and scratch of add and remove, the listing of read) shares no byte with anything
- * else that the call gets, and nobody else writes to what a call is given while it runs. Two things that a call only
- * reads may overlap.
+ * Aliasing. What a call writes (table and scratch of add and remove, the number of total, the listing of read) shares
+ * no byte with anything else that the call gets, and nobody else writes to what a call is given while it runs. Two
+ * things that a call only reads may overlap.
  *
  * Threads. The library has no state of its own and takes no memory but stack; SCALEBENCH_CHANGE_STACK_BYTES and the
- * like below say how much. Calls on different tables may run at the same time; so may ask and intake on one table
- * while nobody changes it.
+ * like below say how much. Calls on different tables may run at the same time; so may ask, intake and total on one
+ * table while nobody changes it.
  *
  * A whole program. It prints "approved, 2 states, 2 transitions".
  *
@@ -51,7 +51,7 @@ extern "C" {
 #endif
 
 /* The version of the library, of this header and of the host. */
-#define SCALEBENCH_VERSION "0.3.0"
+#define SCALEBENCH_VERSION "0.4.0"
 
 /* The lengths that a table and a scratch must have, and the greatest length of a listing for ask, add and remove. */
 #define SCALEBENCH_TABLE_BYTES 11467
@@ -63,8 +63,8 @@ extern "C" {
 #define SCALEBENCH_LINE_BYTES 512
 
 /*
- * The stack that a call takes at most: add and remove; ask and intake; read. Measured on x86-64 (160, 79 and 41 KiB)
- * and rounded up by about a fifth. tests/stack.c makes the calls on stacks of these sizes.
+ * The stack that a call takes at most: add and remove; ask, intake and total; read. Measured on x86-64 (160, 79 and 41
+ * KiB) and rounded up by about a fifth. tests/stack.c makes the calls on stacks of these sizes.
  */
 #define SCALEBENCH_CHANGE_STACK_BYTES 196608
 #define SCALEBENCH_ASK_STACK_BYTES 98304
@@ -85,6 +85,13 @@ uint64_t scalebench_ask(const uint8_t *tree, size_t tree_len, const uint8_t *tab
 uint64_t scalebench_intake(const uint8_t *table, size_t table_len);
 
 /*
+ * How many trees are approved. Not refused: `*number` is that many, from 0 for the empty set on, or the answer is over
+ * (scalebench_over) because they are more than 18446744073709551615. Refuses by 5 and 7 to 13. A refusal and over leave
+ * `*number` as it was; `number` is not NULL. Writes nothing else.
+ */
+uint64_t scalebench_total(const uint8_t *table, size_t table_len, uint64_t *number);
+
+/*
  * Puts the tree into the set, or takes it out. Not refused: the table is that of the new set, and the answer has its
  * numbers of states and transitions. Add refuses by all but 15, remove by all but 14; a refusal leaves every byte of
  * the table as it was.
@@ -98,10 +105,10 @@ uint64_t scalebench_remove(const uint8_t *tree, size_t tree_len, uint8_t *table,
                            size_t scratch_len);
 
 /*
- * Reads one line of text, without its end: (add TREE), (drop TREE) or (ask TREE). TREE is a label in decimal with its
- * child trees after it, in brackets, as in (1 (1) (2)). The kind of the answer is one of those below. The listing of
- * the line's tree goes to the start of `listing`, with zeros after it; all zeros if the line has no listing. It may
- * break the conditions of the calls (label 0, nine children, more than 48 nodes), which then refuse it.
+ * Reads one line of text, without its end: (add TREE), (drop TREE), (ask TREE) or (total). TREE is a label in decimal
+ * with its child trees after it, in brackets, as in (1 (1) (2)). The kind of the answer is one of those below. The
+ * listing of the line's tree goes to the start of `listing`, with zeros after it; all zeros if the line has no listing.
+ * It may break the conditions of the calls (label 0, nine children, more than 48 nodes), which then refuse it.
  */
 uint64_t scalebench_read(const uint8_t *line, size_t line_len, uint8_t *listing, size_t listing_len);
 
@@ -111,7 +118,8 @@ enum {
     SCALEBENCH_DROP = 2,
     SCALEBENCH_ASK = 3,
     SCALEBENCH_FORM = 4, /* malformed; the answer has the column */
-    SCALEBENCH_LONG = 5  /* above SCALEBENCH_LINE_BYTES */
+    SCALEBENCH_LONG = 5, /* above SCALEBENCH_LINE_BYTES */
+    SCALEBENCH_TOTAL = 6 /* count the approved trees */
 };
 
 /*
@@ -128,6 +136,9 @@ static inline unsigned scalebench_kind(uint64_t answer) { return SCALEBENCH_AS(u
 static inline int scalebench_approved(uint64_t answer) { return scalebench_kind(answer) == 1; }
 static inline int scalebench_part(uint64_t answer) { return scalebench_kind(answer) == 2; }
 static inline unsigned scalebench_place(uint64_t answer) { return SCALEBENCH_AS(unsigned, answer >> 16 & 65535); }
+
+/* Of total: whether the trees are too many for the number. */
+static inline int scalebench_over(uint64_t answer) { return scalebench_kind(answer) == 1; }
 
 /* Of intake, add and remove, not refused: the numbers of states and of transitions that the table has now. */
 static inline unsigned scalebench_states(uint64_t answer) { return SCALEBENCH_AS(unsigned, answer >> 16 & 65535); }

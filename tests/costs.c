@@ -24,6 +24,15 @@ static void note(const char *what, const char *call, double took)
     }
 }
 
+static void cost_of_total(const char *what)
+{
+    uint64_t number = 0;
+    double began = seconds();
+    uint64_t answer = scalebench_total(table, TABLE, &number);
+    note(what, "total", seconds() - began);
+    expect(what, scalebench_refusal(answer), 0);
+}
+
 /* The table passes; ask on it is repeated, so that a small cost shows. */
 static void cost_of_ask(const char *what)
 {
@@ -38,6 +47,7 @@ static void cost_of_ask(const char *what)
     expect(what, refusals, 0);
     expect(what, scalebench_intake(table, TABLE), counts(table[0], 256u * table[201] + table[202]));
     note(what, "ask", each);
+    cost_of_total(what);
 }
 
 /* The tree added to the table, and removed where it was added, which gives the first bytes back. */

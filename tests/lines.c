@@ -31,6 +31,17 @@ static void command(const char *line, unsigned kind, const char *tree)
     expect("bytes behind the listing", (uint64_t)filled(room + READ, GUARD, 0xa5), 1);
 }
 
+/* The line that asks for the total has a kind and nothing else. */
+static void total(void)
+{
+    uint64_t answer = read_into("(total)", 7, READ);
+    expect("(total)", answer, 256 * SCALEBENCH_TOTAL);
+    expect("(total)", scalebench_kind(answer), 6);
+    expect("(total)", scalebench_length(answer), 0);
+    expect("(total)", (uint64_t)filled(room, READ, 0), 1);
+    expect("bytes behind the listing", (uint64_t)filled(room + READ, GUARD, 0xa5), 1);
+}
+
 static void malformed(const char *line, size_t length, unsigned column)
 {
     uint64_t answer = read_into(line, length, READ);
@@ -64,11 +75,14 @@ int main(void)
     command("(ask (1 (1) (1) (1) (1) (1) (1) (1) (1) (1)))", SCALEBENCH_ASK,
             "(1 (1) (1) (1) (1) (1) (1) (1) (1) (1))");
     const char *const lines[] = {"", "(add", "(ask (256))", "(ask (01))", "(ask (1)", "(ask (1)))", "(ask  (1))",
-                                 "(asc (1))", "(ask (1(2)))", "(ask (1 (2) ))", "(ask ())", "(add (1 (2)) (3))"};
-    const unsigned columns[] = {1, 5, 9, 8, 9, 10, 6, 4, 8, 13, 7, 13};
+                                 "(asc (1))", "(ask (1(2)))", "(ask (1 (2) ))", "(ask ())", "(add (1 (2)) (3))",
+                                 "(t", "(tadd", "(tota", "(total", "(total )", "(totals)", "(total))", "(total) "};
+    const unsigned columns[] = {1, 5, 9, 8, 9, 10, 6, 4, 8, 13, 7, 13, 3, 3, 6, 7, 7, 7, 8, 8};
     for (size_t i = 0; i < sizeof columns / sizeof *columns; i++)
         malformed(lines[i], strlen(lines[i]), columns[i]);
     malformed("(ask (1\0))", 10, 8);
+    malformed("(total)\0", 8, 8);
+    total();
     lengths();
     return finished();
 }

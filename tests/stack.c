@@ -28,6 +28,11 @@ static ucontext_t here, there;
 
 static void ask(void) { scalebench_ask(tree, tree_length, table, TABLE); }
 static void intake(void) { scalebench_intake(table, TABLE); }
+static void total(void)
+{
+    uint64_t number;
+    scalebench_total(table, TABLE, &number);
+}
 static void add(void) { scalebench_add(tree, tree_length, table, TABLE, scratch, SCRATCH); }
 static void take_out(void) { scalebench_remove(tree, tree_length, table, TABLE, scratch, SCRATCH); }
 static void read_line(void)
@@ -39,6 +44,7 @@ static void read_line(void)
 static struct kind kinds[] = {
     {"ask", SCALEBENCH_ASK_STACK_BYTES, 0, ask},
     {"intake", SCALEBENCH_ASK_STACK_BYTES, 0, intake},
+    {"total", SCALEBENCH_ASK_STACK_BYTES, 0, total},
     {"add", SCALEBENCH_CHANGE_STACK_BYTES, 0, add},
     {"remove", SCALEBENCH_CHANGE_STACK_BYTES, 0, take_out},
     {"read", SCALEBENCH_READ_STACK_BYTES, 0, read_line},

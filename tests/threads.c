@@ -1,6 +1,6 @@
 /*
  * What the header says of threads: four at once, each with a table and a scratch of its own and a stack of 256 KiB, leave
- * what one alone leaves; and all ask of one table meanwhile.
+ * what one alone leaves; and all ask of one table, and for its total, meanwhile.
  */
 #define _XOPEN_SOURCE 700
 
@@ -30,7 +30,9 @@ static void *work_through(void *given)
                                 (uint8_t)(1 + x / 15 % 4), 0, (uint8_t)(1 + x / 60 % 5), 0};
         work->answers[i] = (i % 3 == 2 ? scalebench_remove : scalebench_add)(tree, sizeof tree, work->table, TABLE,
                                                                            work->scratch, SCRATCH);
-        if (!scalebench_approved(scalebench_ask(known, sizeof known, shared, TABLE)))
+        uint64_t trees = 0;
+        if (!scalebench_approved(scalebench_ask(known, sizeof known, shared, TABLE)) ||
+            scalebench_total(shared, TABLE, &trees) != 0 || trees != 5)
             work->answers[i] = UINT64_MAX;
     }
     uint8_t deep[96];

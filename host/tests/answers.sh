@@ -52,6 +52,8 @@ end 1 2 2' book '(ask (1))'
 told 'not approved, but a part' 'line 1: not approved: part of an approved assembly'
 run 'done' 0 '1 done 2 3
 end 1 2 3' book '(add (7))'
+run 'counted' 0 '1 total 2
+end 1 2 3' book '(total)'
 run 'refused' 6 '1 refused 14
 end 1 2 3' book '(add (7))'
 run 'malformed' 6 '1 form 6
@@ -62,6 +64,8 @@ end 1 2 3' book '(ask (1))
 '
 run 'quiet: approved' 0 '' --quiet book '(ask (7))'
 run 'quiet: not approved' 1 '' -q book '(ask (8))'
+run 'quiet: counted' 0 '' -q book '(total)'
+equal 'quiet: counted, nothing is told' "$(cat "$folder/err")" ''
 run 'quiet: done' 0 '' -q book '(drop (7))'
 same 'quiet: saved' book sample
 run 'quiet: refused' 6 '' -q book '(drop (7))'
@@ -76,6 +80,57 @@ holds 'a dry run begins no file' book empty sample
 run 'back to nothing' 0 '1 done 0 0
 end 1 0 0' book '(drop (1 (1) (1)))'
 same 'the empty book again' book empty
+
+# How many assemblies are approved.
+printf '(total)\n(add (1 (1) (1)))\n(add (1 (1) (2)))\n(total)\n(drop (1 (1) (1)))\n(total)\n' | input
+run 'totals' 0 '1 total 0
+2 done 2 2
+3 done 3 4
+4 total 2
+5 done 3 3
+6 total 1
+end 6 3 3' --dry-run book
+printf '(t\n(tadd\n(tota\n(total\n(total )\n(totals)\n(total))\n' | input
+run 'malformed totals' 6 '1 form 3
+2 form 3
+3 form 6
+4 form 7
+5 form 7
+6 form 7
+7 form 8
+end 7 0 0' book
+told 'malformed totals' 'line 7: not (add TREE), (drop TREE), (ask TREE) or (total) from column 8 on'
+
+zeros() { head -c "$1" /dev/zero; }
+bytes() { # BYTE..
+    for byte in "$@"; do
+        # shellcheck disable=SC2059 # the format is the byte in octal
+        printf "\\$(printf %o "$byte")"
+    done
+}
+squares() { # LEVELS: a book of two leaves, and label 3 over each level twice makes the next: 2^2^LEVELS assemblies
+    {
+        bytes $(($1 + 1))
+        zeros "$1"
+        bytes 1
+        zeros $((199 - $1))
+        bytes 0 $(($1 + 2)) 1 0 0 0 0 0 0 0 0 0 1 2 0 0 0 0 0 0 0 0 0 1
+        level=1
+        while [ $level -le "$1" ]; do
+            bytes 3 2 $level $level 0 0 0 0 0 0 $((level + 1))
+            level=$((level + 1))
+        done
+        zeros $((11467 - 203 - 11 * ($1 + 2)))
+    } >squares
+}
+squares 5
+run 'a large total' 0 '1 total 4294967296
+end 1 6 7' squares '(total)'
+squares 6
+run 'over' 0 '1 total over
+end 1 7 8' squares '(total)'
+told 'over' 'line 1: more than 18446744073709551615 assemblies are approved'
+rm squares
 
 # Lines that are malformed, refused by a call, or at the limits; a NUL, a CR, no final end of line.
 {

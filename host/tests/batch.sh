@@ -16,6 +16,12 @@ run 'as lines' 0 '1 done 1 1
 end 5 1 1' --new lines
 same 'the same book' book lines
 
+printf '(add (3))\n(total)\n(drop (3))\n(total)\n' | input
+run 'totals in a batch' 0 '2 total 2
+4 total 1
+end 4 1 1' --batch book
+same 'totals in a batch: the same book' book lines
+
 cp book before
 bad() { # WHAT OUTPUT TEXT
     run "$1" 6 "$2" --batch book
