@@ -47,6 +47,7 @@ impl Measured {
     /// The call's name, its answer in words, both times and their ratio: the end of a row.
     fn row(&self) -> String {
         let answer = match (self.call, self.answer & 255, self.answer >> 8 & 255) {
+            ("total", 0, over) => if over == 1 { "over" } else { "a number" }.to_string(),
             (_, 0, 1) => "approved".to_string(),
             ("ask", 0, 2) => "not part".to_string(),
             ("ask", 0, _) => format!("not {}", self.answer >> 16),
@@ -63,6 +64,7 @@ type Changing = (fn(&[u8], &mut [u8], &mut [u8]) -> u64, fn(&[u8], &mut [u8], &m
 
 const ASK: Reading = (library::ask, |tree, table| reference::ask(tree, table).packed());
 const INTAKE: Reading = (|_, table| library::intake(table), |_, table| reference::take_in(table).packed());
+const TOTAL: Reading = (|_, table| library::total(table, &mut 0), |_, table| reference::total(table).packed());
 const ADD: Changing = (library::add, |tree, table, scratch| reference::add(tree, table, scratch).packed());
 const REMOVE: Changing = (library::remove, |tree, table, scratch| reference::remove(tree, table, scratch).packed());
 
@@ -93,8 +95,8 @@ fn trees(automaton: &Automaton) -> (Tree, Tree) {
     (inside, outside.unwrap_or(Tree::leaf(255)))
 }
 
-/// The four calls. What was added is removed again; where the addition is refused a tree of the set is removed.
-fn four_calls(automaton: &Automaton, outside: Option<Tree>) -> Vec<Measured> {
+/// The five calls. What was added is removed again; where the addition is refused a tree of the set is removed.
+fn five_calls(automaton: &Automaton, outside: Option<Tree>) -> Vec<Measured> {
     let table = encode(automaton);
     let (inside, near) = trees(automaton);
     let (inside, outside) = (inside.listing(), outside.unwrap_or(near).listing());
@@ -104,7 +106,9 @@ fn four_calls(automaton: &Automaton, outside: Option<Tree>) -> Vec<Measured> {
     } else {
         changing("remove", REMOVE, &inside, &table).0
     };
-    vec![reading("ask", ASK, &inside, &table), reading("intake", INTAKE, &inside, &table), added, removed]
+    let read = |(call, calls)| reading(call, calls, &inside, &table);
+    let queries = [("ask", ASK), ("intake", INTAKE), ("total", TOTAL)];
+    queries.into_iter().map(read).chain([added, removed]).collect()
 }
 
 fn main() {
@@ -118,15 +122,15 @@ fn main() {
         ("chain", tables::chain(), None),
         ("eleven families", tables::families(), Some(split)),
     ] {
-        for measured in four_calls(&automaton, outside) {
+        for measured in five_calls(&automaton, outside) {
             println!("| {name} | {}", measured.row());
         }
     }
-    println!("\n| states | transitions | ask | intake | add | remove |\n|---|---|---|---|---|---|");
+    println!("\n| states | transitions | ask | intake | total | add | remove |\n|---|---|---|---|---|---|---|");
     let sizes = [(25, 128), (50, 256), (100, 512), (200, 1024), (25, 1024), (50, 1024), (100, 1024), (100, 256)];
     for (states, transitions) in sizes {
         let cell = |it: &Measured| format!("{:.1} ({:.2})", it.library, it.library / it.reference);
-        let cells: Vec<String> = four_calls(&tables::mixed(states, transitions), None).iter().map(cell).collect();
+        let cells: Vec<String> = five_calls(&tables::mixed(states, transitions), None).iter().map(cell).collect();
         println!("| {states} | {transitions} | {} |", cells.join(" | "));
     }
 }
