@@ -1,23 +1,26 @@
 -- Sums over the accepting states, one state more at a time, and what they are up to the limit.
-use mathlib.Core.Bool.{Bool, cond}
+use mathlib.Core.Bool.{Bool, cond, true}
 use mathlib.Core.List.{List, [], _∷_}
-use mathlib.Core.Logic.{inl, inr}
 use mathlib.Core.Path.{_∙_, _≡_, ap, ap₂, refl, sym}
 use Prim.Native.Nat.{_+_, min, suc, zero, ℕ}
 use native.Mathlib.Numerals.{add-one}
 use native.Mathlib.Omega.{arith}
+use Rattle.automata.specs.Acyclic.{acyclic}
 use Rattle.automata.specs.Automaton.{Automaton, IsState, accepting, states}
-use Rattle.automata.specs.Totals.{sumAccepting, total, treesOf}
-use Rattle.automata.proofs.Valid.{states-in}
+use Rattle.automata.specs.Order.{rising}
+use Rattle.automata.specs.Totals.{sumAccepting, sumInto, total, treesOf}
+use Rattle.automata.proofs.Totals.{acyclic-sum}
+use Rattle.automata.proofs.TotalsCapped.{capped-total}
+use Rattle.fields.specs.Fields.{HoldsTransitionsOver}
 use Rattle.fields.specs.View.{viewed}
-use Rattle.fields.proofs.Views.{viewed-classes, viewed-states}
+use Rattle.fields.proofs.Views.{viewed-classes, viewed-ranged, viewed-states}
 use Rattle.lists.specs.Positions.{upFrom}
-use Rattle.lists.specs.Tests.{_∈_}
-use Rattle.lists.proofs.Limits.{min-add, min-if}
+use Rattle.table.specs.Layout.{transitionsIn}
 use Rattle.totals.specs.Limited.{limit, totalOf, worth}
 use Rattle.totals.specs.Numbers.{NumbersOf, numberIn}
 use Rattle.totals.specs.declared.limited.Total.{Total}
 use Rattle.totals.specs.declared.limited.Total.the-variants.{Number}
+use Rattle.totals.proofs.Depths.{round-limited}
 use Rattle.totals.proofs.Limits.{total-is, total-plus, total-same}
 
 -- ---- one state more
@@ -59,25 +62,6 @@ module _ {A : Automaton} {w : ℕ → ℕ} where
 
 -- ---- the total
 
-limited-accepting : (A : Automaton) (m : List ℕ) → NumbersOf A m → (qs : List ℕ) → ((q : ℕ) → q ∈ qs → IsState A q) →
-    min limit (sumAccepting A (numberIn m) qs) ≡ min limit (sumAccepting A (treesOf A) qs)
-limited-accepting A m x [] s = refl
-limited-accepting A m x (q ∷ qs) s =
-    min-add limit (cond (accepting A q) (numberIn m q) 0) (cond (accepting A q) (treesOf A q) 0)
-    (sumAccepting A (numberIn m) qs) (sumAccepting A (treesOf A) qs)
-    (min-if limit (accepting A q) (numberIn m q) (treesOf A q) here)
-    (limited-accepting A m x qs (λ p i. s p (inr i)))
-  where
-    here : min limit (numberIn m q) ≡ min limit (treesOf A q)
-    here = let (h, l) = s q (inl refl) in omega (arith, x .each q h l)
-
-numbers-total : (A : Automaton) (m : List ℕ) → NumbersOf A m →
-    totalOf (sumAccepting A (numberIn m) (upFrom 1 (states A))) ≡ totalOf (total A)
-unfolding total
-numbers-total A m x =
-    total-same (sumAccepting A (numberIn m) (upFrom 1 (states A))) (sumAccepting A (treesOf A) (upFrom 1 (states A)))
-    (limited-accepting A m x (upFrom 1 (states A)) (states-in A))
-
 -- a sum over accepting states looks at classes only
 accepting-classes : (A B : Automaton) → ((q : ℕ) → accepting A q ≡ accepting B q) → (w : ℕ → ℕ) (qs : List ℕ) →
     sumAccepting A w qs ≡ sumAccepting B w qs
@@ -85,12 +69,23 @@ accepting-classes A B e w [] = refl
 accepting-classes A B e w (q ∷ qs) =
     ap₂ (λ (b : Bool) (x : ℕ). cond b (w q) 0 + x) (e q) (accepting-classes A B e w qs)
 
-pub viewed-total : (cl s : List ℕ) (n c : ℕ) (m : List ℕ) {r : Total} → NumbersOf (viewed cl s n c) m →
-    r ≡ totalOf (sumAccepting (viewed cl [] n 0) (numberIn m) (upFrom 1 n)) → r ≡ totalOf (total (viewed cl s n c))
-viewed-total cl s n c m x e =
-    e ∙ ap totalOf (accepting-classes (viewed cl [] n 0) A (viewed-classes cl s n c) (numberIn m) (upFrom 1 n))
-    ∙ ap (λ (k : ℕ). totalOf (sumAccepting A (numberIn m) (upFrom 1 k))) (sym (viewed-states cl s n c))
-    ∙ numbers-total A m x
-  where
-    A : Automaton
-    A = viewed cl s n c
+module _ (cl s : List ℕ) (n c : ℕ) (over : HoldsTransitionsOver s c n) (rises : rising (transitionsIn s c) ≡ true)
+    (ac : acyclic (viewed cl s n c) ≡ true) where
+  abbrev A : Automaton
+  A = viewed cl s n c
+
+  -- the numbers of trees follow the law, up to the limit
+  numbers-lawful : {m : List ℕ} → NumbersOf A m → (q : ℕ) → IsState A q →
+      numberIn m q ≡ min limit (sumInto (numberIn m) q (A .transitions))
+  numbers-lawful {m} x q (h, l) =
+      let ranged = viewed-ranged cl s n c over in
+      x .each q h l ∙ ap (min limit) (acyclic-sum A ranged rises ac q (h, l))
+      ∙ sym (round-limited A ranged (treesOf A) (numberIn m) (λ p (a, b). x .each p a b) q)
+
+  pub viewed-total : {m : List ℕ} {r : Total} → NumbersOf A m →
+      r ≡ totalOf (sumAccepting (viewed cl [] n 0) (numberIn m) (upFrom 1 n)) → r ≡ totalOf (total A)
+  viewed-total {m} x e =
+      e ∙ ap totalOf (accepting-classes (viewed cl [] n 0) A (viewed-classes cl s n c) (numberIn m) (upFrom 1 n))
+      ∙ ap (λ (k : ℕ). totalOf (sumAccepting A (numberIn m) (upFrom 1 k))) (sym (viewed-states cl s n c))
+      ∙ total-same (sumAccepting A (numberIn m) (upFrom 1 (states A))) (total A)
+      (capped-total A (viewed-ranged cl s n c over) rises ac limit (numberIn m) (numbers-lawful x))

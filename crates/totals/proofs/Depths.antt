@@ -10,6 +10,7 @@ use Rattle.automata.specs.Acyclic.{acyclic}
 use Rattle.automata.specs.Automaton.{Automaton, IsState, states}
 use Rattle.automata.specs.Order.{rising}
 use Rattle.automata.specs.Totals.{numberAt, sumInto, treesOf, treesWithin}
+use Rattle.automata.specs.Valid.{statesInRange}
 use Rattle.automata.proofs.TotalsCapped.{capped-lawful}
 use Rattle.automata.proofs.TotalsSums.{limited, sum-limited, sum-same}
 use Rattle.automata.proofs.TotalsWithin.{treesWithin-suc}
@@ -38,6 +39,15 @@ reached-start A = record { each = λ q h l. number-none q ∙ none q }
     none zero = refl
     none (suc q) = ap (min limit) (sym (getD-zeros (states A) q))
 
+-- a round from w, numbers that are those of v up to the limit
+pub round-limited : (A : Automaton) → statesInRange A ≡ true → (v w : ℕ → ℕ) →
+    ((q : ℕ) → IsState A q → w q ≡ min limit (v q)) → (q : ℕ) →
+    min limit (sumInto w q (A .transitions)) ≡ min limit (sumInto v q (A .transitions))
+round-limited A ranged v w e q =
+    ap (min limit) (sum-same w (limited limit v) q (A .transitions)
+    (λ τ i o p j. e p (ranged-transition A ranged τ i .args p j)))
+    ∙ sum-limited limit v q (A .transitions)
+
 module _ (cl s : List ℕ) (n c : ℕ) (over : HoldsTransitionsOver s c n) (few : n < byteValues) where
   abbrev A : Automaton
   A = viewed cl s n c
@@ -47,17 +57,13 @@ module _ (cl s : List ℕ) (n c : ℕ) (over : HoldsTransitionsOver s c n) (few 
       Reached A (d + 1) m'
   reached-next {d} {m} {m'} x y = subst (λ (k : ℕ). Reached A k m') (sym (add-one d)) deeper
     where
-      before : ℕ → ℕ
-      before = numberAt (treesWithin A d)
-
       deeper : Reached A (suc d) m'
       deeper = record {
         each = λ q h l.
             y .each q (omega (arith, viewed-states cl s n c))
-            ∙ ap (min limit) (sum-same (numberIn m) (limited limit before) q (A .transitions)
-            (λ τ i o p j.
-            let r = ranged-transition A (viewed-ranged cl s n c over) τ i .args p j in x .each p (r .0) (r .1)))
-            ∙ sum-limited limit before q (A .transitions) ∙ ap (min limit) (sym (treesWithin-suc A d q (h, l)));
+            ∙ round-limited A (viewed-ranged cl s n c over) (numberAt (treesWithin A d)) (numberIn m)
+            (λ p (a, b). x .each p a b) q
+            ∙ ap (min limit) (sym (treesWithin-suc A d q (h, l)));
       }
 
   pub reached-end : {d : ℕ} {m : List ℕ} → Reached A d m → d ≡ n → NumbersOf A m

@@ -18,9 +18,9 @@ returns : tie.Need-returns
 returns c =
     let start = c .before .before .before .before .before in
     let a = start .args in
-    let found = c .before .before .numbers-of in
-    viewed-total (a .classes .now) (a .transitions .now) (a .n) (a .count) (found .result)
-    (found .ensures (a .classes .now) (start .pre .1 .1 .1)) (c .sum-accepting .ensures)
+    let p = start .pre in
+    viewed-total (a .classes .now) (a .transitions .now) (a .n) (a .count) (p .0 .over) (p .1 .0) (p .1 .1 .1)
+    (c .before .before .numbers-of .ensures (a .classes .now) (p .1 .1 .1)) (c .sum-accepting .ensures)
 
 pub accepted-trees-spec : {M : Type 1} → statement M
 accepted-trees-spec = tie.close (tie.spec numbers-of-requires sum-accepting-requires returns)
