@@ -44,7 +44,7 @@ static void read_line(void)
 static struct kind kinds[] = {
     {"ask", SCALEBENCH_ASK_STACK_BYTES, 0, ask},
     {"intake", SCALEBENCH_ASK_STACK_BYTES, 0, intake},
-    {"total", SCALEBENCH_ASK_STACK_BYTES, 0, total},
+    {"total", SCALEBENCH_TOTAL_STACK_BYTES, 0, total},
     {"add", SCALEBENCH_CHANGE_STACK_BYTES, 0, add},
     {"remove", SCALEBENCH_CHANGE_STACK_BYTES, 0, take_out},
     {"read", SCALEBENCH_READ_STACK_BYTES, 0, read_line},
