@@ -6,6 +6,7 @@ use Prim.Native.Nat.{_*_, _+_, _-_, _<_, _≤_, _^_, suc, zero, ℕ}
 use native.Mathlib.Numerals.{add-one}
 use native.Mathlib.Omega.{arith}
 use lib.Dec.{eqb, ltb}
+use lib.Pow.{pow-add, pow-mono}
 use borrow.Author.Tests.{eq-eqb, eqb-false, eqb-true, le-ltb, lt-ltb, ltb-false, ltb-true, ne-eqb}
 use Rattle.automata.specs.Order.{lex}
 use Rattle.format.specs.Format.{byteValues, maxArity}
@@ -15,39 +16,28 @@ use Rattle.fields.proofs.Searching.{lex-agrees, lex-differs}
 
 -- ---- a loop that takes digits
 
--- the least number of so many digits and one more
-abbrev pub room : ℕ → ℕ
-room zero = 1
-room (suc k) = byteValues * room k
-
 -- a loop at k that takes eight digits: r is what they all make, v what they make so far
 pub record DigitsFrom (r : ℕ) (f : ℕ → ℕ) (v k : ℕ) : Type 0 where
   pub within : k ≤ maxArity
-  pub small : v < room k
+  pub small : v < 2 ^ (8 * k)
   pub left : r ≡ digits f k (maxArity - k) v
 
 pub digits-start : (f : ℕ → ℕ) → DigitsFrom (digits f 0 maxArity 0) f 0 0
 digits-start f = record { within = omega arith; small = omega arith; left = refl }
 
-room-grows : (k : ℕ) → room k ≤ room (suc k)
-room-grows k = omega arith
-
-room-at-most : (k n : ℕ) → room k ≤ room (n + k)
-room-at-most k zero = let e : 0 + k ≡ k = omega arith in rw e (omega arith)
-room-at-most k (suc n) = let e : suc n + k ≡ suc (n + k) = omega arith in
-    rw e (omega (arith, room-at-most k n, room-grows (n + k)))
+-- one digit more
+pub digit-more : (k : ℕ) → 2 ^ (8 * suc k) ≡ 2 ^ (8 * k) * byteValues
+digit-more k = let e : 8 * suc k ≡ 8 * k + 8 = omega arith in ap (λ n. 2 ^ n) e ∙ pow-add 2 (8 * k) 8
 
 module _ {r : ℕ} {f : ℕ → ℕ} {v k : ℕ} (inv : DigitsFrom r f v k) (h : k < maxArity) where
   -- there is room for one digit more
-  pub digits-room : v < 72057594037927936
-  digits-room = let e : 7 - k + k ≡ 7 = omega arith in
-      let l : room (7 - k + k) ≡ 72057594037927936 = ap room e in
-      omega (arith, inv .small, room-at-most k (7 - k), l)
+  pub digits-room : v < 2 ^ 56
+  digits-room = omega (arith, inv .small, pow-mono {i = 8 * k} {j = 56} (omega arith))
 
   pub digits-next : {x : ℕ} → x ≡ f k → f k < byteValues → DigitsFrom r f (byteValues * v + x) (k + 1)
   digits-next e l = record {
     within = omega arith;
-    small = rw (add-one k) (omega (arith, inv .small));
+    small = rw (add-one k) (omega (arith, inv .small, digit-more k));
     left =
         let d : maxArity - k ≡ suc (maxArity - (k + 1)) = omega arith in
         inv .left ∙ rw (d, e, add-one k);

@@ -1,8 +1,12 @@
 -- A transition as two numbers: its arguments in one, its child count and label in the other.
+use mathlib.Core.Bool.{Bool, _&&_, _||_}
 use mathlib.Core.List.{List}
-use Prim.Native.Nat.{_*_, _+_, suc, zero, ℕ}
+use mathlib.Core.Path.{_≡_}
+use Prim.Native.Nat.{_*_, _+_, _<_, _≤_, suc, zero, ℕ}
+use lib.Dec.{eqb, ltb}
 use lib.ListN.{getD}
-use Rattle.format.specs.Format.{bytePairs, byteValues, maxArity}
+use Rattle.fields.specs.Fields.{HoldsTransitions}
+use Rattle.format.specs.Format.{bytePairs, byteValues, maxArity, transitionBytes}
 use Rattle.table.specs.Layout.{argOf, arityOf, labelOf}
 
 -- v, and after it the n numbers f k, f (k + 1), .. as digits to base 256
@@ -25,3 +29,17 @@ packedAt s at = digits (argOf s at) 0 maxArity 0
 -- its child count and label as one number
 abbrev pub metaAt : List ℕ → ℕ → ℕ
 metaAt s at = bytePairs * arityOf s at + labelOf s at
+
+-- the numbers m and a of one transition are before n and b of another
+abbrev pub before : ℕ → ℕ → ℕ → ℕ → Bool
+before m a n b = ltb m n || (eqb m n && ltb a b)
+
+-- the transition that starts at a byte has at most eight arguments, and 0 in the places beyond them
+pub record Padded (s : List ℕ) (at : ℕ) : Type 0 where
+  pub narrow : arityOf s at ≤ maxArity
+  pub rest : (k : ℕ) → arityOf s at ≤ k → k < maxArity → argOf s at k ≡ 0
+
+-- the run has n transitions that can be read as two numbers
+pub record HoldsPadded (s : List ℕ) (n : ℕ) : Type 0 where
+  pub runs : HoldsTransitions s n
+  pub each : (i : ℕ) → i < n → Padded s (transitionBytes * i)

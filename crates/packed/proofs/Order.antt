@@ -1,0 +1,114 @@
+-- Transitions compared by two numbers each, and lists of arguments told apart by one.
+use mathlib.Core.Bool.{Bool, false, true}
+use mathlib.Core.List.{List}
+use mathlib.Core.Path.{_∙_, _≡_, ap, refl, sym}
+use Prim.Native.Nat.{_+_, _<_, _≤_, ℕ}
+use native.Mathlib.Omega.{arith}
+use lib.Dec.{eqb, ltb}
+use lib.ListN.{List·getD-eq-default, getD, length}
+use lib.Seq.{ext-getD}
+use borrow.Author.Tests.{eq-eqb, eqb-false, eqb-true, le-ltb, lt-ltb, ltb-false, ltb-true, ne-eqb}
+use Rattle.automata.specs.Order.{lex, precedes}
+use Rattle.fields.specs.Fields.{firstArgs}
+use Rattle.format.specs.Format.{AllBytes, argsAt, byteValues, labelBytes, maxArity}
+use Rattle.packed.specs.Packed.{Padded, before, metaAt, packed, packedAt, padded}
+use Rattle.table.specs.Layout.{argOf, arityOf, labelOf, transitionAt}
+use Rattle.fields.proofs.Searching.{precedes-args, precedes-arity, precedes-label}
+use Rattle.fields.proofs.Transitions.{arg-at, args-length}
+use Rattle.packed.proofs.Digits.{digits-equal, digits-lex, digits-same}
+
+-- ---- order
+
+-- numbers that compare as x and y do, which differ, decide
+higher-decides : (x y m n a b : ℕ) → (x ≡ y → ⊥) → (x < y → m < n) → (y < x → n < m) → ltb x y ≡ before m a n b
+higher-decides x y m n a b d f g = go (ltb x y) refl
+  where
+    go : (c : Bool) → ltb x y ≡ c → c ≡ before m a n b
+    go true e = rw (lt-ltb m n (f (ltb-true x y e)))
+    go false e = let l = ltb-false x y e in
+        let h : n < m = g (omega arith) in
+        rw (le-ltb m n (omega arith), ne-eqb m n (λ i. omega arith))
+
+lower-decides : (m n a b : ℕ) → m ≡ n → ltb a b ≡ before m a n b
+lower-decides m n a b e = rw (le-ltb m n (omega arith), eq-eqb m n e)
+
+module _ (s : List ℕ) (bytes : AllBytes s) (a b : ℕ) (first : Padded s a) (second : Padded s b) where
+  args-order : arityOf s a ≡ arityOf s b →
+      ltb (packedAt s a) (packedAt s b) ≡ lex (firstArgs s a (arityOf s a)) (firstArgs s b (arityOf s a))
+  unfolding packedAt
+  args-order e = sym
+      (digits-lex (argOf s a) (argOf s b) (λ j. bytes (a + argsAt + j)) (λ j. bytes (b + argsAt + j))
+      (arityOf s a) maxArity 0 0 (first .narrow)
+      (λ k h l. first .rest k (omega arith) (omega arith) ∙ sym (second .rest k (omega arith) (omega arith))))
+
+  -- the order of transitions is that of their two numbers
+  pub precedes-packed : precedes (transitionAt s a) (transitionAt s b) ≡
+      before (metaAt s a) (packedAt s a) (metaAt s b) (packedAt s b)
+  precedes-packed = by-arity (eqb (arityOf s a) (arityOf s b)) refl
+    where
+      small : labelOf s a < byteValues
+      small = bytes a
+
+      small′ : labelOf s b < byteValues
+      small′ = bytes b
+
+      by-label : arityOf s a ≡ arityOf s b → (c : Bool) → eqb (labelOf s a) (labelOf s b) ≡ c →
+          precedes (transitionAt s a) (transitionAt s b) ≡
+          before (metaAt s a) (packedAt s a) (metaAt s b) (packedAt s b)
+      by-label e true d = let l = eqb-true (labelOf s a) (labelOf s b) d in
+          sym (precedes-args s a b refl refl e refl refl l (args-order e))
+          ∙ lower-decides (metaAt s a) (metaAt s b) (packedAt s a) (packedAt s b) (omega arith)
+      by-label e false d = let l = eqb-false (labelOf s a) (labelOf s b) d in
+          sym (precedes-label s a b refl refl e refl refl l)
+          ∙ higher-decides (labelOf s a) (labelOf s b) (metaAt s a) (metaAt s b) (packedAt s a) (packedAt s b) l
+          (λ h. omega arith) (λ h. omega arith)
+
+      by-arity : (c : Bool) → eqb (arityOf s a) (arityOf s b) ≡ c →
+          precedes (transitionAt s a) (transitionAt s b) ≡
+          before (metaAt s a) (packedAt s a) (metaAt s b) (packedAt s b)
+      by-arity true d = by-label (eqb-true (arityOf s a) (arityOf s b) d) (eqb (labelOf s a) (labelOf s b)) refl
+      by-arity false d = let l = eqb-false (arityOf s a) (arityOf s b) d in
+          sym (precedes-arity s a b refl refl l)
+          ∙ higher-decides (arityOf s a) (arityOf s b) (metaAt s a) (metaAt s b) (packedAt s a) (packedAt s b) l
+          (λ h. omega (arith, small)) (λ h. omega (arith, small′))
+
+-- ---- lists of arguments
+
+-- the number read from the places is that of the arguments
+pub packed-args : (s : List ℕ) (at : ℕ) → Padded s at → packedAt s at ≡ packed (transitionAt s at .args)
+unfolding packedAt packed
+packed-args s at p =
+    digits-same (argOf s at) (padded (transitionAt s at .args)) 0 maxArity 0
+    (λ k _ l. place k (omega arith) (ltb k (arityOf s at)) refl)
+  where
+    place : (k : ℕ) → k < maxArity → (c : Bool) → ltb k (arityOf s at) ≡ c →
+        argOf s at k ≡ padded (transitionAt s at .args) k
+    place k l true d = sym (arg-at s at k (ltb-true k (arityOf s at) d))
+    place k l false d = let h = ltb-false k (arityOf s at) d in
+        p .rest k h l
+        ∙ sym (List·getD-eq-default (transitionAt s at .args) 0 (omega (arith, args-length s at)))
+
+-- a list of at most eight bytes that are not 0
+pub record Packable (xs : List ℕ) : Type 0 where
+  pub short : length xs ≤ maxArity
+  pub some : (k : ℕ) → k < length xs → 1 ≤ getD xs k 0
+  pub bytes : AllBytes xs
+
+-- such lists differ in their numbers
+pub packed-injective : (xs ys : List ℕ) → Packable xs → Packable ys → packed xs ≡ packed ys → xs ≡ ys
+unfolding packed
+packed-injective xs ys p q e = ext-getD 0 xs ys (same (ltb (length xs) (length ys)) refl (ltb (length ys) (length xs))
+    refl) (λ k l. each k (omega (arith, p .short)))
+  where
+    each : (k : ℕ) → k < maxArity → getD xs k 0 ≡ getD ys k 0
+    each k l = digits-equal (padded xs) (padded ys) (p .bytes) (q .bytes) maxArity 0 0 e k (omega arith) (omega arith)
+
+    same : (c : Bool) → ltb (length xs) (length ys) ≡ c → (d : Bool) → ltb (length ys) (length xs) ≡ d →
+        length xs ≡ length ys
+    same true c d _ = let h = ltb-true (length xs) (length ys) c in
+        let z : getD xs (length xs) 0 ≡ 0 = List·getD-eq-default xs 0 (omega arith) in
+        absurd (omega (arith, each (length xs) (omega (arith, q .short)), q .some (length xs) h))
+    same false c true d = let h = ltb-true (length ys) (length xs) d in
+        let z : getD ys (length ys) 0 ≡ 0 = List·getD-eq-default ys 0 (omega arith) in
+        absurd (omega (arith, each (length ys) (omega (arith, p .short)), p .some (length ys) h))
+    same false c false d = omega (arith, ltb-false (length xs) (length ys) c, ltb-false (length ys) (length xs) d)
