@@ -2,5 +2,3 @@ pub mod Transitions
 pub mod Entries
 pub mod Views
 pub mod Searching
-pub mod LayoutChecks
-pub mod Bounds

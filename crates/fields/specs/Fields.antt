@@ -4,17 +4,12 @@ use mathlib.Core.Bool.{Bool, false, true}
 use mathlib.Core.List.{List, map}
 use mathlib.Core.Path.{_≡_}
 use Prim.Native.Nat.{_*_, _+_, _<_, _≤_, ℕ}
-use lib.Dec.{leb}
-use lib.ListN.{getD, length}
+use lib.ListN.{length}
 use Rattle.fields.specs.declared.Found.{Found}
 use Rattle.fields.specs.declared.Found.the-variants.{Nothing, State}
 use Rattle.format.specs.Format.{maxArity, maxProduct, maxStates, maxTransitions, tableBytes, transitionBytes}
 use Rattle.lists.specs.Positions.{upFrom}
 use Rattle.table.specs.Layout.{argOf, arityOf, body, labelOf, outOf, stateCount, transitionCount}
-
--- byte j is at most a bound
-abbrev pub atMost : List ℕ → ℕ → ℕ → Bool
-atMost s k j = leb (getD s j 0) k
 
 -- the transition that starts at a byte stands inside the run and has at most eight arguments
 pub record Readable (s : List ℕ) (at : ℕ) : Type 0 where

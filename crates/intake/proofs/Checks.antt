@@ -16,19 +16,21 @@ use Rattle.automata.specs.Coaccessible.{allCoaccessible}
 use Rattle.automata.specs.Distinguishable.{allDistinguishable}
 use Rattle.automata.specs.Numbered.{firstOpen, numbered}
 use Rattle.automata.specs.Order.{rising}
-use Rattle.fields.specs.Fields.{HoldsTransitions, HoldsTransitionsOver}
+use Rattle.fields.specs.Fields.{HoldsTransitionsOver}
 use Rattle.fields.specs.View.{Viewed, viewed}
 use Rattle.format.specs.Format.{headBytes, tableBytes}
 use Rattle.lists.specs.Conditions.{firstBroken}
 use Rattle.lists.specs.Positions.{upFrom}
 use Rattle.lists.specs.Tests.{every}
+use Rattle.packed.specs.Packed.{HoldsPadded}
 use Rattle.table.specs.Intake.{automatonConditions, contentConditions, tableRefusal}
 use Rattle.table.specs.Layout.{body, decode, layoutFits, stateCount, transitionCount, transitionsIn}
 use Rattle.automata.proofs.NumberedPass.{numbered-accessible}
-use Rattle.fields.proofs.Transitions.{layout-in-table, layout-runs, part-body}
+use Rattle.fields.proofs.Transitions.{layout-in-table, part-body}
 use Rattle.listing.proofs.Checks.{broken, kept}
 use Rattle.fields.proofs.Views.{viewed-ranged, viewed-states}
 use Rattle.lists.proofs.Parts.{part}
+use Rattle.packed.proofs.Padding.{layout-padded}
 
 module _ (cl s : List ℕ) (n c : ℕ) where
   abbrev A : Automaton
@@ -117,9 +119,9 @@ right-length b h e = rw (eq-eqb (length b) tableBytes h) e
 
 -- ---- a table's own automaton, as the part of the table that code passes on
 
-pub table-runs : (b : List ℕ) {k : ℕ} → length b ≡ tableBytes → layoutFits b ≡ true → k ≡ transitionCount b →
-    HoldsTransitions (part b headBytes) k
-table-runs b h e c = subst₂ HoldsTransitions (sym (part-body b)) (sym c) (layout-runs b h e)
+pub table-padded : (b : List ℕ) {k : ℕ} → length b ≡ tableBytes → layoutFits b ≡ true → k ≡ transitionCount b →
+    HoldsPadded (part b headBytes) k
+table-padded b h e c = subst₂ HoldsPadded (sym (part-body b)) (sym c) (layout-padded b h e)
 
 pub table-rises : (b : List ℕ) {k : ℕ} {r : Bool} → k ≡ transitionCount b →
     r ≡ rising (transitionsIn (part b headBytes) k) →
@@ -128,11 +130,15 @@ table-rises b c e = e ∙ ap₂ (λ (s : List ℕ) (k : ℕ). rising (transition
 
 pub table-seen : (b : List ℕ) {k n : ℕ} → length b ≡ tableBytes → layoutFits b ≡ true → k ≡ transitionCount b →
     n ≡ stateCount b → rising (transitionsIn (body b) (transitionCount b)) ≡ true →
-    Viewed b (part b headBytes) n k × (rising (transitionsIn (part b headBytes) k) ≡ true)
+    Viewed b (part b headBytes) n k ×
+    (HoldsPadded (part b headBytes) k × (rising (transitionsIn (part b headBytes) k) ≡ true))
 table-seen b {k} {n} h e c m r = (
   subst₂ (λ (s : List ℕ) (j : ℕ). Viewed b s n j) (sym (part-body b)) (sym c)
       (subst (λ (i : ℕ). Viewed b (body b) i (transitionCount b)) (sym m) (table-viewed b h e)),
-  subst₂ (λ (s : List ℕ) (j : ℕ). rising (transitionsIn s j) ≡ true) (sym (part-body b)) (sym c) r,
+  (
+    table-padded b h e c,
+    subst₂ (λ (s : List ℕ) (j : ℕ). rising (transitionsIn s j) ≡ true) (sym (part-body b)) (sym c) r,
+  ),
 )
 
 pub table-answer : (b : List ℕ) {k n r : ℕ} → layoutFits b ≡ true →

@@ -5,25 +5,28 @@ ghost use mathlib.Core.Path.{_≡_};
 ghost use Prim.Native.Nat.{ℕ, _≤_};
 ghost use lib.ListN.{length};
 ghost use Rattle.automata.specs.Accessible.{allAccessible};
+ghost use Rattle.automata.specs.Acyclic.{acyclic};
 ghost use Rattle.automata.specs.Numbered.{numbered};
 ghost use Rattle.automata.specs.Order.{rising};
 ghost use Rattle.fields.specs.Fields.{HoldsTransitionsOver};
 ghost use Rattle.fields.specs.View.{Viewed, viewed};
 ghost use Rattle.format.specs.Format.{tableBytes};
 ghost use Rattle.lists.specs.Conditions.{firstBroken};
+ghost use Rattle.packed.specs.Packed.{HoldsPadded};
 ghost use Rattle.table.specs.Intake.{automatonConditions, contentConditions, tableRefusal};
 ghost use Rattle.table.specs.Layout.{transitionsIn};
-use fields::layout_fits;
-use fields::rises;
+ghost use Rattle.validity.specs.Ranks.{climbing};
 use fields::transition_count;
 use format::HEAD_BYTES;
 use format::TABLE_BYTES;
 use format::wide;
+use packed::layout_fits;
+use packed::rises;
 use partition::all_distinguishable_useful;
 use validity::acyclic;
 use validity::all_accessible;
 use validity::all_coaccessible;
-use validity::numbered;
+use validity::ruled;
 
 // Condition 9. If the states are numbered by the rule it holds, and no search is needed.
 fn reached(transitions: &[u8], count: usize, n: usize, in_order: bool) -> bool
@@ -38,27 +41,41 @@ fn reached(transitions: &[u8], count: usize, n: usize, in_order: bool) -> bool
     all_accessible(transitions, count, n)
 }
 
+// Condition 11. If every output is above its arguments it holds, and no search is needed.
+fn loopless(transitions: &[u8], count: usize, n: usize, above: bool) -> bool
+    requires { ⌜ HoldsTransitionsOver (now transitions) count n ⌝ }
+    requires { ⌜ n ≤ 255 ⌝ }
+    requires { ⌜ (above ≡ true → climbing (transitionsIn (now transitions) count) ≡ true) ⌝ }
+    ensures { λ r. ⌜ ((cl : List ℕ) → r ≡ acyclic (viewed cl (now (transitions .entry)) n count)) ⌝ }
+{
+    if above {
+        return true;
+    }
+    acyclic(transitions, count, n)
+}
+
 // Refusals 9 to 13 of an automaton whose fields are in range and whose transitions rise, or 0.
 fn automaton_refusal(classes: &[u8], transitions: &[u8], count: usize, n: usize) -> u8
     requires { ⌜ Viewed (now classes) (now transitions) n count ⌝ }
+    requires { ⌜ HoldsPadded (now transitions) count ⌝ }
     requires { ⌜ rising (transitionsIn (now transitions) count) ≡ true ⌝ }
     ensures { λ r. ⌜ r ≡ firstBroken (automatonConditions (viewed (now (classes .entry)) (now (transitions .entry)) n
         count)) ⌝ }
 {
-    let in_order = numbered(transitions, count, n);
-    if !reached(transitions, count, n, in_order) {
+    let rule = ruled(transitions, count, n);
+    if !reached(transitions, count, n, rule.numbered) {
         return 9;
     }
     if !all_coaccessible(classes, transitions, count, n) {
         return 10;
     }
-    if !acyclic(transitions, count, n) {
+    if !loopless(transitions, count, n, rule.climbing) {
         return 11;
     }
     if !all_distinguishable_useful(classes, transitions, count, n) {
         return 12;
     }
-    if !in_order {
+    if !rule.numbered {
         return 13;
     }
     0

@@ -2,7 +2,7 @@
 use mathlib.Core.Bool.{Bool, false, true}
 use mathlib.Core.List.{List}
 use mathlib.Core.Path.{_∙_, _≡_, ap, refl, sym}
-use Prim.Native.Nat.{_+_, _<_, _≤_, ℕ}
+use Prim.Native.Nat.{_*_, _+_, _-_, _<_, _≤_, ℕ}
 use native.Mathlib.Omega.{arith}
 use lib.Dec.{eqb, ltb}
 use lib.ListN.{List·getD-eq-default, getD, length}
@@ -10,17 +10,20 @@ use lib.Seq.{ext-getD}
 use borrow.Author.Tests.{eq-eqb, eqb-false, eqb-true, le-ltb, lt-ltb, ltb-false, ltb-true, ne-eqb}
 use Rattle.automata.specs.Order.{lex, precedes}
 use Rattle.fields.specs.Fields.{firstArgs}
-use Rattle.format.specs.Format.{AllBytes, argsAt, byteValues, labelBytes, maxArity}
-use Rattle.packed.specs.Packed.{Padded, before, metaAt, packed, packedAt, padded}
+use Rattle.format.specs.Format.{AllBytes, argsAt, byteValues, labelBytes, maxArity, transitionBytes}
+use Rattle.lists.specs.Positions.{upFrom}
+use Rattle.lists.specs.Tests.{every}
+use Rattle.packed.specs.Packed.{HoldsPadded, Padded, before, metaAt, packed, packedAt, padded}
 use Rattle.table.specs.Layout.{argOf, arityOf, labelOf, transitionAt}
-use Rattle.fields.proofs.Searching.{precedes-args, precedes-arity, precedes-label}
+use Rattle.fields.proofs.Searching.{precedes-args, precedes-arity, precedes-label, precedesNext}
 use Rattle.fields.proofs.Transitions.{arg-at, args-length}
+use Rattle.lists.proofs.Loops.{EveryFrom}
 use Rattle.packed.proofs.Digits.{digits-equal, digits-lex, digits-same}
 
 -- ---- order
 
 -- numbers that compare as x and y do, which differ, decide
-higher-decides : (x y m n a b : ℕ) → (x ≡ y → ⊥) → (x < y → m < n) → (y < x → n < m) → ltb x y ≡ before m a n b
+pub higher-decides : (x y m n a b : ℕ) → (x ≡ y → ⊥) → (x < y → m < n) → (y < x → n < m) → ltb x y ≡ before m a n b
 higher-decides x y m n a b d f g = go (ltb x y) refl
   where
     go : (c : Bool) → ltb x y ≡ c → c ≡ before m a n b
@@ -29,7 +32,7 @@ higher-decides x y m n a b d f g = go (ltb x y) refl
         let h : n < m = g (omega arith) in
         rw (le-ltb m n (omega arith), ne-eqb m n (λ i. omega arith))
 
-lower-decides : (m n a b : ℕ) → m ≡ n → ltb a b ≡ before m a n b
+pub lower-decides : (m n a b : ℕ) → m ≡ n → ltb a b ≡ before m a n b
 lower-decides m n a b e = rw (le-ltb m n (omega arith), eq-eqb m n e)
 
 module _ (s : List ℕ) (bytes : AllBytes s) (a b : ℕ) (first : Padded s a) (second : Padded s b) where
@@ -71,6 +74,21 @@ module _ (s : List ℕ) (bytes : AllBytes s) (a b : ℕ) (first : Padded s a) (s
           sym (precedes-arity s a b refl refl l)
           ∙ higher-decides (arityOf s a) (arityOf s b) (metaAt s a) (metaAt s b) (packedAt s a) (packedAt s b) l
           (λ h. omega (arith, small)) (λ h. omega (arith, small′))
+
+-- a loop at i over neighbours, which has read the two numbers m and a of transition i
+pub record RisesFrom (s : List ℕ) (n m a i : ℕ) : Type 0 where
+  pub passed : EveryFrom (every (precedesNext s) (upFrom 0 (n - 1))) (precedesNext s) (n - 1) i
+  pub meta : m ≡ metaAt s (transitionBytes * i)
+  pub args : a ≡ packedAt s (transitionBytes * i)
+
+-- it compares transition i with the next
+pub compares-next : {s : List ℕ} {n m a i m′ a′ : ℕ} → AllBytes s → HoldsPadded s n → RisesFrom s n m a i →
+    i + 1 < n → m′ ≡ metaAt s (transitionBytes * (i + 1)) → a′ ≡ packedAt s (transitionBytes * (i + 1)) →
+    before m a m′ a′ ≡ precedesNext s i
+compares-next {s} {i = i} bytes holds inv h e d =
+    rw (inv .meta, inv .args, e, d)
+    (sym (precedes-packed s bytes (transitionBytes * i) (transitionBytes * (i + 1)) (holds .each i (omega arith))
+    (holds .each (i + 1) h)))
 
 -- ---- lists of arguments
 

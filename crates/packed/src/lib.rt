@@ -1,20 +1,20 @@
 // Transitions as two numbers, read from their bytes each time: the eight places for arguments are one load and a byte
 // swap. Two transitions are compared by two comparisons of numbers.
+mod layout; // condition 7
+
 ghost use mathlib.Core.Path.{_≡_};
 ghost use Prim.Native.Nat.{_+_, _≤_};
 ghost use lib.ListN.{length};
+ghost use Rattle.automata.specs.Order.{rising};
 ghost use Rattle.format.specs.Format.{transitionBytes};
-ghost use Rattle.packed.specs.Packed.{metaAt, packedAt};
-use format::ARGS_AT;
-use format::ARITY_AT;
+ghost use Rattle.table.specs.Layout.{transitionsIn};
+ghost use Rattle.packed.specs.Packed.{HoldsPadded, before, metaAt, packedAt};
+use fields::arg_of;
+use fields::arity_of;
+use fields::label_of;
 use format::MAX_ARITY;
-
-// A byte as a number of 64 bits.
-pub fn word(x: u8) -> u64
-    ensures { λ r. ⌜ r ≡ x ⌝ }
-{
-    x as u64
-}
+use format::TRANSITION_BYTES;
+pub use layout::layout_fits;
 
 // The eight places for arguments of the transition that starts at a byte, the first the highest.
 pub fn args_at(transitions: &[u8], at: usize) -> u64
@@ -24,7 +24,8 @@ pub fn args_at(transitions: &[u8], at: usize) -> u64
     let mut v = 0u64;
     let mut k = 0;
     while k < MAX_ARITY {
-        v = 256 * v + word(transitions[at + ARGS_AT + k]);
+        let q = arg_of(transitions, at, k);
+        v = 256 * v + q as u64;
         k += 1;
     }
     v
@@ -35,5 +36,42 @@ pub fn meta_at(transitions: &[u8], at: usize) -> u64
     requires { ⌜ at + transitionBytes ≤ length (now transitions) ⌝ }
     ensures { λ r. ⌜ r ≡ metaAt (now (transitions .entry)) at ⌝ }
 {
-    65536 * word(transitions[at + ARITY_AT]) + word(transitions[at])
+    let arity = arity_of(transitions, at);
+    let label = label_of(transitions, at);
+    65536 * arity as u64 + label as u64
+}
+
+// Whether a transition with the numbers m and a comes before one with the numbers n and b.
+fn comes_before(m: u64, a: u64, n: u64, b: u64) -> bool
+    ensures { λ r. ⌜ r ≡ before m a n b ⌝ }
+{
+    if m != n {
+        return m < n;
+    }
+    a < b
+}
+
+// Condition 8: each transition comes before the next.
+pub fn rises(transitions: &[u8], count: usize) -> bool
+    requires { ⌜ HoldsPadded (now transitions) count ⌝ }
+    ensures { λ r. ⌜ r ≡ rising (transitionsIn (now (transitions .entry)) count) ⌝ }
+{
+    if count == 0 {
+        return true;
+    }
+    let mut meta = meta_at(transitions, 0);
+    let mut args = args_at(transitions, 0);
+    let mut i = 0;
+    while i + 1 < count {
+        let next = TRANSITION_BYTES * (i + 1);
+        let next_meta = meta_at(transitions, next);
+        let next_args = args_at(transitions, next);
+        if !comes_before(meta, args, next_meta, next_args) {
+            return false;
+        }
+        meta = next_meta;
+        args = next_args;
+        i += 1;
+    }
+    true
 }

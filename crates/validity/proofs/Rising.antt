@@ -4,18 +4,22 @@ use mathlib.Core.List.{List}
 use mathlib.Core.Path.{_∙_, _≡_, ap, subst, sym}
 use Prim.Native.Nat.{_<_, ℕ}
 use native.Mathlib.Omega.{arith}
-use lib.Dec.{ltb}
-use borrow.Author.Tests.{ltb-true}
+use lib.Dec.{leb, ltb}
+use borrow.Author.Tests.{le-leb, leb-true, lt-ltb, ltb-true}
 use Rattle.automata.specs.Acyclic.{Feeds, Leads, acyclic, more, once}
-use Rattle.automata.specs.Automaton.{Automaton}
+use Rattle.automata.specs.Automaton.{Automaton, Transition}
+use Rattle.automata.specs.Numbered.{top}
 use Rattle.automata.specs.Valid.{statesInRange}
 use Rattle.fields.specs.Fields.{HoldsTransitionsOver}
 use Rattle.fields.specs.View.{viewed}
 use Rattle.lists.specs.Tests.{every}
-use Rattle.table.specs.Layout.{outOf, transitionAt, transitionsIn}
+use Rattle.table.specs.Layout.{nthTransition, outOf, transitionAt, transitionsIn}
 use Rattle.automata.proofs.Leads.{acyclic-iff}
-use Rattle.lists.proofs.Tests.{every-in}
-use Rattle.validity.specs.Ranks.{rankOf, risesBy}
+use Rattle.automata.proofs.NumberedPass.{top-at}
+use Rattle.fields.proofs.Transitions.{transitions-every}
+use Rattle.lists.proofs.Loops.{CleanFrom}
+use Rattle.lists.proofs.Tests.{every-in, in-every}
+use Rattle.validity.specs.Ranks.{climbing, climbs, rankOf, risesBy}
 use Rattle.fields.proofs.Views.{viewed-ranged}
 
 -- an answer about the arguments, for a bound that is the output's rank, is the answer about the transition
@@ -44,3 +48,24 @@ pub ranks-acyclic : (s : List ℕ) (n c : ℕ) (m : List ℕ) {r : Bool} → Hol
     r ≡ every (risesBy (rankOf m)) (transitionsIn s c) → r ≡ true → (cl : List ℕ) → true ≡ acyclic (viewed cl s n c)
 ranks-acyclic s n c m over e h cl =
     sym (rises-acyclic (viewed cl s n c) (rankOf m) (sym e ∙ h) (viewed-ranged cl s n c over))
+
+-- and if every output is above its arguments, the states' own numbers do
+climbs-rises : (τ : Transition) → climbs τ ≡ true → risesBy (λ q. q) τ ≡ true
+climbs-rises τ e =
+    let h = ltb-true (top (τ .args)) (τ .out) e in
+    let all = top-at (τ .args) (top (τ .args)) ∙ le-leb (top (τ .args)) (top (τ .args)) (omega arith) in
+    in-every (λ q. ltb q (τ .out)) (τ .args) (λ q i.
+    let l = leb-true q (top (τ .args)) (every-in (λ p. leb p (top (τ .args))) (τ .args) all q i) in
+    lt-ltb q (τ .out) (omega arith))
+
+pub climbing-acyclic : (s : List ℕ) (n c : ℕ) → HoldsTransitionsOver s c n → climbing (transitionsIn s c) ≡ true →
+    (cl : List ℕ) → true ≡ acyclic (viewed cl s n c)
+climbing-acyclic s n c over e cl =
+    sym (rises-acyclic (viewed cl s n c) (λ q. q)
+    (in-every (risesBy (λ q. q)) (transitionsIn s c) (λ τ i. climbs-rises τ (every-in climbs (transitionsIn s c) e τ i)))
+    (viewed-ranged cl s n c over))
+
+-- a loop over the transitions tests whether all climb
+pub climbing-start : (s : List ℕ) (c : ℕ) →
+    CleanFrom (climbing (transitionsIn s c)) true (λ i. climbs (nthTransition s i)) c 0
+climbing-start s c = let e = transitions-every climbs s c in record { within = e .within; left = e .left }

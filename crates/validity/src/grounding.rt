@@ -13,7 +13,6 @@ ghost use Rattle.marking.specs.Spread.{Spread, UpTo};
 use crate::marks::all_marked;
 use crate::marks::args_marked;
 use crate::ranks::depth_first;
-use crate::ranks::numbers;
 use crate::ranks::ranks_rise;
 use fields::out_of;
 use format::BYTE_VALUES;
@@ -112,9 +111,6 @@ pub fn acyclic(transitions: &[u8], count: usize, n: usize) -> bool
     requires { ⌜ n ≤ 255 ⌝ }
     ensures { λ r. ⌜ ((cl : List ℕ) → r ≡ acyclic (viewed cl (now (transitions .entry)) n count)) ⌝ }
 {
-    if ranks_rise(transitions, count, &numbers()) {
-        return true;
-    }
     if ranks_rise(transitions, count, &depth_first(transitions, count, n)) {
         return true;
     }

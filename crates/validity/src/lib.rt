@@ -9,7 +9,8 @@ mod grounding; // condition 11
 
 pub use grounding::acyclic;
 pub use marks::args_marked;
-pub use numbering::numbered;
+pub use numbering::Ruling;
+pub use numbering::ruled;
 pub use reaching::all_accessible;
 pub use usefulness::all_coaccessible;
 pub use usefulness::useful;

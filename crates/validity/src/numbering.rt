@@ -1,25 +1,35 @@
 // Condition 13 in one pass: a transition whose output is above its arguments gives the output its number, and every
 // state strictly between has one already.
-ghost use mathlib.Core.Path.{_≡_};
+ghost use mathlib.Core.Bool.{true};
 ghost use mathlib.Core.List.{List};
-ghost use Prim.Native.Nat.{_*_, _-_, _≤_, max, ℕ};
+ghost use mathlib.Core.Path.{_≡_};
+ghost use Prim.Native.Nat.{_*_, _+_, _-_, _≤_, max, ℕ};
 ghost use lib.ListN.{length};
 ghost use Rattle.automata.specs.Numbered.{Passed, numbered, top};
 ghost use Rattle.format.specs.Format.{byteValues, transitionBytes};
 ghost use Rattle.lists.specs.Positions.{upFrom};
 ghost use Rattle.lists.specs.Tests.{every};
 ghost use Rattle.marking.specs.Marks.{marked};
-ghost use Rattle.table.specs.Layout.{transitionAt, transitionsIn};
+ghost use Rattle.table.specs.Layout.{nthTransition, transitionAt, transitionsIn};
 ghost use Rattle.fields.specs.Fields.{Readable, HoldsTransitionsOver};
 ghost use Rattle.fields.specs.View.{viewed};
+ghost use Rattle.packed.specs.Packed.{HoldsPadded, Padded};
+ghost use Rattle.validity.specs.Ranks.{climbing, climbs};
 ghost use Rattle.validity.specs.Rules.{NumbersRead, Spans};
 use crate::marks::all_marked;
 use fields::arg_of;
-use fields::arity_of;
 use fields::out_of;
 use format::BYTE_VALUES;
+use format::MAX_ARITY;
 use format::TRANSITION_BYTES;
 use format::wide;
+
+// What one pass says of a table: whether its states are numbered by the rule, and whether every output is above its
+// arguments.
+pub struct Ruling {
+    pub numbered: bool,
+    pub climbing: bool,
+}
 
 fn greater(x: usize, y: usize) -> usize
     ensures { λ r. ⌜ r ≡ max x y ⌝ }
@@ -30,20 +40,32 @@ fn greater(x: usize, y: usize) -> usize
     x
 }
 
-// The greatest argument; 0 for a leaf.
+// The greatest argument; 0 for a leaf. The places beyond the arguments are 0, so all eight are looked at and the loop
+// vectorises.
 fn top_argument(transitions: &[u8], at: usize) -> usize
-    requires { ⌜ Readable (now transitions) at ⌝ }
+    requires { ⌜ at + transitionBytes ≤ length (now transitions) ⌝ }
+    requires { ⌜ Padded (now transitions) at ⌝ }
     ensures { λ r. ⌜ r ≡ top (transitionAt (now (transitions .entry)) at .args) ⌝ }
 {
-    let arity = arity_of(transitions, at);
     let mut t = 0;
     let mut k = 0;
-    while k < arity {
+    while k < MAX_ARITY {
         let q = arg_of(transitions, at, k);
         t = greater(t, q);
         k += 1;
     }
     t
+}
+
+// Whether the output of transition i is above its arguments.
+fn climbs(transitions: &[u8], i: usize) -> bool
+    requires { ⌜ Readable (now transitions) (transitionBytes * i) ⌝ }
+    requires { ⌜ Padded (now transitions) (transitionBytes * i) ⌝ }
+    ensures { λ r. ⌜ r ≡ climbs (nthTransition (now (transitions .entry)) i) ⌝ }
+{
+    let at = TRANSITION_BYTES * i;
+    let t = top_argument(transitions, at);
+    t < out_of(transitions, at)
 }
 
 // Whether the states from one up to, not including, another have all been seen. A mark leads over all states that it
@@ -68,6 +90,7 @@ fn all_seen(seen: &[u8; BYTE_VALUES], from: usize, end: usize) -> bool
 // output is seen, and its mark says so of them all.
 fn read(transitions: &[u8], i: usize, seen: &mut [u8; BYTE_VALUES]) -> bool
     requires { ⌜ Readable (now transitions) (transitionBytes * i) ⌝ }
+    requires { ⌜ Padded (now transitions) (transitionBytes * i) ⌝ }
     requires { ⌜ length (now seen) ≡ byteValues ⌝ }
     requires { ⌜ Passed (transitionsIn (now transitions) i) (marked (now seen)) ⌝ }
     requires { ⌜ Spans (now seen) ⌝ }
@@ -87,19 +110,31 @@ fn read(transitions: &[u8], i: usize, seen: &mut [u8; BYTE_VALUES]) -> bool
     true
 }
 
-// Condition 13: the states are numbered by the rule.
-pub fn numbered(transitions: &[u8], count: usize, n: usize) -> bool
+// Condition 13, whether the states are numbered by the rule. In the same pass: whether every output is above its
+// arguments, which a table that breaks the rule is not asked.
+pub fn ruled(transitions: &[u8], count: usize, n: usize) -> Ruling
     requires { ⌜ HoldsTransitionsOver (now transitions) count n ⌝ }
+    requires { ⌜ HoldsPadded (now transitions) count ⌝ }
     requires { ⌜ n ≤ 255 ⌝ }
-    ensures { λ r. ⌜ ((cl : List ℕ) → r ≡ numbered (viewed cl (now (transitions .entry)) n count)) ⌝ }
+    ensures { λ r. ⌜ ((cl : List ℕ) → r .numbered ≡ numbered (viewed cl (now (transitions .entry)) n count)) ⌝ }
+    ensures { λ r. ⌜ (r .climbing ≡ true → climbing (transitionsIn (now (transitions .entry)) count) ≡ true) ⌝ }
 {
     let mut seen = [0u8; BYTE_VALUES];
+    let mut climbing = true;
     let mut i = 0;
     while i < count {
+        let above = climbs(transitions, i);
+        climbing = climbing & above;
         if !read(transitions, i, &mut seen) {
-            return false;
+            return Ruling {
+                numbered: false,
+                climbing: false,
+            };
         }
         i += 1;
     }
-    all_marked(&seen, 1, n + 1)
+    Ruling {
+        numbered: all_marked(&seen, 1, n + 1),
+        climbing: climbing,
+    }
 }

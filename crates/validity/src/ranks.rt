@@ -57,17 +57,6 @@ pub fn ranks_rise(transitions: &[u8], count: usize, ranks: &[u8; BYTE_VALUES]) -
     true
 }
 
-// Each state ranked by its number.
-pub fn numbers() -> [u8; BYTE_VALUES] {
-    let mut ranks = [0u8; BYTE_VALUES];
-    let mut q = 0;
-    while q < BYTE_VALUES {
-        ranks[q] = (q % BYTE_VALUES) as u8;
-        q += 1;
-    }
-    ranks
-}
-
 // Links the transitions into each state: `first` has one of them, `others` another for each, as its number from 1; 0
 // is none.
 fn link(

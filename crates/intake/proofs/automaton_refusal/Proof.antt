@@ -7,12 +7,12 @@ use borrow.Author.Needs.{needs}
 use Rattle.intake.proofs.automaton_refusal.Statement.{statement}
 use Rattle.intake.proofs.automaton_refusal.Tie as tie
 
-numbered-requires : tie.Need-numbered-requires
-numbered-requires c κs = search needs
+ruled-requires : tie.Need-ruled-requires
+ruled-requires c κs = search needs
 
 reached-requires : tie.Need-reached-requires
 reached-requires c κs =
-    (c .before .before .before .pre .0 .over, (c .before .before .before .pre .0 .states, c .numbered .ensures []))
+    (c .before .before .before .pre .0 .over, (c .before .before .before .pre .0 .states, c .ruled .ensures .0 []))
 
 returns : tie.Need-returns
 returns c =
@@ -32,8 +32,11 @@ returns-2 c =
     .count)) ((at-reached .reached .ensures (start .args .classes .now))) (at-if1 .if1 .left) (c .before
     .all-coaccessible .ensures) (c .if2 .taken)
 
-acyclic-requires : tie.Need-acyclic-requires
-acyclic-requires c κs = search needs
+loopless-requires : tie.Need-loopless-requires
+loopless-requires c κs =
+    let at-ruled = c .before .before .before .before in
+    let start = at-ruled .before .before .before in
+    (start .pre .0 .over, (start .pre .0 .states, at-ruled .ruled .ensures .1))
 
 returns-3 : tie.Need-returns-3
 returns-3 c =
@@ -44,7 +47,7 @@ returns-3 c =
     let start = at-reached .before .before .before .before in
     refused-11 (viewed (start .args .classes .now) (start .args .transitions .now) (start .args .n) (start .args
     .count)) ((at-reached .reached .ensures (start .args .classes .now))) (at-if1 .if1 .left)
-    (at-all-coaccessible .all-coaccessible .ensures) (at-if2 .if2 .left) (c .before .acyclic .ensures (start
+    (at-all-coaccessible .all-coaccessible .ensures) (at-if2 .if2 .left) (c .before .loopless .ensures (start
     .args .classes .now)) (c .if3 .taken)
 
 all-distinguishable-useful-requires : tie.Need-all-distinguishable-useful-requires
@@ -54,10 +57,10 @@ all-distinguishable-useful-requires c κs =
     let start = at-all-coaccessible .before .before .before .before .before .before in (
       start .pre .0,
       (
-        start .pre .1,
+        start .pre .1 .1,
         (
           kept (at-all-coaccessible .all-coaccessible .ensures) (at-if2 .if2 .left),
-          kept (c .before .acyclic .ensures (start .args .classes .now)) (c .if3 .left),
+          kept (c .before .loopless .ensures (start .args .classes .now)) (c .if3 .left),
         ),
       ),
     )
@@ -65,63 +68,63 @@ all-distinguishable-useful-requires c κs =
 returns-4 : tie.Need-returns-4
 returns-4 c =
     let at-if3 = c .before .before in
-    let at-acyclic = at-if3 .before in
-    let at-if2 = at-acyclic .before in
+    let at-loopless = at-if3 .before in
+    let at-if2 = at-loopless .before in
     let at-all-coaccessible = at-if2 .before in
     let at-if1 = at-all-coaccessible .before in
     let at-reached = at-if1 .before in
     let start = at-reached .before .before .before .before in
     refused-12 (viewed (start .args .classes .now) (start .args .transitions .now) (start .args .n) (start .args
     .count)) ((at-reached .reached .ensures (start .args .classes .now))) (at-if1 .if1 .left)
-    (at-all-coaccessible .all-coaccessible .ensures) (at-if2 .if2 .left) (at-acyclic .acyclic .ensures (start
+    (at-all-coaccessible .all-coaccessible .ensures) (at-if2 .if2 .left) (at-loopless .loopless .ensures (start
     .args .classes .now)) (at-if3 .if3 .left) (c .before .all-distinguishable-useful .ensures) (c .if4 .taken)
 
 returns-5 : tie.Need-returns-5
 returns-5 c =
-    let at-all-distinguishable-useful = c .before .before in
+    let at-all-distinguishable-useful = c .before .before .before in
     let at-if3 = at-all-distinguishable-useful .before in
-    let at-acyclic = at-if3 .before in
-    let at-if2 = at-acyclic .before in
+    let at-loopless = at-if3 .before in
+    let at-if2 = at-loopless .before in
     let at-all-coaccessible = at-if2 .before in
     let at-if1 = at-all-coaccessible .before in
     let at-reached = at-if1 .before in
-    let at-numbered = at-reached .before in
-    let start = at-numbered .before .before .before in
+    let at-ruled = at-reached .before in
+    let start = at-ruled .before .before .before in
     refused-13 (viewed (start .args .classes .now) (start .args .transitions .now) (start .args .n) (start .args
     .count)) ((at-reached .reached .ensures (start .args .classes .now))) (at-if1 .if1 .left)
-    (at-all-coaccessible .all-coaccessible .ensures) (at-if2 .if2 .left) (at-acyclic .acyclic .ensures (start
+    (at-all-coaccessible .all-coaccessible .ensures) (at-if2 .if2 .left) (at-loopless .loopless .ensures (start
     .args .classes .now)) (at-if3 .if3 .left) (at-all-distinguishable-useful .all-distinguishable-useful
-    .ensures) (c .before .if4 .left) ((at-numbered .numbered .ensures (start .args .classes .now))) (c .if5
+    .ensures) (c .before .before .if4 .left) ((at-ruled .ruled .ensures .0 (start .args .classes .now))) (c .if5
     .taken)
 
 returns-6 : tie.Need-returns-6
 returns-6 c =
-    let at-all-distinguishable-useful = c .before .before in
+    let at-all-distinguishable-useful = c .before .before .before in
     let at-if3 = at-all-distinguishable-useful .before in
-    let at-acyclic = at-if3 .before in
-    let at-if2 = at-acyclic .before in
+    let at-loopless = at-if3 .before in
+    let at-if2 = at-loopless .before in
     let at-all-coaccessible = at-if2 .before in
     let at-if1 = at-all-coaccessible .before in
     let at-reached = at-if1 .before in
-    let at-numbered = at-reached .before in
-    let start = at-numbered .before .before .before in
+    let at-ruled = at-reached .before in
+    let start = at-ruled .before .before .before in
     not-refused (viewed (start .args .classes .now) (start .args .transitions .now) (start .args .n) (start .args
     .count)) ((at-reached .reached .ensures (start .args .classes .now))) (at-if1 .if1 .left)
-    (at-all-coaccessible .all-coaccessible .ensures) (at-if2 .if2 .left) (at-acyclic .acyclic .ensures (start
+    (at-all-coaccessible .all-coaccessible .ensures) (at-if2 .if2 .left) (at-loopless .loopless .ensures (start
     .args .classes .now)) (at-if3 .if3 .left) (at-all-distinguishable-useful .all-distinguishable-useful
-    .ensures) (c .before .if4 .left) ((at-numbered .numbered .ensures (start .args .classes .now))) (c .if5
+    .ensures) (c .before .before .if4 .left) ((at-ruled .ruled .ensures .0 (start .args .classes .now))) (c .if5
     .left)
 
 pub automaton-refusal-spec : {M : Type 1} → statement M
 automaton-refusal-spec =
     tie.close
     (tie.spec
-    numbered-requires
+    ruled-requires
     reached-requires
     returns
     all-coaccessible-requires
     returns-2
-    acyclic-requires
+    loopless-requires
     returns-3
     all-distinguishable-useful-requires
     returns-4

@@ -2,52 +2,37 @@
 use mathlib.Core.Path.{_∙_, ap, ap₂, subst, sym}
 use Rattle.fields.proofs.Transitions.{part-body}
 use Rattle.listing.proofs.Checks.{kept}
-use Rattle.intake.proofs.Checks.{content-rest, refused-7, refused-8, table-runs, table-rises, table-seen}
+use Rattle.intake.proofs.Checks.{content-rest, refused-7, refused-8, table-padded, table-rises, table-seen}
 use Rattle.intake.proofs.Checks.{table-answer}
 use borrow.Author.Needs.{needs}
 use Rattle.intake.proofs.content_refusal.Statement.{statement}
 use Rattle.intake.proofs.content_refusal.Tie as tie
-use Rattle.intake.proofs.content_refusal.Reads as reads
-use Rattle.intake.proofs.content_refusal.Lts as lts
-use Rattle.fields.proofs.layout_fits.Reads as layout-fits-reads
-use Rattle.fields.proofs.rises.Reads as rises-reads
-use Rattle.fields.proofs.transition_count.Reads as transition-count-reads
-use Rattle.format.proofs.wide.Reads as wide-reads
-use Rattle.intake.proofs.automaton_refusal.Reads as automaton-refusal-reads
 
--- src/lib.rt:84:9
 layout-fits-requires : tie.Need-layout-fits-requires
 layout-fits-requires c κs = search needs
 
--- src/lib.rt:85:9
 returns : tie.Need-returns
 returns c =
     refused-7 ((c .before .before .before .args .table .now)) (c .before .layout-fits .ensures) (c .if1 .taken)
 
--- src/lib.rt:87:9
 transition-count-requires : tie.Need-transition-count-requires
 transition-count-requires c κs = search needs
 
--- src/lib.rt:88:15
 sub-rises : tie.Need-sub-rises
 sub-rises c = search needs
 
--- src/lib.rt:88:15
 part-rises-start : tie.Need-part-rises-start
 part-rises-start c = search needs
 
--- src/lib.rt:88:15
 part-rises-end : tie.Need-part-rises-end
 part-rises-end c = search needs
 
--- src/lib.rt:88:9
 rises-requires : tie.Need-rises-requires
 rises-requires c κs =
-    table-runs ((c .before .before .before .before .before .args .table .now)) (c .before .before .before .before
+    table-padded ((c .before .before .before .before .before .args .table .now)) (c .before .before .before .before
     .before .pre) (kept (c .before .before .before .layout-fits .ensures) (c .before .before .if1 .left)) (c
     .before .transition-count .ensures .0)
 
--- src/lib.rt:89:9
 returns-2 : tie.Need-returns-2
 returns-2 c =
     refused-8 ((c .before .before .before .before .before .before .before .args .table .now)) (c .before .before
@@ -55,27 +40,21 @@ returns-2 c =
     ((c .before .before .before .before .before .before .before .args .table .now)) (c .before .before .before
     .transition-count .ensures .0) (c .before .rises .ensures)) (c .if2 .taken)
 
--- src/lib.rt:91:18
 shared-slice-read-wide : tie.Need-shared-slice-read-wide
 shared-slice-read-wide c = search needs
 
--- src/lib.rt:91:9
 wide-requires : tie.Need-wide-requires
 wide-requires c κs = search needs
 
--- src/lib.rt:92:30
 sub-automaton-refusal : tie.Need-sub-automaton-refusal
 sub-automaton-refusal c = search needs
 
--- src/lib.rt:92:30
 part-automaton-refusal-start : tie.Need-part-automaton-refusal-start
 part-automaton-refusal-start c = search needs
 
--- src/lib.rt:92:30
 part-automaton-refusal-end : tie.Need-part-automaton-refusal-end
 part-automaton-refusal-end c = search needs
 
--- src/lib.rt:92:5
 automaton-refusal-requires : tie.Need-automaton-refusal-requires
 automaton-refusal-requires c κs =
     table-seen ((c .before .before .before .before .before .before .before .before .before .before .args .table
@@ -87,7 +66,6 @@ automaton-refusal-requires c κs =
     .before .before .before .transition-count .ensures .0) (c .before .before .before .before .rises .ensures))
     (c .before .before .before .if2 .left))
 
--- src/lib.rt:80:1
 returns-3 : tie.Need-returns-3
 returns-3 c =
     table-answer ((c .before .before .before .before .before .before .before .before .before .before .before .args

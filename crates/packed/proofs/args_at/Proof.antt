@@ -1,9 +1,8 @@
--- `packed::args_at` meets its contract: each byte is one digit more.
-use mathlib.Core.Path.{refl}
-use Prim.Native.Nat.{_+_, _-_}
+-- `packed::args_at` meets its contract: each place is one digit more.
+use Prim.Native.Nat.{_-_}
 use native.Mathlib.Omega.{arith}
 use borrow.Author.Needs.{needs}
-use Rattle.format.specs.Format.{argsAt, maxArity}
+use Rattle.format.specs.Format.{maxArity}
 use Rattle.packed.specs.Packed.{packedAt}
 use Rattle.table.specs.Layout.{argOf}
 use Rattle.packed.proofs.Digits.{DigitsFrom, digits-end, digits-next, digits-room, digits-start}
@@ -20,30 +19,14 @@ loop-holds : tie.Need-loop-holds Inv-loop μ-loop
 unfolding packedAt
 loop-holds c = digits-start (argOf (c .before .args .transitions .now) (c .before .args .at))
 
+arg-of-requires : tie.Need-arg-of-requires Inv-loop μ-loop
+arg-of-requires c κs = search needs
+
 mul-v : tie.Need-mul-v Inv-loop μ-loop
-mul-v c = omega (arith, digits-room (c .before .loop .inv) (omega arith))
-
-add-word : tie.Need-add-word Inv-loop μ-loop
-add-word c = search needs
-
-add-word-2 : tie.Need-add-word-2 Inv-loop μ-loop
-add-word-2 c = search needs
-
-shared-slice-read-word : tie.Need-shared-slice-read-word Inv-loop μ-loop
-shared-slice-read-word c = search needs
-
-word-requires : tie.Need-word-requires Inv-loop μ-loop
-word-requires c κs = search needs
+mul-v c = omega (arith, digits-room (c .before .before .loop .inv) (omega arith))
 
 add-v : tie.Need-add-v Inv-loop μ-loop
-add-v c =
-    let start = c .before .before .before .before .before in
-    let loop = c .before .before .before .loop in
-    omega (
-      arith,
-      digits-room (loop .inv) (omega arith),
-      c .before .shared-slice-known2 .given (start .args .at + argsAt + loop .k),
-    )
+add-v c = omega (arith, digits-room (c .before .before .loop .inv) (omega arith), c .arg-of .ensures .1)
 
 add-k : tie.Need-add-k Inv-loop μ-loop
 add-k c = search needs
@@ -53,10 +36,8 @@ loop-less c = search needs
 
 loop-again : tie.Need-loop-again Inv-loop μ-loop
 loop-again c =
-    let start = c .before .before .before .before .before in
-    let loop = c .before .before .before .loop in
-    digits-next (loop .inv) (omega arith) (c .word .ensures)
-    (omega (arith, c .before .shared-slice-known2 .given (start .args .at + argsAt + loop .k)))
+    let q = c .arg-of .ensures in
+    digits-next (c .before .before .loop .inv) (omega arith) (q .0) (omega (arith, q .0, q .1))
 
 returns : tie.Need-returns Inv-loop μ-loop
 returns c = digits-end (c .before .loop .inv) (omega arith)
@@ -68,11 +49,8 @@ args-at-spec =
     Inv-loop
     μ-loop
     loop-holds
+    arg-of-requires
     mul-v
-    add-word
-    add-word-2
-    shared-slice-read-word
-    word-requires
     add-v
     add-k
     loop-less

@@ -1,39 +1,36 @@
 -- `packed::meta_at` meets its contract: two bytes.
 use Prim.Native.Nat.{_+_}
 use native.Mathlib.Omega.{arith}
-use borrow.Author.Needs.{needs}
 use Rattle.format.specs.Format.{arityAt}
+use borrow.Author.Needs.{needs}
 use Rattle.packed.proofs.meta_at.Statement.{statement}
 use Rattle.packed.proofs.meta_at.Tie as tie
 
-add-word : tie.Need-add-word
-add-word c = search needs
+arity-of-requires : tie.Need-arity-of-requires
+arity-of-requires c κs = search needs
 
-shared-slice-read-word : tie.Need-shared-slice-read-word
-shared-slice-read-word c = search needs
-
-word-requires : tie.Need-word-requires
-word-requires c κs = search needs
+label-of-requires : tie.Need-label-of-requires
+label-of-requires c κs = search needs
 
 mul-result : tie.Need-mul-result
 mul-result c =
-    omega (arith, c .word .ensures, c .before .shared-slice-known2 .given (c .before .before .before .args .at + arityAt))
+    omega (
+      arith,
+      c .before .arity-of .ensures,
+      c .label-of .ensures .1,
+      c .before .before .shared-slice-known .given (c .before .before .before .args .at + arityAt),
+    )
 
-shared-slice-read-word-2 : tie.Need-shared-slice-read-word-2
-shared-slice-read-word-2 c = search needs
-
-word-requires-2 : tie.Need-word-requires-2
-word-requires-2 c κs = search needs
+cast-result : tie.Need-cast-result
+cast-result c = search needs
 
 add-result : tie.Need-add-result
 add-result c =
-    let start = c .before .before .before .before .before in
     omega (
       arith,
-      c .before .before .word .ensures,
-      c .word2 .ensures,
-      c .before .before .before .shared-slice-known2 .given (start .args .at + arityAt),
-      c .before .before .before .shared-slice-known2 .given (start .args .at),
+      c .before .arity-of .ensures,
+      c .label-of .ensures .1,
+      c .before .before .shared-slice-known .given (c .before .before .before .args .at + arityAt),
     )
 
 returns : tie.Need-returns
@@ -42,12 +39,4 @@ returns c = search needs
 pub meta-at-spec : {M : Type 1} → statement M
 meta-at-spec =
     tie.close
-    (tie.spec
-    add-word
-    shared-slice-read-word
-    word-requires
-    mul-result
-    shared-slice-read-word-2
-    word-requires-2
-    add-result
-    returns)
+    (tie.spec arity-of-requires label-of-requires mul-result cast-result add-result returns)

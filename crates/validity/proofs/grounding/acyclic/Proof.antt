@@ -4,8 +4,8 @@ use Rattle.validity.proofs.Rising.{ranks-acyclic}
 use Rattle.validity.proofs.grounding.acyclic.Statement.{statement}
 use Rattle.validity.proofs.grounding.acyclic.Tie as tie
 
-numbers-requires : tie.Need-numbers-requires
-numbers-requires c κs = search needs
+depth-first-requires : tie.Need-depth-first-requires
+depth-first-requires c κs = search needs
 
 ranks-rise-requires : tie.Need-ranks-rise-requires
 ranks-rise-requires c κs = search needs
@@ -13,38 +13,17 @@ ranks-rise-requires c κs = search needs
 returns : tie.Need-returns
 returns c =
     let start = c .before .before .before .before .before in
-    let at-numbers = c .before .before .before in
-    ranks-acyclic (start .args .transitions .now) (start .args .n) (start .args .count) (at-numbers .numbers .result)
-    (start .pre .0) (c .before .ranks-rise .ensures) (c .if1 .taken)
-
-depth-first-requires : tie.Need-depth-first-requires
-depth-first-requires c κs = search needs
-
-ranks-rise-requires-2 : tie.Need-ranks-rise-requires-2
-ranks-rise-requires-2 c κs = search needs
-
-returns-2 : tie.Need-returns-2
-returns-2 c =
-    let start = c .before .before .before .before .before .before .before .before .before in
     let at-depth-first = c .before .before .before in
     ranks-acyclic (start .args .transitions .now) (start .args .n) (start .args .count)
-    (at-depth-first .depth-first .result) (start .pre .0) (c .before .ranks-rise2 .ensures) (c .if2 .taken)
+    (at-depth-first .depth-first .result) (start .pre .0) (c .before .ranks-rise .ensures) (c .if1 .taken)
 
 all-grounded-requires : tie.Need-all-grounded-requires
 all-grounded-requires c κs = search needs
 
-returns-3 : tie.Need-returns-3
-returns-3 c = search needs
+returns-2 : tie.Need-returns-2
+returns-2 c = search needs
 
 pub acyclic-spec : {M : Type 1} → statement M
 acyclic-spec =
     tie.close
-    (tie.spec
-    numbers-requires
-    ranks-rise-requires
-    returns
-    depth-first-requires
-    ranks-rise-requires-2
-    returns-2
-    all-grounded-requires
-    returns-3)
+    (tie.spec depth-first-requires ranks-rise-requires returns all-grounded-requires returns-2)

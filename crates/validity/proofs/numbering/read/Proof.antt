@@ -19,13 +19,13 @@ out-of-requires c κs = search needs
 returns : tie.Need-returns
 returns c =
     let start = c .before .before .before .before in (
-      read-low (start .args .transitions .now) (start .args .i) (start .args .seen .now) (start .pre .1 .0)
-          (start .pre .1 .1 .0) (omega (
+      read-low (start .args .transitions .now) (start .args .i) (start .args .seen .now) (start .pre .1 .1 .0)
+          (start .pre .1 .1 .1 .0) (omega (
             arith,
             c .before .before .top-argument .ensures,
             c .before .out-of .ensures .0,
           )),
-      start .pre .1 .1 .1,
+      start .pre .1 .1 .1 .1,
     )
 
 add-all-seen : tie.Need-add-all-seen
@@ -40,9 +40,9 @@ returns-2 c =
     let t = c .before .before .before .before .before .top-argument .ensures in
     let o = c .before .before .before .before .out-of .ensures .0 in
     let e = sym (c .before .all-seen .ensures) ∙ not-true _ (c .if2 .taken) in (
-      read-broken (start .args .transitions .now) (start .args .i) (start .args .seen .now) (start .pre .1 .0)
-          (start .pre .1 .1 .0) (rw (t, o) at e),
-      start .pre .1 .1 .1,
+      read-broken (start .args .transitions .now) (start .args .i) (start .args .seen .now) (start .pre .1 .1 .0)
+          (start .pre .1 .1 .1 .0) (rw (t, o) at e),
+      start .pre .1 .1 .1 .1,
     )
 
 add-seen : tie.Need-add-seen
@@ -60,11 +60,11 @@ returns-3 c =
     let t = c .before .before .before .before .before .top-argument .ensures in
     let o = c .before .before .before .before .out-of .ensures .0 in
     let e = sym (c .before .all-seen .ensures) ∙ not-false _ (c .if2 .left) in (
-      rw (t, o) (read-next (start .args .transitions .now) (start .args .i) (start .args .seen .now) (start .pre .1 .0)
-          (start .pre .1 .1 .0) (omega (arith, t, o)) (omega (arith, o)) (rw (t, o) at e)),
+      rw (t, o) (read-next (start .args .transitions .now) (start .args .i) (start .args .seen .now) (start .pre .1 .1 .0)
+          (start .pre .1 .1 .1 .0) (omega (arith, t, o)) (omega (arith, o)) (rw (t, o) at e)),
       spans-next (start .args .seen .now) (c .before .before .before .before .before .top-argument .result)
-          (c .before .before .before .before .out-of .result) (start .pre .1 .0) (omega arith) (omega arith) e
-          (start .pre .1 .1 .1),
+          (c .before .before .before .before .out-of .result) (start .pre .1 .1 .0) (omega arith) (omega arith) e
+          (start .pre .1 .1 .1 .1),
     )
 
 pub read-spec : {M : Type 1} → statement M

@@ -1,27 +1,26 @@
--- `validity::numbering::top_argument` meets its contract: the greatest argument is that of the ones read
--- and the ones left.
-use mathlib.Core.Path.{_≡_}
+-- `validity::numbering::top_argument` meets its contract: the greatest place is that of the ones read and the
+-- ones left.
+use mathlib.Core.List.{map}
+use mathlib.Core.Path.{_∙_}
 use Prim.Native.Nat.{_-_}
 use native.Mathlib.Omega.{arith}
 use borrow.Author.Needs.{needs}
 use Rattle.automata.specs.Numbered.{top}
-use Rattle.table.specs.Layout.{argOf, arityOf, transitionAt}
-use Rattle.validity.proofs.Arguments.{TopFrom, top-end, top-next, top-start}
+use Rattle.format.specs.Format.{maxArity}
+use Rattle.lists.specs.Positions.{upFrom}
+use Rattle.table.specs.Layout.{argOf}
+use Rattle.validity.proofs.Arguments.{TopFrom, top-end, top-next, top-places, top-start}
 use Rattle.validity.proofs.numbering.top_argument.Statement.{statement}
 use Rattle.validity.proofs.numbering.top_argument.Tie as tie
 
 abbrev Inv-loop : tie.InvT-loop
-Inv-loop run at arity t₀ k₀ t k =
-    (arity ≡ arityOf run at) × TopFrom (top (transitionAt run at .args)) (argOf run at) (arityOf run at) t k
+Inv-loop run at t₀ k₀ t k = TopFrom (top (map (argOf run at) (upFrom 0 maxArity))) (argOf run at) maxArity t k
 
 abbrev μ-loop : tie.MeasureT-loop
-μ-loop run at arity t₀ k₀ t k = arity - k
-
-arity-of-requires : tie.Need-arity-of-requires Inv-loop μ-loop
-arity-of-requires c κs = search needs
+μ-loop run at t₀ k₀ t k = maxArity - k
 
 loop-holds : tie.Need-loop-holds Inv-loop μ-loop
-loop-holds c = (c .arity-of .ensures, top-start)
+loop-holds c = top-start
 
 arg-of-requires : tie.Need-arg-of-requires Inv-loop μ-loop
 arg-of-requires c κs = search needs
@@ -38,10 +37,12 @@ loop-less c = search needs
 loop-again : tie.Need-loop-again Inv-loop μ-loop
 loop-again c =
     let now = c .before .before .before .loop in
-    (now .inv .0, rw (c .greater .ensures, c .before .arg-of .ensures .0) (top-next (now .inv .1) (omega arith)))
+    rw (c .greater .ensures, c .before .arg-of .ensures .0) (top-next (now .inv) (omega arith))
 
 returns : tie.Need-returns Inv-loop μ-loop
-returns c = top-end (c .before .loop .inv .1) (omega arith)
+returns c =
+    let start = c .before .before .before in
+    top-end (c .before .loop .inv) (omega arith) ∙ top-places (start .args .transitions .now) (start .args .at) (start .pre .1)
 
 pub top-argument-spec : {M : Type 1} → statement M
 top-argument-spec =
@@ -49,7 +50,6 @@ top-argument-spec =
     (tie.spec
     Inv-loop
     μ-loop
-    arity-of-requires
     loop-holds
     arg-of-requires
     greater-requires

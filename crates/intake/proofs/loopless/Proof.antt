@@ -1,0 +1,20 @@
+-- `intake::loopless` meets its contract: states in the order of their numbers come back to none.
+use Rattle.validity.proofs.Rising.{climbing-acyclic}
+use borrow.Author.Needs.{needs}
+use Rattle.intake.proofs.loopless.Statement.{statement}
+use Rattle.intake.proofs.loopless.Tie as tie
+
+returns : tie.Need-returns
+returns c =
+    let start = c .before .before in
+    climbing-acyclic (start .args .transitions .now) (start .args .n) (start .args .count) (start .pre .0)
+    (start .pre .1 .1 (c .if1 .taken))
+
+acyclic-requires : tie.Need-acyclic-requires
+acyclic-requires c κs = search needs
+
+returns-2 : tie.Need-returns-2
+returns-2 c = search needs
+
+pub loopless-spec : {M : Type 1} → statement M
+loopless-spec = tie.close (tie.spec returns acyclic-requires returns-2)
