@@ -1,52 +1,21 @@
--- Digits of one number: a loop that takes them, and how two numbers compare by theirs.
+-- How two numbers compare by their digits.
 use mathlib.Core.Bool.{Bool, _&&_, _||_, false, true}
 use mathlib.Core.List.{List, map}
 use mathlib.Core.Path.{_∙_, _≡_, ap, refl, sym}
 use Prim.Native.Nat.{_*_, _+_, _-_, _<_, _≤_, _^_, suc, zero, ℕ}
-use native.Mathlib.Numerals.{add-one}
 use native.Mathlib.Omega.{arith}
 use lib.Dec.{eqb, ltb}
-use lib.Pow.{pow-add, pow-mono}
+use lib.Pow.{pow-add}
 use borrow.Author.Tests.{eq-eqb, eqb-false, eqb-true, le-ltb, lt-ltb, ltb-false, ltb-true, ne-eqb}
 use Rattle.automata.specs.Order.{lex}
-use Rattle.format.specs.Format.{byteValues, maxArity}
+use Rattle.format.specs.Format.{byteValues}
 use Rattle.lists.specs.Positions.{upFrom}
 use Rattle.packed.specs.Packed.{digits}
 use Rattle.fields.proofs.Searching.{lex-agrees, lex-differs}
 
--- ---- a loop that takes digits
-
--- a loop at k that takes eight digits: r is what they all make, v what they make so far
-pub record DigitsFrom (r : ℕ) (f : ℕ → ℕ) (v k : ℕ) : Type 0 where
-  pub within : k ≤ maxArity
-  pub small : v < 2 ^ (8 * k)
-  pub left : r ≡ digits f k (maxArity - k) v
-
-pub digits-start : (f : ℕ → ℕ) → DigitsFrom (digits f 0 maxArity 0) f 0 0
-digits-start f = record { within = omega arith; small = omega arith; left = refl }
-
 -- one digit more
 pub digit-more : (k : ℕ) → 2 ^ (8 * suc k) ≡ 2 ^ (8 * k) * byteValues
 digit-more k = let e : 8 * suc k ≡ 8 * k + 8 = omega arith in ap (λ n. 2 ^ n) e ∙ pow-add 2 (8 * k) 8
-
-module _ {r : ℕ} {f : ℕ → ℕ} {v k : ℕ} (inv : DigitsFrom r f v k) (h : k < maxArity) where
-  -- there is room for one digit more
-  pub digits-room : v < 2 ^ 56
-  digits-room = omega (arith, inv .small, pow-mono {i = 8 * k} {j = 56} (omega arith))
-
-  pub digits-next : {x : ℕ} → x ≡ f k → f k < byteValues → DigitsFrom r f (byteValues * v + x) (k + 1)
-  digits-next e l = record {
-    within = omega arith;
-    small = rw (add-one k) (omega (arith, inv .small, digit-more k));
-    left =
-        let d : maxArity - k ≡ suc (maxArity - (k + 1)) = omega arith in
-        inv .left ∙ rw (d, e, add-one k);
-  }
-
-pub digits-end : {r : ℕ} {f : ℕ → ℕ} {v k : ℕ} → DigitsFrom r f v k → maxArity ≤ k → v ≡ r
-digits-end {r} {f} {v} {k} inv h = let e : maxArity - k ≡ 0 = omega arith in sym (inv .left ∙ rw e)
-
--- ---- comparison
 
 pub digits-same : (f g : ℕ → ℕ) (k n v : ℕ) → ((j : ℕ) → k ≤ j → j < k + n → f j ≡ g j) →
     digits f k n v ≡ digits g k n v

@@ -1,34 +1,46 @@
-// Transitions as two numbers, read from their bytes each time: the eight places for arguments are one load and a byte
-// swap. Two transitions are compared by two comparisons of numbers.
+// Transitions as two numbers, read from their bytes each time. Two transitions are compared by two comparisons of
+// numbers.
 mod layout; // condition 7
 
 ghost use mathlib.Core.Path.{_≡_};
-ghost use Prim.Native.Nat.{_+_, _≤_};
+ghost use Prim.Native.Nat.{_*_, _+_, _<_, _^_, _≤_};
 ghost use lib.ListN.{length};
 ghost use Rattle.automata.specs.Order.{rising};
-ghost use Rattle.format.specs.Format.{transitionBytes};
-ghost use Rattle.table.specs.Layout.{transitionsIn};
+ghost use Rattle.format.specs.Format.{byteValues, maxArity, transitionBytes};
+ghost use Rattle.table.specs.Layout.{argOf, transitionsIn};
 ghost use Rattle.packed.specs.Packed.{HoldsPadded, before, metaAt, packedAt};
 use fields::arg_of;
 use fields::arity_of;
 use fields::label_of;
-use format::MAX_ARITY;
 use format::TRANSITION_BYTES;
 pub use layout::layout_fits;
 
-// The eight places for arguments of the transition that starts at a byte, the first the highest.
+// A number and, as its next digit to base 256, argument k of the transition that starts at a byte.
+fn with_arg(v: u64, transitions: &[u8], at: usize, k: usize) -> u64
+    requires { ⌜ at + transitionBytes ≤ length (now transitions) ⌝ }
+    requires { ⌜ k < maxArity ⌝ }
+    requires { ⌜ v < 2 ^ 56 ⌝ }
+    ensures { λ r. ⌜ r ≡ byteValues * v + argOf (now (transitions .entry)) at k ⌝ }
+    ensures { λ r. ⌜ r < byteValues * v + byteValues ⌝ }
+{
+    let q = arg_of(transitions, at, k);
+    256 * v + q as u64
+}
+
+// The eight places for arguments of the transition that starts at a byte, the first the highest. Written out, the
+// bytes become one load and a byte swap; a loop does not.
 pub fn args_at(transitions: &[u8], at: usize) -> u64
     requires { ⌜ at + transitionBytes ≤ length (now transitions) ⌝ }
     ensures { λ r. ⌜ r ≡ packedAt (now (transitions .entry)) at ⌝ }
 {
-    let mut v = 0u64;
-    let mut k = 0;
-    while k < MAX_ARITY {
-        let q = arg_of(transitions, at, k);
-        v = 256 * v + q as u64;
-        k += 1;
-    }
-    v
+    let v = with_arg(0, transitions, at, 0);
+    let v = with_arg(v, transitions, at, 1);
+    let v = with_arg(v, transitions, at, 2);
+    let v = with_arg(v, transitions, at, 3);
+    let v = with_arg(v, transitions, at, 4);
+    let v = with_arg(v, transitions, at, 5);
+    let v = with_arg(v, transitions, at, 6);
+    with_arg(v, transitions, at, 7)
 }
 
 // The child count and the label, the child count higher.
