@@ -1,20 +1,19 @@
 -- The rules of the marks against the pairs that some context separates: these are closed under the rules, and
 -- marks that are closed and have the seeds have every such pair.
-use mathlib.Core.Bool.{Bool, Bool·beq, _||_, not, true}
+use mathlib.Core.Bool.{Bool, Bool·beq, not, true}
 use mathlib.Core.List.{List, [], _++_, _∷_}
 use mathlib.Core.Logic.{_⊎_, inl, inr}
 use mathlib.Core.Path.{_∙_, _≡_, ap, refl, subst, subst₂, sym}
 use Prim.Native.Nat.{_%_, _*_, _+_, _-_, _/_, _<_, _≤_, suc, ℕ}
 use native.Mathlib.Omega.{arith}
-use lib.Dec.{eqb}
 use lib.ListN.{length}
 use Rattle.automata.specs.Automaton.{Automaton, Fits, Transition, accepting, states, step}
-use Rattle.automata.specs.Distinguishable.{Slot, allDistinguishable, distinguishable, distinguishablePairs}
+use Rattle.automata.specs.Distinguishable.{Slot, distinguishable, distinguishablePairs}
 use Rattle.automata.specs.Distinguishable.{distinguishableRule, pairs, slots, stepSlot}
 use Rattle.automata.specs.Order.{rising}
 use Rattle.automata.specs.Valid.{statesInRange}
-use Rattle.distinguish.specs.Separating.{MarksOf, Seed, SeedRow, Separate, allApart, nthSeparate, pairAt, slotAt}
-use Rattle.distinguish.specs.Separating.{stepAt, apart}
+use Rattle.distinguish.specs.Separating.{MarksOf, Seed, SeedRow, Separate, nthSeparate, pairAt, slotAt}
+use Rattle.distinguish.specs.Separating.{stepAt}
 use Rattle.fields.specs.View.{Viewed, viewed}
 use Rattle.format.specs.Format.{transitionBytes}
 use Rattle.lists.specs.Closure.{elem}
@@ -30,8 +29,8 @@ use Rattle.automata.proofs.Symmetry.{separated-sym, zero-not-separated}
 use Rattle.automata.proofs.Valid.{ranged-fits}
 use Rattle.distinguish.proofs.Slots.{args-around, slot-is}
 use Rattle.lists.proofs.Closure.{closed, closure-all}
-use Rattle.lists.proofs.Positions.{eqPair-same, eqPair-true, in-grid, in-upFrom, upFrom-in}
-use Rattle.lists.proofs.Tests.{any-in, every-same-in, in-any, none-zero, or-cases, or-left, or-right, same-test}
+use Rattle.lists.proofs.Positions.{eqPair-same, eqPair-true, in-grid, in-upFrom}
+use Rattle.lists.proofs.Tests.{any-in, in-any, none-zero, or-cases, or-left, or-right, same-test}
 use Rattle.fields.proofs.Views.{viewed-arg, viewed-classes, viewed-ranged, viewed-states}
 use Rattle.table.proofs.Decoded.{in-transitionsIn, transitionsIn-in}
 
@@ -241,18 +240,3 @@ module _ (cl s : List ℕ) (n c : ℕ) (view : Viewed cl s n c) (rises : rising 
           same-test (marked m (pairAt p q)) (distinguishable (viewed cl s n c) p q)
           (λ e. sym (separated-at cl s n c view rises p q (omega (arith, view .states))) ∙ within (pairAt p q) e)
           (separated-marked cl s n c view rises (marked m) separate own none p q)
-
--- all pairs of different states are marked exactly when condition 12 holds
-pub all-apart : (cl s m : List ℕ) (n c : ℕ) → MarksOf m (viewed cl s n c) →
-    allApart m n ≡ allDistinguishable (viewed cl s n c)
-unfolding allApart
-all-apart cl s m n c k =
-    ap (λ (j : ℕ). every (λ p. every (apart m p) (upFrom 1 j)) (upFrom 1 j)) (sym (viewed-states cl s n c))
-    ∙ every-same-in (λ p. every (apart m p) (upFrom 1 (states A)))
-    (λ p. every (λ q. eqb p q || distinguishable A p q) (upFrom 1 (states A))) (upFrom 1 (states A))
-    (λ p i. every-same-in (apart m p) (λ q. eqb p q || distinguishable A p q) (upFrom 1 (states A))
-    (λ q j. ap (λ (b : Bool). eqb p q || b) (k .marks p q
-    (omega (arith, upFrom-in 1 (states A) p i)) (omega (arith, upFrom-in 1 (states A) q j)))))
-  where
-    A : Automaton
-    A = viewed cl s n c

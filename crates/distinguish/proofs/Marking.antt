@@ -1,21 +1,20 @@
 -- Laws that the functions' proofs cite: tests of marks, one new mark, and how rules are met.
 use mathlib.Core.Bool.{Bool, Bool·beq, _&&_, _||_, false, false≢true, not, true, true≢false}
-use mathlib.Core.List.{List, [], _++_, _∷_, map}
+use mathlib.Core.List.{List, [], _++_, _∷_}
 use mathlib.Core.Logic.{_≢_, _⊎_, inl, inr}
 use mathlib.Core.Path.{_∙_, _≡_, ap, ap₂, refl, subst, subst₂, sym}
 use Prim.Native.Nat.{_*_, _+_, _-_, _<_, _≤_, suc, zero, ℕ}
 use native.Mathlib.Omega.{arith}
 use lib.Dec.{eqb}
 use lib.ListN.{getD, length, set}
-use borrow.Author.Tests.{eq-eqb, ne-eqb, not-false, not-true}
+use borrow.Author.Tests.{ne-eqb, not-false, not-true}
 use Rattle.automata.specs.Automaton.{Automaton, accepting, lookup}
 use Rattle.distinguish.specs.Separating.{Seed, Separate, eitherWay, pairAt, slotAt, stepAt}
-use Rattle.distinguish.specs.Separating.{apart, unmarked}
+use Rattle.distinguish.specs.Separating.{unmarked}
 use Rattle.fields.specs.Entries.{HasFields, putAt}
 use Rattle.fields.specs.Fields.{HoldsTransitionsOver}
 use Rattle.fields.specs.View.{viewed}
 use Rattle.format.specs.Format.{bytePairs, maxArity, transitionBytes}
-use Rattle.lists.specs.Positions.{upFrom}
 use Rattle.lists.specs.Tests.{_∈_, any}
 use Rattle.marking.specs.Marks.{marked, nonzero}
 use Rattle.table.specs.Layout.{argOf, arityOf, labelOf, outOf, transitionAt, transitionsIn}
@@ -47,12 +46,6 @@ either-first m x y e = rw (nonzero-true _ e)
 pub either-rest : (m : List ℕ) (x y : ℕ) → getD m (pairAt x y) 0 ≡ 0 →
     not (eqb (getD m (pairAt y x) 0) 0) ≡ eitherWay (marked m) x y
 either-rest m x y e = rw (nonzero-false _ e) (unequal-marked (getD m (pairAt y x) 0))
-
-pub separated-same : (m : List ℕ) (p q : ℕ) → p ≡ q → true ≡ apart m p q
-separated-same m p q e = rw (eq-eqb p q e)
-
-pub separated-other : (m : List ℕ) (p q : ℕ) → p ≢ q → not (eqb (getD m (pairAt p q) 0) 0) ≡ apart m p q
-separated-other m p q e = rw (ne-eqb p q e) (unequal-marked (getD m (pairAt p q) 0))
 
 -- ---- one entry
 

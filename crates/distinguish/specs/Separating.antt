@@ -3,15 +3,13 @@
 use mathlib.Core.Bool.{Bool, Bool·beq, _||_, not, true}
 use mathlib.Core.List.{List, [], map}
 use mathlib.Core.Path.{_≡_}
-use Prim.Native.Nat.{_*_, _+_, _-_, _<_, _≤_, ℕ}
-use lib.Dec.{eqb}
-use lib.ListN.{getD, length, replicate}
+use Prim.Native.Nat.{_*_, _+_, _-_, _≤_, ℕ}
+use lib.ListN.{replicate}
 use Rattle.automata.specs.Automaton.{Automaton, accepting, states}
 use Rattle.automata.specs.Distinguishable.{Slot, distinguishable, stepSlot}
 use Rattle.fields.specs.View.{viewed}
 use Rattle.format.specs.Format.{bytePairs, byteValues, transitionBytes}
 use Rattle.lists.specs.Positions.{upFrom}
-use Rattle.lists.specs.Tests.{every}
 use Rattle.marking.specs.Marks.{marked, marks}
 use Rattle.table.specs.Layout.{argOf, arityOf, labelOf, outOf}
 use Rattle.marking.specs.Spread.{Rule, UpTo}
@@ -67,13 +65,6 @@ Seed A p q r = classesDiffer A p q ≡ true → r (pairAt p q) ≡ true
 -- the marks of pairs of states are those that some context separates
 pub record MarksOf (m : List ℕ) (A : Automaton) : Type 0 where
   pub marks : (p q : ℕ) → p ≤ states A → q ≤ states A → marked m (pairAt p q) ≡ distinguishable A p q
-
--- p is separated from q, or is q
-abbrev pub apart : List ℕ → ℕ → ℕ → Bool
-apart m p q = eqb p q || marked m (pairAt p q)
-
-unfoldable pub allApart : List ℕ → ℕ → Bool
-allApart m n = every (λ p. every (apart m p) (upFrom 1 n)) (upFrom 1 n)
 
 -- p against the states 0 to n
 abbrev pub SeedRow : Automaton → ℕ → ℕ → Rule

@@ -3,8 +3,9 @@ use mathlib.Core.Bool.{Bool, cond, false, true}
 use mathlib.Core.List.{List, [], _++_, _∷_, map}
 use mathlib.Core.Logic.{inl, inr}
 use mathlib.Core.Path.{_∙_, _≡_, ap, ap₂, refl, subst, sym}
-use Prim.Native.Nat.{_%_, _*_, _+_, _-_, _/_, _<_, _^_, _≤_, suc, zero, ℕ}
+use Prim.Native.Nat.{_%_, _*_, _+_, _-_, _<_, _^_, _≤_, suc, zero, ℕ}
 use native.Mathlib.Omega.{arith}
+use lib.Bits.{bitXor}
 use lib.Dec.{eqb}
 use lib.ListN.{getD, length-replicate, length-set, replicate, set}
 use lib.Seq.{getD-set-other, getD-set-same}
@@ -14,19 +15,19 @@ use Rattle.automata.specs.Coaccessible.{coaccessible}
 use Rattle.automata.specs.Distinguishable.{Slot}
 use Rattle.fields.specs.Fields.{HoldsTransitionsOver}
 use Rattle.fields.specs.View.{viewed}
-use Rattle.fingerprints.specs.Fingerprints.{ClassPrints, Gained, Prints, Round, UsefulMarks, cubed, fingerprint}
-use Rattle.fingerprints.specs.Fingerprints.{folded, gain, usefulGain}
-use Rattle.fingerprints.specs.Fingerprints.{gains, mixed, only, base256, places, prime, printOf}
-use Rattle.fingerprints.specs.Fingerprints.{salted, slotValue, total, valueAt}
+use Rattle.fingerprints.specs.Fingerprints.{ClassPrints, FirstRound, Gained, Prints, Round, UsefulMarks}
+use Rattle.fingerprints.specs.Fingerprints.{always, fingerprint, gain, gains, mixed, multiplier, only, places}
+use Rattle.fingerprints.specs.Fingerprints.{printOf, salted, slotValue, spread, total, usefulGain, valueAt, xored}
 use Rattle.format.specs.Format.{byteValues, transitionBytes}
 use Rattle.lists.specs.Positions.{upFrom}
 use Rattle.lists.specs.Tests.{_∈_, bit}
 use Rattle.marking.specs.Marks.{marked}
 use Rattle.table.specs.Layout.{argOf, arityOf, classAt, labelOf, nthTransition, outOf, transitionAt, transitionsIn}
-use Rattle.lists.proofs.Intervals.{getD-zeros, tabulated-suc}
+use Rattle.lists.proofs.Intervals.{getD-zeros}
 use Rattle.lists.proofs.Loops.{upFrom-next, upFrom-none}
 use Rattle.fields.proofs.Views.{viewed-class, viewed-states}
 use Rattle.table.proofs.Decoded.{transitionsIn-in}
+use Rattle.fingerprints.proofs.Arguments.{argsFrom, argsFrom-next, argsFrom-none, argsTo, argsTo-next, without}
 use Rattle.lists.proofs.Filling.{set-next-from}
 
 -- ---- one table of fingerprints from another
@@ -77,50 +78,12 @@ filling-end {g = g} {m = m} h e = record { prints = h .prints; each = λ q. kept
     kept : (q : ℕ) → printOf m q ≡ (printOf m q + g q) % 2 ^ 64
     kept q = let s = h .prints .small q in let z = e q in omega arith
 
--- ---- arguments as numbers
-
-pub folded-last : (l : List ℕ) (p b : ℕ) → folded (l ++ (p ∷ [])) b ≡ (folded l b * 1566083941 + p) % prime
-folded-last [] p b = refl
-folded-last (q ∷ l) p b = folded-last l p ((b * 1566083941 + q) % prime)
-
-abbrev pub radix : ℕ → ℕ
-radix zero = 1
-radix (suc m) = 256 * radix m
-
-radix-rises : (m j : ℕ) → m ≤ j → radix m ≤ radix j
-radix-rises zero zero h = omega arith
-radix-rises zero (suc j) h = omega (arith, radix-rises zero j (omega arith))
-radix-rises (suc m) zero h = absurd (omega arith)
-radix-rises (suc m) (suc j) h = omega (arith, radix-rises m j (omega arith))
-
-pub radix-small : (m : ℕ) → m ≤ 7 → radix m ≤ 72057594037927936
-radix-small m h = radix-rises m 7 h
-
 -- ---- the uses in one transition
 
 module _ (s : List ℕ) (at : ℕ) where
-  -- the arguments from place k on, and those before it
-  abbrev pub argsFrom : ℕ → List ℕ
-  argsFrom k = map (argOf s at) (upFrom k (arityOf s at - k))
-
-  abbrev pub argsTo : ℕ → List ℕ
-  argsTo k = map (argOf s at) (upFrom 0 k)
-
-  pub argsFrom-next : (k : ℕ) → k < arityOf s at → argsFrom k ≡ argOf s at k ∷ argsFrom (k + 1)
-  argsFrom-next k h = ap (map (argOf s at)) (upFrom-next k (arityOf s at) h)
-
-  pub argsFrom-none : (k : ℕ) → arityOf s at ≤ k → argsFrom k ≡ []
-  argsFrom-none k h = ap (map (argOf s at)) (upFrom-none k (arityOf s at) h)
-
-  pub argsTo-next : (k : ℕ) → argsTo (k + 1) ≡ argsTo k ++ (argOf s at k ∷ [])
-  argsTo-next k =
-      let e : k + 1 ≡ suc k = omega arith in
-      let z : 0 + k ≡ k = omega arith in
-      ap argsTo e ∙ tabulated-suc (argOf s at) 0 k ∙ ap (λ (j : ℕ). argsTo k ++ (argOf s at j ∷ [])) z
-
   -- what q gains from place k on
   abbrev pub gainFrom : ℕ → ℕ → ℕ → ℕ
-  gainFrom x k q = total (places (argsFrom k) (argsTo k) (labelOf s at) q) (valueAt x)
+  gainFrom x k q = total (places (argsFrom s at k) (argsTo s at k) (labelOf s at) q) (valueAt x)
 
   pub gain-start : (x q : ℕ) → gainFrom x 0 q ≡ gain (transitionAt s at) x q
   gain-start x q =
@@ -129,62 +92,42 @@ module _ (s : List ℕ) (at : ℕ) where
 
   pub gain-end : (x k q : ℕ) → arityOf s at ≤ k → gainFrom x k q ≡ 0
   gain-end x k q h =
-      ap (λ (r : List ℕ). total (places r (argsTo k) (labelOf s at) q) (valueAt x)) (argsFrom-none k h)
+      ap (λ (r : List ℕ). total (places r (argsTo s at k) (labelOf s at) q) (valueAt x)) (argsFrom-none s at k h)
 
   -- the slot of place k
   abbrev slotOf : ℕ → Slot
-  slotOf k = record { label = labelOf s at; before = argsTo k; after = argsFrom (k + 1) }
+  slotOf k = record { label = labelOf s at; before = argsTo s at k; after = argsFrom s at (k + 1) }
 
   gain-next : (x k q : ℕ) → k < arityOf s at →
       gainFrom x k q ≡ only (argOf s at k) (valueAt x (slotOf k)) q + gainFrom x (k + 1) q
   gain-next x k q h =
-      ap (λ (r : List ℕ). total (places r (argsTo k) (labelOf s at) q) (valueAt x)) (argsFrom-next k h)
+      ap (λ (r : List ℕ). total (places r (argsTo s at k) (labelOf s at) q) (valueAt x)) (argsFrom-next s at k h)
       ∙ go (eqb (argOf s at k) q)
       ∙ ap (λ (l : List ℕ). only (argOf s at k) (valueAt x (slotOf k)) q +
-      total (places (argsFrom (k + 1)) l (labelOf s at) q) (valueAt x)) (sym (argsTo-next k))
+      total (places (argsFrom s at (k + 1)) l (labelOf s at) q) (valueAt x)) (sym (argsTo-next s at k))
     where
       rest : List Slot
-      rest = places (argsFrom (k + 1)) (argsTo k ++ (argOf s at k ∷ [])) (labelOf s at) q
+      rest = places (argsFrom s at (k + 1)) (argsTo s at k ++ (argOf s at k ∷ [])) (labelOf s at) q
 
       go : (b : Bool) → total (cond b (slotOf k ∷ rest) rest) (valueAt x) ≡
           cond b (valueAt x (slotOf k)) 0 + total rest (valueAt x)
       go true = refl
       go false = omega arith
 
-  value-is : (x k : ℕ) {b c t v : ℕ} → b ≡ folded (argsTo k) 1 → c ≡ base256 (argsFrom (k + 1)) →
-      t ≡ salted (labelOf s at) x → v ≡ 2 * cubed (mixed b c t) → v ≡ valueAt x (slotOf k)
+  value-is : (x k : ℕ) {a y m v : ℕ} → k < arityOf s at → a ≡ argOf s at k →
+      y ≡ xored (transitionAt s at .args) 0 (salted (labelOf s at) x) → m ≡ a * multiplier k →
+      v ≡ mixed (bitXor y m) → v ≡ valueAt x (slotOf k)
   unfolding slotValue
-  value-is x k e f g h = h ∙ rw (e, f, g)
+  value-is x k h d e f g =
+      g ∙ ap mixed (ap₂ bitXor e (f ∙ ap (λ (b : ℕ). b * multiplier k) d) ∙ without s at k (salted (labelOf s at) x) h)
 
-  -- a is argument k, and b, c and t are what its slot's value v is made of
-  pub gain-step : (x k : ℕ) {a b c t v : ℕ} → k < arityOf s at → a ≡ argOf s at k → b ≡ folded (argsTo k) 1 →
-      c ≡ base256 (argsFrom (k + 1)) → t ≡ salted (labelOf s at) x → v ≡ 2 * cubed (mixed b c t) → (q : ℕ) →
-      gainFrom x k q ≡ only a v q + gainFrom x (k + 1) q
-  gain-step x k h d e f g w q =
+  -- a is argument k, and y and m are what its slot's value v is made of
+  pub gain-step : (x k : ℕ) {a y m v : ℕ} → k < arityOf s at → a ≡ argOf s at k →
+      y ≡ xored (transitionAt s at .args) 0 (salted (labelOf s at) x) → m ≡ a * multiplier k →
+      v ≡ mixed (bitXor y m) → (q : ℕ) → gainFrom x k q ≡ only a v q + gainFrom x (k + 1) q
+  gain-step x k h d e f g q =
       gain-next x k q h
-      ∙ ap₂ (λ (a v : ℕ). only a v q + gainFrom x (k + 1) q) (sym d) (sym (value-is x k e f g w))
-
-  pub folded-next : (k : ℕ) {b q : ℕ} → b ≡ folded (argsTo k) 1 → q ≡ argOf s at k →
-      (b * 1566083941 + q) % prime ≡ folded (argsTo (k + 1)) 1
-  folded-next k e f =
-      ap₂ (λ (b q : ℕ). (b * 1566083941 + q) % prime) e f ∙ sym (folded-last (argsTo k) (argOf s at k) 1)
-      ∙ ap (λ (l : List ℕ). folded l 1) (sym (argsTo-next k))
-
-  pub packed-whole : (k : ℕ) → k ≡ 0 → base256 (argsFrom k) ≡ base256 (transitionAt s at .args)
-  packed-whole k e =
-      let z : arityOf s at - 0 ≡ arityOf s at = omega arith in
-      ap (λ (j : ℕ). base256 (argsFrom j)) e ∙ ap (λ (n : ℕ). base256 (map (argOf s at) (upFrom 0 n))) z
-
-  pub packed-before : (k : ℕ) → 1 ≤ k → k ≤ arityOf s at → {a b : ℕ} → a ≡ argOf s at (k - 1) →
-      b ≡ base256 (argsFrom k) → a + 256 * b ≡ base256 (argsFrom (k - 1))
-  packed-before k h l e f =
-      let z : k - 1 + 1 ≡ k = omega arith in
-      ap₂ (λ (x y : ℕ). x + 256 * y) e (f ∙ ap (λ (j : ℕ). base256 (argsFrom j)) (sym z))
-      ∙ ap base256 (sym (argsFrom-next (k - 1) (omega arith)))
-
-  pub packed-next : (k : ℕ) → k < arityOf s at → argOf s at k ≤ 255 → base256 (argsFrom k) / 256 ≡
-      base256 (argsFrom (k + 1))
-  packed-next k h l = ap (λ (r : List ℕ). base256 r / 256) (argsFrom-next k h) ∙ omega arith
+      ∙ ap₂ (λ (a v : ℕ). only a v q + gainFrom x (k + 1) q) (sym d) (sym (value-is x k h d e f g))
 
 -- ---- the transitions of a run
 
@@ -223,8 +166,15 @@ module _ (s : List ℕ) (c : ℕ) (u : ℕ → Bool) (h : ℕ → ℕ) where
   pub gains-end : (i : ℕ) → c ≤ i → (q : ℕ) → gainsFrom s c u h i q ≡ 0
   gains-end i l q = ap (λ (js : List ℕ). gains (map (nthTransition s) js) u h q) (upFrom-none i c l)
 
+-- the output's number is o, and x stands for it
+pub first-gain : (s : List ℕ) (i : ℕ) {o x : ℕ} → o ≡ outOf s (transitionBytes * i) → x ≡ spread o →
+    {m m' : List ℕ} → Gained (gain (nthTransition s i) x) m m' →
+    Gained (usefulGain (nthTransition s i) always spread) m m'
+first-gain s i e f {m} {m'} g =
+    subst (λ (x : ℕ). Gained (gain (nthTransition s i) x) m m') (f ∙ ap spread e) g
+
 -- tests that agree on the outputs
-gains-same : (u v : ℕ → Bool) (h : ℕ → ℕ) (q : ℕ) (τs : List Transition) →
+pub gains-same : (u v : ℕ → Bool) (h : ℕ → ℕ) (q : ℕ) (τs : List Transition) →
     ((τ : Transition) → τ ∈ τs → u (τ .out) ≡ v (τ .out)) → gains τs u h q ≡ gains τs v h q
 gains-same u v h q [] e = refl
 gains-same u v h q (τ ∷ τs) e =
@@ -262,23 +212,30 @@ class-end c h = record { prints = c .prints; none = c .none; each = λ p a b. c 
 
 -- ---- a round
 
-pub round-is : (cl s : List ℕ) (n c : ℕ) (u : List ℕ) (h : ℕ → ℕ) {m m' : List ℕ} → HoldsTransitionsOver s c n →
-    UsefulMarks (viewed cl s n c) u → ClassPrints cl n m → Gained (gains (transitionsIn s c) (marked u) h) m m' →
-    Round (viewed cl s n c) h m'
-unfolding fingerprint
-round-is cl s n c u h {m} over useful k g = record {
-  each = λ q b. g .each q ∙ ap₂ (λ (x y : ℕ). (x + y) % 2 ^ 64) (class q (omega (arith, viewed-states cl s n c)))
-      (gains-same (marked u) (coaccessible (viewed cl s n c)) h q (transitionsIn s c)
-      (λ τ i. agree τ (transitionsIn-in s c τ i)));
-}
-  where
-    class : (q : ℕ) → q ≤ n → printOf m q ≡ bit (accepting (viewed cl s n c) q)
-    class zero l = k .none
-    class (suc q) l = k .each (suc q) (omega arith) l ∙ ap bit (sym (viewed-class cl s n c (suc q) (omega arith) l))
+module _ (cl s : List ℕ) (n c : ℕ) {m : List ℕ} (k : ClassPrints cl n m) where
+  class : (q : ℕ) → q ≤ n → printOf m q ≡ bit (accepting (viewed cl s n c) q)
+  class zero l = k .none
+  class (suc q) l = k .each (suc q) (omega arith) l ∙ ap bit (sym (viewed-class cl s n c (suc q) (omega arith) l))
 
-    agree : (τ : Transition) → (i : ℕ) × (i < c) × (τ ≡ nthTransition s i) →
-        marked u (τ .out) ≡ coaccessible (viewed cl s n c) (τ .out)
-    agree τ (i, l, e) =
-        let o : τ .out ≡ outOf s (transitionBytes * i) = ap (λ (υ : Transition). υ .out) e in
-        useful .each (τ .out) (omega (arith, o, over .out-some i l))
-        (omega (arith, o, over .out-state i l, viewed-states cl s n c))
+  pub first-is : {m' : List ℕ} → Gained (gains (transitionsIn s c) always spread) m m' → FirstRound (viewed cl s n c) m'
+  first-is g = record {
+    each = λ q b. g .each q ∙ ap (λ (x : ℕ). (x + gains (transitionsIn s c) always spread q) % 2 ^ 64)
+        (class q (omega (arith, viewed-states cl s n c)));
+  }
+
+  pub round-is : (u : List ℕ) (h : ℕ → ℕ) {m' : List ℕ} → HoldsTransitionsOver s c n →
+      UsefulMarks (viewed cl s n c) u → Gained (gains (transitionsIn s c) (marked u) h) m m' →
+      Round (viewed cl s n c) h m'
+  unfolding fingerprint
+  round-is u h over useful g = record {
+    each = λ q b. g .each q ∙ ap₂ (λ (x y : ℕ). (x + y) % 2 ^ 64) (class q (omega (arith, viewed-states cl s n c)))
+        (gains-same (marked u) (coaccessible (viewed cl s n c)) h q (transitionsIn s c)
+        (λ τ i. agree τ (transitionsIn-in s c τ i)));
+  }
+    where
+      agree : (τ : Transition) → (i : ℕ) × (i < c) × (τ ≡ nthTransition s i) →
+          marked u (τ .out) ≡ coaccessible (viewed cl s n c) (τ .out)
+      agree τ (i, l, e) =
+          let o : τ .out ≡ outOf s (transitionBytes * i) = ap (λ (υ : Transition). υ .out) e in
+          useful .each (τ .out) (omega (arith, o, over .out-some i l))
+          (omega (arith, o, over .out-state i l, viewed-states cl s n c))

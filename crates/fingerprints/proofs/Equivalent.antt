@@ -86,7 +86,8 @@ module _ (A : Automaton) (ranged : statesInRange A ≡ true) (rises : rising (A 
       go false e = refl
 
   -- a useless state is not accepting, and no transition takes it to a useful one
-  useful-by : (q : ℕ) → 1 ≤ q → q ≤ states A → coaccessibleRule A (coaccessible A) q ≡ true → coaccessible A q ≡ true
+  pub useful-by : (q : ℕ) → 1 ≤ q → q ≤ states A → coaccessibleRule A (coaccessible A) q ≡ true →
+      coaccessible A q ≡ true
   useful-by q h l e =
       closed eqb eqb-true eqb-same (coaccessibleRule A) (upFrom 1 (states A)) q
       (in-upFrom 1 (states A) q h (omega arith)) e

@@ -1,5 +1,10 @@
+pub mod Xor
+pub mod Arguments
 pub mod Uses
 pub mod Equivalent
 pub mod AllDiffer
 pub mod OneRound
 pub mod Adding
+pub mod FirstRound
+pub mod Buckets
+pub mod Counting

@@ -1,6 +1,7 @@
 -- If no state comes back to itself one round is enough, whatever the fingerprints before it: from the last states
--- on, states that nothing separates have uses that lead to the same states, and so one fingerprint.
-use mathlib.Core.Bool.{Bool, false, true}
+-- on, states that nothing separates have uses that lead to the same states, and so one fingerprint. Nor is a search
+-- needed for useful states.
+use mathlib.Core.Bool.{Bool, _&&_, _||_, false, false≢true, true}
 use mathlib.Core.List.{List, _∷_}
 use mathlib.Core.Logic.{_⊎_, inl, inr}
 use mathlib.Core.Path.{_∙_, _≡_, ap, refl, subst, sym}
@@ -8,26 +9,32 @@ use Prim.Native.Nat.{_<_, _≤_, suc, zero, ℕ}
 use native.Mathlib.Omega.{arith}
 use lib.Dec.{eqb}
 use lib.ListN.{length}
-use borrow.Author.Tests.{eqb-false, eqb-true}
+use borrow.Author.Tests.{eq-eqb, eqb-false, eqb-true}
 use Rattle.automata.specs.Acyclic.{Feeds, acyclic, leads, once}
-use Rattle.automata.specs.Automaton.{Automaton, states}
+use Rattle.automata.specs.Automaton.{Automaton, Transition, accepting, states}
 use Rattle.automata.specs.Coaccessible.{allCoaccessible, coaccessible}
 use Rattle.automata.specs.Distinguishable.{Slot, allDistinguishable, distinguishable, stepSlot}
 use Rattle.automata.specs.Order.{rising}
 use Rattle.automata.specs.Valid.{statesInRange}
 use Rattle.fingerprints.specs.Fingerprints.{Round, allDiffer, printOf}
+use Rattle.lists.specs.Closure.{elem}
 use Rattle.lists.specs.Positions.{upFrom}
-use Rattle.lists.specs.Tests.{_∈_, filter}
+use Rattle.lists.specs.Tests.{_∈_, every, filter}
 use Rattle.automata.proofs.Leads.{acyclic-iff, leads-before, leads-iff}
 use Rattle.automata.proofs.Valid.{ranged-transition}
-use Rattle.automata.proofs.Symmetry.{separated-sym}
 use Rattle.fingerprints.proofs.Equivalent.{by-use, equal-fingerprint, leadsOn, use-too, used-step}
-use Rattle.fingerprints.proofs.Equivalent.{useful-separated, usefulUses, useless-zero}
-use Rattle.fingerprints.proofs.AllDiffer.{all-differ-separated, differ-apart}
+use Rattle.fingerprints.proofs.Equivalent.{useful-by, usefulUses}
+use Rattle.fingerprints.proofs.AllDiffer.{differ-apart}
 use Rattle.fingerprints.proofs.Uses.{uses, uses-in}
-use Rattle.lists.proofs.Intervals.{every-at}
+use Rattle.lists.proofs.Closure.{in-elem}
+use Rattle.lists.proofs.Intervals.{at-every}
 use Rattle.lists.proofs.Positions.{in-upFrom}
-use Rattle.lists.proofs.Tests.{filter-in, filter-weaker, in-append-right, in-filter}
+use Rattle.lists.proofs.Tests.{and-both, eqb-same, filter-in, filter-weaker, in-any, in-append-right, in-filter}
+use Rattle.lists.proofs.Tests.{or-left, or-right}
+
+-- some transition has q as an argument
+abbrev pub Argument : List Transition → ℕ → Type 0
+Argument τs q = (τ : Transition) × (τ ∈ τs) × (q ∈ τ .args)
 
 module _ (A : Automaton) (ranged : statesInRange A ≡ true) (rises : rising (A .transitions) ≡ true)
     (ac : acyclic A ≡ true) where
@@ -51,15 +58,42 @@ module _ (A : Automaton) (ranged : statesInRange A ≡ true) (rises : rising (A 
           let back = filter-in (leads A o) (upFrom 1 (states A)) o (subst (λ (xs : List ℕ). o ∈ xs) (sym e) there) in
           absurd (acyclic-iff A ranged .0 ac o (leads-iff A ranged o o .0 (back .1)))
 
-  module _ (h : ℕ → ℕ) (m : List ℕ) (round : Round A h m) (all : allDiffer m (states A) ≡ true) where
+  -- states that are accepting or arguments are all useful: some state on the way is accepting
+  module _ (some : (q : ℕ) → 1 ≤ q → q ≤ states A → (accepting A q ≡ true) ⊎ Argument (A .transitions) q) where
+    useful-below : (k p : ℕ) → height p < k → 1 ≤ p → p ≤ states A → coaccessible A p ≡ true
+    useful-below zero p r a b = absurd (omega arith)
+    useful-below (suc k) p r a b = go (some p a b) (λ o l c d. useful-below k o l c d)
+      where
+        go : (accepting A p ≡ true) ⊎ Argument (A .transitions) p →
+            ((o : ℕ) → height o < k → 1 ≤ o → o ≤ states A → coaccessible A o ≡ true) → coaccessible A p ≡ true
+        go (inl e) ih = useful-by A ranged rises p a b (or-left (accepting A p) _ e)
+        go (inr (τ, i, j)) ih =
+            let o = ranged-transition A ranged τ i .out in
+            let l = height-less p (τ .out) (o .0) (o .1) (τ, i, j, refl) in
+            useful-by A ranged rises p a b
+            (or-right (accepting A p) _
+            (in-any (λ υ. coaccessible A (υ .out) && elem eqb p (υ .args)) (A .transitions) τ i
+            (and-both (ih (τ .out) (omega arith) (o .0) (o .1)) (in-elem eqb eqb-true eqb-same p (τ .args) j))))
+
+    pub all-useful-by-uses : allCoaccessible A ≡ true
+    all-useful-by-uses =
+        at-every (coaccessible A) 1 (states A)
+        (λ q a b. useful-below (suc (height q)) q (omega arith) a (omega arith))
+
+  -- two states that nothing separates and whose uses lead to the same states are one
+  abbrev pub Free : Type 0
+  Free = (p q : ℕ) → 1 ≤ p → p ≤ states A → 1 ≤ q → q ≤ states A → (distinguishable A p q ≡ true → ⊥) →
+      ((z : Slot) → z ∈ usefulUses A ranged rises p → stepSlot A z p ≡ stepSlot A z q) → p ≡ q
+
+  module _ (free : Free) where
     -- everything but x itself is separated from x
     abbrev Single : ℕ → Type 0
     Single x = (y : ℕ) → 1 ≤ x → x ≤ states A → 1 ≤ y → y ≤ states A → (distinguishable A x y ≡ true → ⊥) → x ≡ y
 
     single-step : (p : ℕ) → ((o : ℕ) → 1 ≤ o → o ≤ states A → Feeds A p o → Single o) → Single p
-    single-step p ih q a b c e d = go (eqb p q) refl
+    single-step p ih q a b c e d = free p q a b c e d near
       where
-        near : (z : Slot) → z ∈ usefulUses A ranged rises p → h (stepSlot A z p) ≡ h (stepSlot A z q)
+        near : (z : Slot) → z ∈ usefulUses A ranged rises p → stepSlot A z p ≡ stepSlot A z q
         near z i =
             let u = uses-in (A .transitions) p z
             (filter-in (leadsOn A ranged rises p) (uses (A .transitions) p) z i .0) in
@@ -72,33 +106,39 @@ module _ (A : Automaton) (ranged : statesInRange A ≡ true) (rises : rising (A 
             let t = ranged-transition A ranged (v .0) (v .1) .out in
             let j : p ∈ u .0 .args =
             subst (λ (qs : List ℕ). p ∈ qs) (sym (u .2 .1)) (in-append-right (z .before) (p ∷ z .after) p (inl refl)) in
-            ap h (ih (stepSlot A z p) (omega (arith, x, s .0)) (omega (arith, x, s .1)) (u .0, u .1, j, sym x)
+            ih (stepSlot A z p) (omega (arith, x, s .0)) (omega (arith, x, s .1)) (u .0, u .1, j, sym x)
             (stepSlot A z q) (omega (arith, x, s .0)) (omega (arith, x, s .1)) (omega (arith, y, t .0))
-            (omega (arith, y, t .1)) (λ w. d (by-use A ranged rises p z u p q b e w)))
-
-        go : (t : Bool) → eqb p q ≡ t → p ≡ q
-        go true f = eqb-true p q f
-        go false f =
-            absurd (differ-apart m (states A) all p q a b c e (eqb-false p q f)
-            (round .each p b ∙ equal-fingerprint A ranged rises h p q b e d near ∙ sym (round .each q e)))
+            (omega (arith, y, t .1)) (λ w. d (by-use A ranged rises p z u p q b e w))
 
     single : (k p : ℕ) → height p < k → Single p
     single zero p r = absurd (omega arith)
     single (suc k) p r =
         single-step p (λ o a b f. single k o (let l = height-less p o a b f in omega arith))
 
-    pub one-round : allCoaccessible A ≡ true → allDistinguishable A ≡ true
-    one-round useful = all-differ-separated A m (record { equal = same }) all
+    pub free-separated : allDistinguishable A ≡ true
+    free-separated =
+        at-every (λ p. every (λ q. eqb p q || distinguishable A p q) (upFrom 1 (states A))) 1 (states A)
+        (λ p a b. at-every (λ q. eqb p q || distinguishable A p q) 1 (states A)
+        (λ q c d. go p q a (omega arith) c (omega arith) (distinguishable A p q) refl))
       where
-        zero-separated : (p : ℕ) → 1 ≤ p → p ≤ states A → distinguishable A p 0 ≡ true
-        zero-separated p a b =
-            useful-separated A ranged rises p (every-at (coaccessible A) 1 (states A) useful p a (omega arith)) 0
-            (omega arith) (useless-zero A ranged rises)
+        go : (p q : ℕ) → 1 ≤ p → p ≤ states A → 1 ≤ q → q ≤ states A → (t : Bool) → distinguishable A p q ≡ t →
+            (eqb p q || t) ≡ true
+        go p q a b c d true e = or-right (eqb p q) true refl
+        go p q a b c d false e =
+            or-left (eqb p q) false (eq-eqb p q
+            (single (suc (height p)) p (omega arith) q a b c d (λ w. false≢true (sym e ∙ w))))
 
-        same : (p q : ℕ) → p ≤ states A → q ≤ states A → (distinguishable A p q ≡ true → ⊥) → printOf m p ≡ printOf m q
-        same zero zero a b d = refl
-        same zero (suc q) a b d = absurd (d (separated-sym A (suc q) 0 (zero-separated (suc q) (omega arith) b)))
-        same (suc p) zero a b d = absurd (d (zero-separated (suc p) (omega arith) a))
-        same (suc p) (suc q) a b d =
-            ap (printOf m)
-            (single (suc (height (suc p))) (suc p) (omega arith) (suc q) (omega arith) a (omega arith) b d)
+  module _ (h : ℕ → ℕ) (m : List ℕ) (round : Round A h m) where
+    -- such states have one fingerprint
+    pub same-print : (p q : ℕ) → p ≤ states A → q ≤ states A → (distinguishable A p q ≡ true → ⊥) →
+        ((z : Slot) → z ∈ usefulUses A ranged rises p → stepSlot A z p ≡ stepSlot A z q) → printOf m p ≡ printOf m q
+    same-print p q b e d near =
+        round .each p b ∙ equal-fingerprint A ranged rises h p q b e d (λ z i. ap h (near z i)) ∙ sym (round .each q e)
+
+    pub one-round : allDiffer m (states A) ≡ true → allDistinguishable A ≡ true
+    one-round all = free-separated (λ p q a b c e d near. go p q a b c e (same-print p q b e d near) (eqb p q) refl)
+      where
+        go : (p q : ℕ) → 1 ≤ p → p ≤ states A → 1 ≤ q → q ≤ states A → printOf m p ≡ printOf m q → (t : Bool) →
+            eqb p q ≡ t → p ≡ q
+        go p q a b c e g true f = eqb-true p q f
+        go p q a b c e g false f = absurd (differ-apart m (states A) all p q a b c e (eqb-false p q f) g)

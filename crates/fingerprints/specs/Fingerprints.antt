@@ -6,11 +6,13 @@ use mathlib.Core.Bool.{Bool, cond, not, true}
 use mathlib.Core.List.{List, [], _++_, _∷_}
 use mathlib.Core.Path.{_≡_}
 use Prim.Native.Nat.{_%_, _*_, _+_, _-_, _/_, _<_, _^_, _≤_, ℕ}
+use lib.Bits.{bitXor}
 use lib.Dec.{eqb}
 use lib.ListN.{getD, length}
+use Rattle.automata.specs.Acyclic.{acyclic}
 use Rattle.automata.specs.Automaton.{Automaton, Transition, accepting, states}
-use Rattle.automata.specs.Coaccessible.{coaccessible}
-use Rattle.automata.specs.Distinguishable.{Slot, distinguishable}
+use Rattle.automata.specs.Coaccessible.{allCoaccessible, coaccessible}
+use Rattle.automata.specs.Distinguishable.{Slot, allDistinguishable, distinguishable}
 use Rattle.lists.specs.Positions.{upFrom}
 use Rattle.lists.specs.Tests.{bit, every}
 use Rattle.marking.specs.Marks.{marked}
@@ -19,36 +21,28 @@ use Rattle.format.specs.Format.{byteValues}
 
 -- ---- the numbers
 
--- a prime below 2^31: a residue times a multiplier below 2^31 fits 64 bits
-abbrev pub prime : ℕ
-prime = 2147483629
+-- what the argument at place k is multiplied by
+abbrev pub multiplier : ℕ → ℕ
+multiplier k = 61169462280107569 - k * 1137794023457893
 
--- arguments by Horner's rule, after others that gave b
-abbrev pub folded : List ℕ → ℕ → ℕ
-folded [] b = b
-folded (q ∷ qs) b = folded qs ((b * 1566083941 + q) % prime)
-
--- arguments as digits to base 256
-abbrev pub base256 : List ℕ → ℕ
-base256 [] = 0
-base256 (q ∷ qs) = q + 256 * base256 qs
+-- the arguments from place k on, each times its multiplier, put into y by exclusive or
+abbrev pub xored : List ℕ → ℕ → ℕ → ℕ
+xored [] k y = y
+xored (q ∷ qs) k y = xored qs (k + 1) (bitXor y (q * multiplier k))
 
 -- what a label and the fingerprint of an output give
 unfoldable pub salted : ℕ → ℕ → ℕ
-salted a x = (a * 1812433253 + x % prime * 1664525989) % prime
+salted a x = bitXor (a * 9223372037) x
 
--- three numbers in one
-unfoldable pub mixed : ℕ → ℕ → ℕ → ℕ
-mixed b c s = (b * 1103515245 + c % 4294967296 * 1013904223 + c / 4294967296 * 899809343 + s) % prime
+-- the product of a number's halves, but for the last 16 bits, which are 2: so the class is the last bit of a
+-- fingerprint, and the bits before it count the uses
+unfoldable pub mixed : ℕ → ℕ
+mixed y =
+    y % 4294967296 * (y / 4294967296) - y % 4294967296 * (y / 4294967296) % 65536 + 2
 
--- a residue's third power: a sum of these says more of its terms than a sum of the residues
-unfoldable pub cubed : ℕ → ℕ
-cubed t = t * t % prime * t % prime
-
--- what a slot adds to the fingerprint of a state that stands in it, if its output's fingerprint is x; even, so that
--- the class is the fingerprint's last bit
+-- what a slot adds to the fingerprint of a state that stands in it, if its output's fingerprint is x
 unfoldable pub slotValue : Slot → ℕ → ℕ
-slotValue z x = 2 * cubed (mixed (folded (z .before) 1) (base256 (z .after)) (salted (z .label) x))
+slotValue z x = mixed (xored (z .after) (length (z .before) + 1) (xored (z .before) 0 (salted (z .label) x)))
 
 abbrev pub valueAt : ℕ → Slot → ℕ
 valueAt x z = slotValue z x
@@ -83,6 +77,14 @@ gains (τ ∷ τs) u h q = usefulGain τ u h q + gains τs u h q
 unfoldable pub fingerprint : Automaton → (ℕ → ℕ) → ℕ → ℕ
 fingerprint A h q = (bit (accepting A q) + gains (A .transitions) (coaccessible A) h q) % 2 ^ 64
 
+-- in a first round every transition counts
+abbrev pub always : ℕ → Bool
+always q = true
+
+-- and this stands for the fingerprint of an output
+abbrev pub spread : ℕ → ℕ
+spread q = q * 50159747054999923
+
 -- ---- tables of fingerprints
 
 abbrev pub printOf : List ℕ → ℕ → ℕ
@@ -115,6 +117,11 @@ pub record UsefulMarks (A : Automaton) (u : List ℕ) : Type 0 where
 pub record Round (A : Automaton) (h : ℕ → ℕ) (m : List ℕ) : Type 0 where
   pub each : (q : ℕ) → q ≤ states A → printOf m q ≡ fingerprint A h q
 
+-- m has the fingerprints of a first round
+pub record FirstRound (A : Automaton) (m : List ℕ) : Type 0 where
+  pub each : (q : ℕ) → q ≤ states A → printOf m q ≡
+      (bit (accepting A q) + gains (A .transitions) always spread q) % 2 ^ 64
+
 -- states that nothing separates have one fingerprint, 0 among them
 pub record Sound (A : Automaton) (h : ℕ → ℕ) : Type 0 where
   pub equal : (p q : ℕ) → p ≤ states A → q ≤ states A → (distinguishable A p q ≡ true → ⊥) → h p ≡ h q
@@ -124,9 +131,36 @@ pub record Sound (A : Automaton) (h : ℕ → ℕ) : Type 0 where
 abbrev pub differs : List ℕ → ℕ → ℕ → Bool
 differs m p q = not (eqb (printOf m p) (printOf m q))
 
--- p differs from the states above it, to n
-abbrev pub differsAbove : List ℕ → ℕ → ℕ → Bool
-differsAbove m n p = every (differs m p) (upFrom (p + 1) (n - p))
+-- q differs from the states below it
+abbrev pub differsBelow : List ℕ → ℕ → Bool
+differsBelow m q = every (differs m q) (upFrom 1 (q - 1))
 
 unfoldable pub allDiffer : List ℕ → ℕ → Bool
-allDiffer m n = every (differsAbove m n) (upFrom 1 n)
+allDiffer m n = every (differsBelow m) (upFrom 1 n)
+
+-- q has a fingerprint other than 0
+abbrev pub someAt : List ℕ → ℕ → Bool
+someAt m q = not (eqb (printOf m q) 0)
+
+-- the states 1 to n have
+unfoldable pub allSome : List ℕ → ℕ → Bool
+allSome m n = every (someAt m) (upFrom 1 n)
+
+-- where a fingerprint is noted: by its first ten bits
+abbrev pub buckets : ℕ
+buckets = 1024
+
+abbrev pub bucketOf : ℕ → ℕ
+bucketOf x = x / 18014398509481984
+
+-- the buckets of the states below q are taken
+pub record TakenBelow (m : List ℕ) (q : ℕ) (f : List ℕ) : Type 0 where
+  pub size : length f ≡ buckets
+  pub each : (p : ℕ) → 1 ≤ p → p < q → marked f (bucketOf (printOf m p)) ≡ true
+
+-- ---- what a first round may show
+
+-- of an automaton without loops: every state is useful, and all are separated
+pub record Settled (A : Automaton) : Type 0 where
+  pub useful : acyclic A ≡ true → allCoaccessible A ≡ true
+  pub separated : acyclic A ≡ true → allDistinguishable A ≡ true

@@ -8,12 +8,13 @@ ghost use Rattle.fields.specs.Fields.{HoldsTransitionsOver};
 ghost use Rattle.fields.specs.View.{Viewed, viewed};
 ghost use Rattle.marking.specs.Marks.{marked};
 ghost use Rattle.table.specs.Layout.{classAt, nthTransition, transitionsIn};
-ghost use Rattle.fingerprints.specs.Fingerprints.{ClassPrints, Gained, Prints, Round, UsefulMarks, gain};
-ghost use Rattle.fingerprints.specs.Fingerprints.{gains, only, printOf, usefulGain};
-use crate::values::fold;
-use crate::values::packed_args;
+ghost use Rattle.fingerprints.specs.Fingerprints.{ClassPrints, FirstRound, Gained, Prints, Round};
+ghost use Rattle.fingerprints.specs.Fingerprints.{UsefulMarks, always, gain, gains, only, printOf, spread};
+ghost use Rattle.fingerprints.specs.Fingerprints.{usefulGain};
 use crate::values::salt;
+use crate::values::scaled;
 use crate::values::value;
+use crate::values::xor_args;
 use fields::arg_of;
 use fields::arity_of;
 use fields::label_of;
@@ -32,7 +33,7 @@ fn add(prints: &mut [usize; BYTE_VALUES], q: usize, v: usize)
     prints[q] = sum;
 }
 
-// The uses in transition i, whose output's fingerprint is x.
+// The uses in transition i, whose output's fingerprint is x. The exclusive or over all arguments takes one out again.
 fn add_uses(
     transitions: &[u8],
     count: usize,
@@ -50,14 +51,12 @@ fn add_uses(
 {
     let arity = arity_of(transitions, TRANSITION_BYTES * i);
     let s = salt(widened(label_of(transitions, TRANSITION_BYTES * i)), x);
-    let mut before = 1;
-    let mut after = packed_args(transitions, TRANSITION_BYTES * i);
+    let all = xor_args(transitions, TRANSITION_BYTES * i, s);
     let mut k = 0;
     while k < arity {
         let q = arg_of(transitions, TRANSITION_BYTES * i, k);
-        after = after / 256;
-        add(prints, q, value(before, after, s));
-        before = fold(before, q);
+        let others = all ^ scaled(q, k);
+        add(prints, q, value(others));
         k += 1;
     }
 }
@@ -108,6 +107,22 @@ fn add_all_uses(
     }
 }
 
+// The uses in all transitions of a first round.
+fn add_first_uses(transitions: &[u8], count: usize, n: usize, prints: &mut [usize; BYTE_VALUES])
+    requires { ⌜ HoldsTransitionsOver (now transitions) count n ⌝ }
+    requires { ⌜ n ≤ 255 ⌝ }
+    requires { ⌜ Prints (now prints) ⌝ }
+    ensures { λ _. ⌜ Gained (gains (transitionsIn (now (transitions .entry)) count) always spread) (now
+        (prints .entry)) (now (prints .exit)) ⌝ }
+{
+    let mut i = 0;
+    while i < count {
+        let out = out_of(transitions, TRANSITION_BYTES * i);
+        add_uses(transitions, count, n, i, out * 50159747054999923, prints);
+        i += 1;
+    }
+}
+
 // The class of a state as a number.
 fn class_print(classes: &[u8], q: usize) -> usize
     requires { ⌜ q < length (now classes) ⌝ }
@@ -131,6 +146,21 @@ fn class_prints(classes: &[u8], n: usize) -> [usize; BYTE_VALUES]
         prints[q] = class_print(classes, q);
         q += 1;
     }
+    prints
+}
+
+// The fingerprints of a first round: every transition counts, and each output stands for itself.
+pub fn first_round(
+    classes: &[u8],
+    transitions: &[u8],
+    count: usize,
+    n: usize,
+) -> [usize; BYTE_VALUES]
+    requires { ⌜ Viewed (now classes) (now transitions) n count ⌝ }
+    ensures { λ r. ⌜ FirstRound (viewed (now (classes .entry)) (now (transitions .entry)) n count) r ⌝ }
+{
+    let mut prints = class_prints(classes, n);
+    add_first_uses(transitions, count, n, &mut prints);
     prints
 }
 

@@ -1,64 +1,49 @@
 // What a use adds to a fingerprint. The numbers are those of specs/Fingerprints.antt.
-ghost use mathlib.Core.List.{_∷_};
 ghost use mathlib.Core.Path.{_≡_};
-ghost use Prim.Native.Nat.{_%_, _*_, _+_, _<_, _≤_};
+ghost use Prim.Native.Nat.{_*_, _+_, _<_, _≤_};
 ghost use Rattle.fields.specs.Fields.{Readable};
+ghost use Rattle.format.specs.Format.{maxArity};
 ghost use Rattle.table.specs.Layout.{transitionAt};
-ghost use Rattle.fingerprints.specs.Fingerprints.{cubed, folded, mixed, base256, prime, salted};
+ghost use Rattle.fingerprints.specs.Fingerprints.{mixed, multiplier, salted, xored};
 use fields::arg_of;
 use fields::arity_of;
 
-pub const PRIME: usize = 2147483629;
-
-// The arguments of the transition that starts at a byte, as one number.
-pub fn packed_args(transitions: &[u8], at: usize) -> usize
-    requires { ⌜ Readable (now transitions) at ⌝ }
-    ensures { λ r. ⌜ r ≡ base256 (transitionAt (now (transitions .entry)) at .args) ⌝ }
-{
-    let mut k = arity_of(transitions, at);
-    let mut sum = 0;
-    while k > 0 {
-        k -= 1;
-        sum = arg_of(transitions, at, k) + 256 * sum;
-    }
-    sum
-}
-
-// One more argument after those that gave b.
-pub fn fold(b: usize, q: usize) -> usize
-    requires { ⌜ b < prime ⌝ }
-    requires { ⌜ q ≤ 255 ⌝ }
-    ensures { λ r. ⌜ r ≡ (b * 1566083941 + q) % prime ⌝ }
-    ensures { λ r. ⌜ r < prime ⌝ }
-{
-    (b * 1566083941 + q) % PRIME
-}
-
 // What the label and the fingerprint x of the output give.
 pub fn salt(label: usize, x: usize) -> usize
-    requires { ⌜ label ≤ 255 ⌝ }
+    requires { ⌜ label ≤ 65535 ⌝ }
     ensures { λ r. ⌜ r ≡ salted label x ⌝ }
-    ensures { λ r. ⌜ r < prime ⌝ }
 {
-    (label * 1812433253 + x % PRIME * 1664525989) % PRIME
+    label * 9223372037 ^ x
 }
 
-// Three numbers in one.
-fn mix(b: usize, c: usize, s: usize) -> usize
-    requires { ⌜ b < prime ⌝ }
-    requires { ⌜ s < prime ⌝ }
-    ensures { λ r. ⌜ r ≡ mixed b c s ⌝ }
-    ensures { λ r. ⌜ r < prime ⌝ }
+// Argument q at place k.
+pub fn scaled(q: usize, k: usize) -> usize
+    requires { ⌜ q < 256 ⌝ }
+    requires { ⌜ k < maxArity ⌝ }
+    ensures { λ r. ⌜ r ≡ q * multiplier k ⌝ }
 {
-    (b * 1103515245 + c % 4294967296 * 1013904223 + c / 4294967296 * 899809343 + s) % PRIME
+    q * (61169462280107569 - k * 1137794023457893)
 }
 
-// The value of a slot: b from the arguments before it, c from those after it, s from its label and its output.
-pub fn value(b: usize, c: usize, s: usize) -> usize
-    requires { ⌜ b < prime ⌝ }
-    requires { ⌜ s < prime ⌝ }
-    ensures { λ r. ⌜ r ≡ 2 * cubed (mixed b c s) ⌝ }
+// The arguments of the transition that starts at a byte, put into y.
+pub fn xor_args(transitions: &[u8], at: usize, y: usize) -> usize
+    requires { ⌜ Readable (now transitions) at ⌝ }
+    ensures { λ r. ⌜ r ≡ xored (transitionAt (now (transitions .entry)) at .args) 0 y ⌝ }
 {
-    let t = mix(b, c, s);
-    2 * (t * t % PRIME * t % PRIME)
+    let arity = arity_of(transitions, at);
+    let mut all = y;
+    let mut k = 0;
+    while k < arity {
+        all = all ^ scaled(arg_of(transitions, at, k), k);
+        k += 1;
+    }
+    all
+}
+
+// The value of a slot from what its label, its output and its arguments gave.
+pub fn value(y: usize) -> usize
+    ensures { λ r. ⌜ r ≡ mixed y ⌝ }
+{
+    let g = y % 4294967296 * (y / 4294967296);
+    g - g % 65536 + 2
 }

@@ -3,7 +3,7 @@
 use mathlib.Core.Bool.{Bool, false, not, true}
 use mathlib.Core.List.{List, []}
 use mathlib.Core.Logic.{_≢_}
-use mathlib.Core.Path.{_∙_, _≡_, ap, ap₂, subst, subst₂, sym}
+use mathlib.Core.Path.{_∙_, _≡_, ap, ap₂, refl, subst, subst₂, sym}
 use Prim.Native.Nat.{_-_, suc, ℕ}
 use native.Mathlib.Omega.{arith}
 use lib.Dec.{eqb}
@@ -18,6 +18,7 @@ use Rattle.automata.specs.Numbered.{firstOpen, numbered}
 use Rattle.automata.specs.Order.{rising}
 use Rattle.fields.specs.Fields.{HoldsTransitionsOver}
 use Rattle.fields.specs.View.{Viewed, viewed}
+use Rattle.fingerprints.specs.Fingerprints.{Settled}
 use Rattle.format.specs.Format.{headBytes, tableBytes}
 use Rattle.lists.specs.Conditions.{firstBroken}
 use Rattle.lists.specs.Positions.{upFrom}
@@ -95,6 +96,18 @@ module _ (A : Automaton) where
       not o ≡ false → _≡_ {A = ℕ} 0 (firstBroken (automatonConditions A))
   unfolding automatonConditions
   not-refused p x q y e z g w h v = rw (kept p x, kept q y, kept e z, kept g w, kept h v)
+
+-- ---- an automaton that passes
+
+module _ (cl s : List ℕ) (n c : ℕ) (over : HoldsTransitionsOver s c n) where
+  -- numbered, without loops and settled: nothing is broken
+  pub passes : {o a : Bool} → o ≡ numbered (viewed cl s n c) → not o ≡ false → a ≡ acyclic (viewed cl s n c) →
+      not a ≡ false → Settled (viewed cl s n c) → _≡_ {A = ℕ} 0 (firstBroken (automatonConditions (viewed cl s n c)))
+  passes p x q y t =
+      let ac = kept q y in
+      not-refused (viewed cl s n c)
+      (sym (numbered-accessible (viewed cl s n c) (viewed-ranged cl s n c over) (kept p x))) refl
+      (sym (t .useful ac)) refl q y (sym (t .separated ac)) refl p x
 
 -- refusals 5, 7 and 8
 pub refused-7 : (b : List ℕ) {r : Bool} → r ≡ layoutFits b → not r ≡ true → _≡_ {A = ℕ} 7 (firstBroken

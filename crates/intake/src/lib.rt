@@ -17,12 +17,13 @@ ghost use Rattle.table.specs.Intake.{automatonConditions, contentConditions, ta
 ghost use Rattle.table.specs.Layout.{transitionsIn};
 ghost use Rattle.validity.specs.Ranks.{climbing};
 use fields::transition_count;
+use fingerprints::settled;
 use format::HEAD_BYTES;
 use format::TABLE_BYTES;
 use format::wide;
 use packed::layout_fits;
 use packed::rises;
-use partition::all_distinguishable_useful;
+use twins::all_distinguishable;
 use validity::acyclic;
 use validity::all_accessible;
 use validity::all_coaccessible;
@@ -54,8 +55,9 @@ fn loopless(transitions: &[u8], count: usize, n: usize, above: bool) -> bool
     acyclic(transitions, count, n)
 }
 
-// Refusals 9 to 13 of an automaton whose fields are in range and whose transitions rise, or 0.
-fn automaton_refusal(classes: &[u8], transitions: &[u8], count: usize, n: usize) -> u8
+// Refusals 9 to 13 of an automaton whose fields are in range and whose transitions rise, or 0: each condition by a
+// search of its own.
+fn searched_refusal(classes: &[u8], transitions: &[u8], count: usize, n: usize) -> u8
     requires { ⌜ Viewed (now classes) (now transitions) n count ⌝ }
     requires { ⌜ HoldsPadded (now transitions) count ⌝ }
     requires { ⌜ rising (transitionsIn (now transitions) count) ≡ true ⌝ }
@@ -72,11 +74,32 @@ fn automaton_refusal(classes: &[u8], transitions: &[u8], count: usize, n: usize)
     if !loopless(transitions, count, n, rule.climbing) {
         return 11;
     }
-    if !all_distinguishable_useful(classes, transitions, count, n) {
+    if !all_distinguishable(classes, transitions, count, n) {
         return 12;
     }
     if !rule.numbered {
         return 13;
+    }
+    0
+}
+
+// The same. An automaton that passes is seen to pass in few passes; only one that may not is searched.
+fn automaton_refusal(classes: &[u8], transitions: &[u8], count: usize, n: usize) -> u8
+    requires { ⌜ Viewed (now classes) (now transitions) n count ⌝ }
+    requires { ⌜ HoldsPadded (now transitions) count ⌝ }
+    requires { ⌜ rising (transitionsIn (now transitions) count) ≡ true ⌝ }
+    ensures { λ r. ⌜ r ≡ firstBroken (automatonConditions (viewed (now (classes .entry)) (now (transitions .entry)) n
+        count)) ⌝ }
+{
+    let rule = ruled(transitions, count, n);
+    if !rule.numbered {
+        return searched_refusal(classes, transitions, count, n);
+    }
+    if !loopless(transitions, count, n, rule.climbing) {
+        return searched_refusal(classes, transitions, count, n);
+    }
+    if !settled(classes, transitions, count, n) {
+        return searched_refusal(classes, transitions, count, n);
     }
     0
 }

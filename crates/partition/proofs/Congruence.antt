@@ -10,7 +10,7 @@ use lib.ListN.{length-replicate, replicate}
 use borrow.Author.Tests.{eq-eqb, eqb-true, ne-eqb}
 use Rattle.automata.specs.Automaton.{Automaton, Transition, accepting, states}
 use Rattle.automata.specs.Coaccessible.{coaccessible}
-use Rattle.automata.specs.Distinguishable.{Slot, allDistinguishable, distinguishable, distinguishableRule, pairs}
+use Rattle.automata.specs.Distinguishable.{Slot, distinguishable, distinguishableRule, pairs}
 use Rattle.automata.specs.Distinguishable.{slots}
 use Rattle.automata.specs.Distinguishable.{stepSlot}
 use Rattle.automata.specs.Order.{rising}
@@ -19,7 +19,7 @@ use Rattle.distinguish.specs.Separating.{MarksOf, stepAt}
 use Rattle.fields.specs.Fields.{HoldsTransitionsOver}
 use Rattle.fields.specs.View.{Viewed, viewed}
 use Rattle.fingerprints.specs.Fingerprints.{Round, Sound, differs, fingerprint, gain, gains, printOf, slotValue, total}
-use Rattle.fingerprints.specs.Fingerprints.{allDiffer, differsAbove, places, valueAt}
+use Rattle.fingerprints.specs.Fingerprints.{mixed, places, valueAt}
 use Rattle.format.specs.Format.{transitionBytes}
 use Rattle.lists.specs.Positions.{Pair, eqPair, upFrom}
 use Rattle.lists.specs.Tests.{_∈_, any, bit, every}
@@ -31,7 +31,6 @@ use Rattle.automata.proofs.Distinguishable.{differ, pairs-in}
 use Rattle.automata.proofs.Steps.{Taken, step-view}
 use Rattle.distinguish.proofs.Closing.{own-step, taken-through}
 use Rattle.fingerprints.proofs.Equivalent.{round-sound}
-use Rattle.fingerprints.proofs.AllDiffer.{all-differ-separated}
 use Rattle.lists.proofs.Closure.{closure-all}
 use Rattle.lists.proofs.Intervals.{at-every, every-at}
 use Rattle.lists.proofs.Positions.{eqPair-same, eqPair-true, in-upFrom}
@@ -41,9 +40,12 @@ use Rattle.fields.proofs.Views.{viewed-states}
 
 -- ---- the class is the last bit of a fingerprint
 
+even : (g : ℕ) → (g - g % 65536 + 2) % 2 ≡ 0
+even g = omega arith
+
 value-even : (z : Slot) (x : ℕ) → slotValue z x % 2 ≡ 0
-unfolding slotValue
-value-even z x = omega arith
+unfolding slotValue mixed
+value-even z x = even _
 
 total-even : (zs : List Slot) (x : ℕ) → total zs (valueAt x) % 2 ≡ 0
 total-even [] x = refl
@@ -63,7 +65,7 @@ last-bit true false g k d e f = absurd (omega arith)
 last-bit false true g k d e f = absurd (omega arith)
 last-bit false false g k d e f = refl
 
-fingerprint-class : (A : Automaton) (h : ℕ → ℕ) (p q : ℕ) → fingerprint A h p ≡ fingerprint A h q →
+pub fingerprint-class : (A : Automaton) (h : ℕ → ℕ) (p q : ℕ) → fingerprint A h p ≡ fingerprint A h q →
     accepting A p ≡ accepting A q
 unfolding fingerprint
 fingerprint-class A h p q e =
@@ -84,8 +86,9 @@ fingerprinted A ranged rises h s r = record {
 any-view : {s : List ℕ} {n c : ℕ} → HoldsTransitionsOver s c n → n ≤ 255 → Viewed (replicate 256 0) s n c
 any-view over h = record { over = over; states = h; classes = omega (arith, length-replicate {A = ℕ} 256 0) }
 
-module _ (s : List ℕ) (n c : ℕ) (over : HoldsTransitionsOver s c n) (few : n ≤ 255) (rises : rising (transitionsIn s c) ≡ true)
-    (m f : List ℕ) (marks : SharedMarks m n f) (i k : ℕ) (h : i < c) (l : k < arityOf s (transitionBytes * i)) where
+module _ (s : List ℕ) (n c : ℕ) (over : HoldsTransitionsOver s c n) (few : n ≤ 255)
+    (rises : rising (transitionsIn s c) ≡ true) (m f : List ℕ) (marks : SharedMarks m n f) (i k : ℕ) (h : i < c)
+    (l : k < arityOf s (transitionBytes * i)) where
   a : ℕ
   a = argOf s (transitionBytes * i) k
 
@@ -120,7 +123,8 @@ module _ (s : List ℕ) (n c : ℕ) (over : HoldsTransitionsOver s c n) (few : n
 -- ---- parts that agree
 
 module _ (cl s : List ℕ) (n c : ℕ) (view : Viewed cl s n c) (rises : rising (transitionsIn s c) ≡ true) (h : ℕ → ℕ)
-    (made : Fingerprinted (viewed cl s n c) h) (agree : allAgree s c n h ≡ true) where
+    (class : (p q : ℕ) → p ≤ states (viewed cl s n c) → q ≤ states (viewed cl s n c) → h p ≡ h q →
+    accepting (viewed cl s n c) p ≡ accepting (viewed cl s n c) q) (agree : allAgree s c n h ≡ true) where
   abbrev A : Automaton
   A = viewed cl s n c
 
@@ -163,7 +167,7 @@ module _ (cl s : List ℕ) (n c : ℕ) (view : Viewed cl s n c) (rises : rising 
       go (inl x) (inr u) = taken-agrees z q p k (sym e) u
       go (inl x) (inl y) = ap h (x ∙ sym y)
 
-  parts-apart : (p q : ℕ) → distinguishable A p q ≡ true → h p ≢ h q
+  pub parts-apart : (p q : ℕ) → distinguishable A p q ≡ true → h p ≢ h q
   parts-apart p q e = closure-all eqPair eqPair-true eqPair-same (distinguishableRule A) (pairs A) Apart step (p, q) e
     where
       Apart : Pair → Type 0
@@ -180,7 +184,7 @@ module _ (cl s : List ℕ) (n c : ℕ) (view : Viewed cl s n c) (rises : rising 
               (any (λ z. r (stepSlot A z (k .0), stepSlot A z (k .1))) (slots (transitionsIn s c)) ≡ true) → ⊥
           go (inl d) =
               differ (accepting A (k .0)) (accepting A (k .1)) d
-              (made .class (k .0) (k .1) (omega (arith, many, small .0)) (omega (arith, many, small .1)) g)
+              (class (k .0) (k .1) (omega (arith, many, small .0)) (omega (arith, many, small .1)) g)
           go (inr d) =
               let (z, j, f) = any-in (λ z. r (stepSlot A z (k .0), stepSlot A z (k .1))) (slots (transitionsIn s c))
               d in
@@ -210,37 +214,4 @@ parts-marks cl s n c view rises h made agree p = record {
 
     apart : (x y : ℕ) → distinguishable (viewed cl s n c) x y ≡ true → differs h x y ≡ true
     apart x y d = ap not (ne-eqb (printOf h x) (printOf h y)
-        (parts-apart cl s n c view rises (printOf h) made agree x y d))
-
--- and all parts are of one state exactly when condition 12 holds
-pub parts-exact : (cl s : List ℕ) (n c : ℕ) → Viewed cl s n c → rising (transitionsIn s c) ≡ true → (h : List ℕ) →
-    Fingerprinted (viewed cl s n c) (printOf h) → allAgree s c n (printOf h) ≡ true →
-    allDiffer h n ≡ allDistinguishable (viewed cl s n c)
-unfolding allDiffer
-parts-exact cl s n c view rises h made agree = same-test (allDiffer h n) (allDistinguishable A) there back
-  where
-    A : Automaton
-    A = viewed cl s n c
-
-    many : states A ≡ n
-    many = viewed-states cl s n c
-
-    there : allDiffer h n ≡ true → allDistinguishable A ≡ true
-    there e = all-differ-separated A h (made .sound) (ap (allDiffer h) many ∙ e)
-
-    apart : (p q : ℕ) → p < q → (eqb p q || distinguishable A p q) ≡ true → differs h p q ≡ true
-    apart p q l e = go (or-cases (eqb p q) _ e)
-      where
-        go : (eqb p q ≡ true) ⊎ (distinguishable A p q ≡ true) → differs h p q ≡ true
-        go (inl d) = absurd (let f = eqb-true p q d in omega arith)
-        go (inr d) = ap not (ne-eqb (printOf h p) (printOf h q)
-            (parts-apart cl s n c view rises (printOf h) made agree p q d))
-
-    back : allDistinguishable A ≡ true → allDiffer h n ≡ true
-    back e =
-        at-every (differsAbove h n) 1 n
-        (λ p a b. at-every (differs h p) (p + 1) (n - p)
-        (λ q x y. apart p q (omega arith)
-        (every-at (λ q. eqb p q || distinguishable A p q) 1 (states A)
-        (every-at (λ p. every (λ q. eqb p q || distinguishable A p q) (upFrom 1 (states A))) 1 (states A) e p a
-        (omega (arith, many))) q (omega arith) (omega (arith, many)))))
+        (parts-apart cl s n c view rises (printOf h) (made .class) agree x y d))

@@ -10,9 +10,6 @@ ghost use mathlib.Core.Bool.{false, true};
 ghost use mathlib.Core.Path.{_≡_};
 ghost use Prim.Native.Nat.{_≤_};
 ghost use lib.ListN.{length};
-ghost use Rattle.automata.specs.Acyclic.{acyclic};
-ghost use Rattle.automata.specs.Coaccessible.{allCoaccessible};
-ghost use Rattle.automata.specs.Distinguishable.{allDistinguishable};
 ghost use Rattle.automata.specs.Order.{rising};
 ghost use Rattle.distinguish.specs.Separating.{MarksOf, unmarked};
 ghost use Rattle.fields.specs.Fields.{HoldsTransitionsOver};
@@ -24,8 +21,6 @@ ghost use Rattle.partition.specs.Parts.{Fingerprinted, allAgree};
 ghost use Rattle.format.specs.Format.{bytePairs};
 use agreeing::all_agree;
 use alone::shared_marks;
-use distinguish::all_distinguishable;
-use fingerprints::all_differ;
 use fingerprints::round;
 use format::BYTE_PAIRS;
 use format::BYTE_VALUES;
@@ -69,7 +64,12 @@ fn rounds(
 }
 
 // Whether the parts pass the test.
-fn parts_agree(transitions: &[u8], count: usize, n: usize, prints: &[usize; BYTE_VALUES]) -> bool
+pub fn parts_agree(
+    transitions: &[u8],
+    count: usize,
+    n: usize,
+    prints: &[usize; BYTE_VALUES],
+) -> bool
     requires { ⌜ Sorted (now transitions) count ⌝ }
     requires { ⌜ HoldsTransitionsOver (now transitions) count n ⌝ }
     requires { ⌜ n ≤ 255 ⌝ }
@@ -125,49 +125,4 @@ pub fn distinguish(
         return;
     }
     distinguish::distinguish(classes, transitions, count, n, marks);
-}
-
-// Each state with its own number. Any fingerprints will do, so this has no contract; these are the ones that differ.
-fn numbers() -> [usize; BYTE_VALUES] {
-    let mut prints = [0usize; BYTE_VALUES];
-    let mut q = 0;
-    while q < BYTE_VALUES {
-        prints[q] = q;
-        q += 1;
-    }
-    prints
-}
-
-// Condition 12, if conditions 10 and 11 hold: no two different states are equivalent. Every state is useful, and
-// without loops one round from any fingerprints may show that all differ.
-pub fn all_distinguishable_useful(
-    classes: &[u8],
-    transitions: &[u8],
-    count: usize,
-    n: usize,
-) -> bool
-    requires { ⌜ Viewed (now classes) (now transitions) n count ⌝ }
-    requires { ⌜ rising (transitionsIn (now transitions) count) ≡ true ⌝ }
-    requires { ⌜ allCoaccessible (viewed (now classes) (now transitions) n count) ≡ true ⌝ }
-    requires { ⌜ acyclic (viewed (now classes) (now transitions) n count) ≡ true ⌝ }
-    ensures { λ r. ⌜ r ≡ allDistinguishable (viewed (now (classes .entry)) (now (transitions .entry)) n count) ⌝ }
-{
-    let useful = [1u8; BYTE_VALUES];
-    let first = round(classes, transitions, count, n, &useful, &numbers());
-    if all_differ(&first, n) {
-        return true;
-    }
-    let mut prints = [0usize; BYTE_VALUES];
-    let mut turns = 0;
-    while turns < WORK / (count + 1) {
-        prints = rounds(classes, transitions, count, n, &useful, turns, &prints);
-        if all_differ(&prints, n) {
-            return true;
-        }
-        if parts_agree(transitions, count, n, &prints) {
-            return false;
-        }
-        turns = 2 * turns + 1;
-    }
-    all_distinguishable(classes, transitions, count, n)
 }

@@ -5,7 +5,7 @@ ghost use Prim.Native.Nat.{_*_, _+_, _<_, _≤_};
 ghost use lib.Dec.{ltb};
 ghost use lib.ListN.{getD, length};
 ghost use Rattle.fields.specs.Fields.{Readable, HoldsTransitions};
-ghost use Rattle.format.specs.Format.{byteValues, maxProduct};
+ghost use Rattle.format.specs.Format.{byteValues, maxTransitions};
 ghost use Rattle.lists.specs.Tests.{every};
 ghost use Rattle.table.specs.Layout.{transitionAt, transitionsIn};
 ghost use Rattle.validity.specs.Ranks.{rankOf, risesBy};
@@ -13,7 +13,7 @@ use fields::arg_of;
 use fields::arity_of;
 use fields::out_of;
 use format::BYTE_VALUES;
-use format::MAX_PRODUCT;
+use format::MAX_TRANSITIONS;
 use format::TRANSITION_BYTES;
 use format::wide;
 use format::widened;
@@ -63,13 +63,14 @@ fn link(
     transitions: &[u8],
     count: usize,
     first: &mut [u16; BYTE_VALUES],
-    others: &mut [u16; MAX_PRODUCT],
+    others: &mut [u16; MAX_TRANSITIONS],
 )
     requires { ⌜ HoldsTransitions (now transitions) count ⌝ }
     requires { ⌜ length (now first) ≡ byteValues ⌝ }
-    requires { ⌜ length (now others) ≡ maxProduct ⌝ }
+    requires { ⌜ length (now others) ≡ maxTransitions ⌝ }
+    requires { ⌜ count ≤ maxTransitions ⌝ }
     ensures { λ _. ⌜ length (now (first .exit)) ≡ byteValues ⌝ }
-    ensures { λ _. ⌜ length (now (others .exit)) ≡ maxProduct ⌝ }
+    ensures { λ _. ⌜ length (now (others .exit)) ≡ maxTransitions ⌝ }
 {
     let mut i = 0;
     while i < count {
@@ -136,13 +137,14 @@ fn rank_all(
     count: usize,
     n: usize,
     first: &mut [u16; BYTE_VALUES],
-    others: &[u16; MAX_PRODUCT],
+    others: &[u16; MAX_TRANSITIONS],
     ranks: &mut [u8; BYTE_VALUES],
 )
     requires { ⌜ HoldsTransitions (now transitions) count ⌝ }
     requires { ⌜ n ≤ 255 ⌝ }
     requires { ⌜ length (now first) ≡ byteValues ⌝ }
     requires { ⌜ length (now ranks) ≡ byteValues ⌝ }
+    requires { ⌜ count ≤ maxTransitions ⌝ }
     ensures { λ _. ⌜ length (now (ranks .exit)) ≡ byteValues ⌝ }
 {
     let mut path = [0u8; BYTE_VALUES];
@@ -182,14 +184,18 @@ fn rank_all(
     }
 }
 
-// Ranks that rise from arguments to outputs, if no state comes back to itself.
+// Ranks that rise from arguments to outputs, if no state comes back to itself and there are no more transitions than a
+// table has.
 pub fn depth_first(transitions: &[u8], count: usize, n: usize) -> [u8; BYTE_VALUES]
     requires { ⌜ HoldsTransitions (now transitions) count ⌝ }
     requires { ⌜ n ≤ 255 ⌝ }
 {
-    let mut first = [0u16; BYTE_VALUES];
-    let mut others = [0u16; MAX_PRODUCT];
     let mut ranks = [0u8; BYTE_VALUES];
+    if count > MAX_TRANSITIONS {
+        return ranks;
+    }
+    let mut first = [0u16; BYTE_VALUES];
+    let mut others = [0u16; MAX_TRANSITIONS];
     link(transitions, count, &mut first, &mut others);
     rank_all(transitions, count, n, &mut first, &others, &mut ranks);
     ranks

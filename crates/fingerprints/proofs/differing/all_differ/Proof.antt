@@ -1,54 +1,74 @@
--- `fingerprints::differing::all_differ` meets its contract: no two of the states before `p` share a fingerprint.
+-- `fingerprints::differing::all_differ` meets its contract: no two of the states before `q` share a fingerprint.
 use borrow.Author.Tests.{not-false, not-true}
-use native.Mathlib.Omega.{arith}
 use mathlib.Core.Path.{_∙_, sym}
-use Prim.Native.Nat.{_+_, _-_}
+use Prim.Native.Nat.{_+_, _-_, _≤_}
+use native.Mathlib.Omega.{arith}
 use Rattle.lists.proofs.Loops.{EveryFrom, every-broken, every-end, every-next, every-start}
-use Rattle.fingerprints.specs.Fingerprints.{allDiffer, differsAbove}
 use Rattle.lists.specs.Positions.{upFrom}
 use Rattle.lists.specs.Tests.{every}
+use Rattle.fingerprints.specs.Fingerprints.{TakenBelow, allDiffer, differsBelow}
+use Rattle.fingerprints.proofs.Buckets.{taken-next, taken-start}
 use borrow.Author.Needs.{needs}
 use Rattle.fingerprints.proofs.differing.all_differ.Statement.{statement}
 use Rattle.fingerprints.proofs.differing.all_differ.Tie as tie
 
 abbrev Inv-loop : tie.InvT-loop
-Inv-loop prints n p₀ p =
-    EveryFrom (every (differsAbove prints n) (upFrom 1 n)) (differsAbove prints n) (n + 1) p
+Inv-loop prints n taken₀ q₀ taken q =
+    (1 ≤ q) × EveryFrom (every (differsBelow prints) (upFrom 1 n)) (differsBelow prints) (n + 1) q ×
+    TakenBelow prints q taken
 
 abbrev μ-loop : tie.MeasureT-loop
-μ-loop prints n p₀ p = n + 1 - p
+μ-loop prints n taken₀ q₀ taken q = n + 1 - q
 
 loop-holds : tie.Need-loop-holds Inv-loop μ-loop
-loop-holds c = every-start (c .args .n) (omega arith)
+loop-holds c = (omega arith, every-start (c .args .n) (omega arith), taken-start (c .args .prints .now))
 
 add-loop : tie.Need-add-loop Inv-loop μ-loop
 add-loop c = search needs
 
-differs-above-requires : tie.Need-differs-above-requires Inv-loop μ-loop
-differs-above-requires c κs = search needs
+differs-by-bucket-requires : tie.Need-differs-by-bucket-requires Inv-loop μ-loop
+differs-by-bucket-requires c κs =
+    let inv = c .before .before .loop .inv in
+    (inv .0, (omega (arith, c .before .before .before .pre), inv .2))
 
 returns : tie.Need-returns Inv-loop μ-loop
 unfolding allDiffer
 returns c =
-    let at-loop = c .before .before .before in
-    every-broken (at-loop .loop .inv) (omega arith) (sym (c .before .differs-above .ensures) ∙ not-true _ (c
-    .if1 .taken))
+    let at-loop = c .before .before .before .before in
+    every-broken (at-loop .loop .inv .1) (omega arith) (sym (c .before .differs-by-bucket .ensures) ∙ not-true _
+    (c .if1 .taken))
 
-add-p : tie.Need-add-p Inv-loop μ-loop
-add-p c = search needs
+mul-bucket : tie.Need-mul-bucket Inv-loop μ-loop
+mul-bucket c = search needs
+
+element-copy-out-bucket : tie.Need-element-copy-out-bucket Inv-loop μ-loop
+element-copy-out-bucket c = search needs
+
+bucket-requires : tie.Need-bucket-requires Inv-loop μ-loop
+bucket-requires c κs = search needs
+
+array-write-taken : tie.Need-array-write-taken Inv-loop μ-loop
+array-write-taken c = search needs
+
+add-q : tie.Need-add-q Inv-loop μ-loop
+add-q c = search needs
 
 loop-less : tie.Need-loop-less Inv-loop μ-loop
 loop-less c = search needs
 
 loop-again : tie.Need-loop-again Inv-loop μ-loop
 loop-again c =
-    let at-loop = c .before .before .before in
-    every-next (at-loop .loop .inv) (omega arith) (sym (c .before .differs-above .ensures) ∙ not-false _ (c .if1
-    .left))
+    let at-if1 = c .before .before in
+    let at-loop = at-if1 .before .before .before .before in (
+      omega arith,
+      every-next (at-loop .loop .inv .1) (omega arith) (sym (at-if1 .before .differs-by-bucket .ensures) ∙ not-false _
+          (at-if1 .if1 .left)),
+      taken-next (at-loop .loop .inv .2) (c .bucket .ensures .0) (c .bucket .ensures .1),
+    )
 
 returns-2 : tie.Need-returns-2 Inv-loop μ-loop
 unfolding allDiffer
-returns-2 c = every-end (c .before .loop .inv) (omega arith)
+returns-2 c = every-end (c .before .loop .inv .1) (omega arith)
 
 pub all-differ-spec : {M : Type 1} → statement M
 all-differ-spec =
@@ -58,9 +78,13 @@ all-differ-spec =
     μ-loop
     loop-holds
     add-loop
-    differs-above-requires
+    differs-by-bucket-requires
     returns
-    add-p
+    mul-bucket
+    element-copy-out-bucket
+    bucket-requires
+    array-write-taken
+    add-q
     loop-less
     loop-again
     returns-2)

@@ -1,26 +1,24 @@
 -- `fingerprints::rounds::add_uses` meets its contract: what is gained is what the places passed give.
-use Rattle.fingerprints.specs.Fingerprints.{folded, gain, base256, prime, salted}
-use Rattle.table.specs.Layout.{arityOf, labelOf, nthTransition}
-use Prim.Native.Nat.{_*_, _+_, _-_, _/_, _<_, _≤_, ℕ}
-use mathlib.Core.Path.{_≡_, _∙_, ap, refl, sym}
+use mathlib.Core.Path.{_∙_, _≡_, ap}
+use Prim.Native.Nat.{_*_, _-_, _≤_, ℕ}
 use native.Mathlib.Omega.{arith}
-use Rattle.fingerprints.proofs.Adding.{Filling, argsFrom, argsTo, filling-end, filling-next, filling-start}
-use Rattle.fingerprints.proofs.Adding.{gainFrom, gain-end, gain-start, gain-step, folded-next, packed-next}
-use Rattle.fingerprints.proofs.Adding.{packed-whole}
 use Rattle.fields.proofs.Transitions.{readable}
-use lib.ListN.{getD}
+use Rattle.fingerprints.specs.Fingerprints.{gain, salted, xored}
+use Rattle.fingerprints.proofs.Adding.{Filling, filling-end, filling-next, filling-start, gain-end, gain-start}
+use Rattle.fingerprints.proofs.Adding.{gain-step, gainFrom}
+use Rattle.table.specs.Layout.{arityOf, labelOf, nthTransition}
 use borrow.Author.Needs.{needs}
 use Rattle.fingerprints.proofs.rounds.add_uses.Statement.{statement}
 use Rattle.fingerprints.proofs.rounds.add_uses.Tie as tie
 
 abbrev Inv-loop : tie.InvT-loop
-Inv-loop run count n i x prints₀ arity s before₀ after₀ k₀ prints before after k =
-    (k ≤ arity) × (arity ≡ arityOf run (11 * i)) × (s ≡ salted (labelOf run (11 * i)) x) × (before < prime) ×
-    (before ≡ folded (argsTo run (11 * i) k) 1) × (after ≡ base256 (argsFrom run (11 * i) k)) × Filling (gain
-    (nthTransition run i) x) (gainFrom run (11 * i) x k) prints₀ prints
+Inv-loop transitions count n i x prints₀ arity s all k₀ prints k =
+    (k ≤ arity) × (arity ≡ arityOf transitions (11 * i)) ×
+    (all ≡ xored (nthTransition transitions i .args) 0 (salted (labelOf transitions (11 * i)) x)) ×
+    Filling (gain (nthTransition transitions i) x) (gainFrom transitions (11 * i) x k) prints₀ prints
 
 abbrev μ-loop : tie.MeasureT-loop
-μ-loop run count n i x prints₀ arity s before₀ after₀ k₀ prints before after k = arity - k
+μ-loop transitions count n i x prints₀ arity s all k₀ prints k = arity - k
 
 mul-arity-of : tie.Need-mul-arity-of Inv-loop μ-loop
 mul-arity-of c = search needs
@@ -38,29 +36,25 @@ widened-requires : tie.Need-widened-requires Inv-loop μ-loop
 widened-requires c κs = search needs
 
 salt-requires : tie.Need-salt-requires Inv-loop μ-loop
-salt-requires c κs =
-    let start = c .before .before .before .before in
-    omega (arith, c .widened .ensures)
+salt-requires c κs = search needs
 
-mul-packed-args : tie.Need-mul-packed-args Inv-loop μ-loop
-mul-packed-args c = search needs
+mul-xor-args : tie.Need-mul-xor-args Inv-loop μ-loop
+mul-xor-args c = search needs
 
-packed-args-requires : tie.Need-packed-args-requires Inv-loop μ-loop
-packed-args-requires c κs =
+xor-args-requires : tie.Need-xor-args-requires Inv-loop μ-loop
+xor-args-requires c κs =
     let start = c .before .before .before .before .before in
-    ((readable (start .pre .0 .runs) (start .args .i) (start .pre .1 .1 .0)))
+    readable (start .pre .0 .runs) (start .args .i) (start .pre .1 .1 .0)
 
 loop-holds : tie.Need-loop-holds Inv-loop μ-loop
 loop-holds c =
     let start = c .before .before .before .before .before .before in (
       omega arith,
       c .before .before .before .before .arity-of .ensures,
-      c .before .salt .ensures .0 ∙ ap (λ (l : ℕ). salted l (start .args .x)) (c .before .before .widened .ensures ∙ c
-          .before .before .before .label-of .ensures .0),
-      omega arith,
-      refl,
-      c .packed-args .ensures ∙ sym (packed-whole (start .args .transitions .now) ((11 * (start .args) .i)) 0 refl),
-      filling-start (start .pre .1 .1 .1) (λ q. gain-start (start .args .transitions .now) ((11 * (start .args) .i))
+      c .xor-args .ensures ∙ ap (xored (nthTransition (start .args .transitions .now) (start .args .i) .args) 0)
+          (c .before .salt .ensures ∙ ap (λ (l : ℕ). salted l (start .args .x)) (c .before .before .widened .ensures
+          ∙ c .before .before .before .label-of .ensures .0)),
+      filling-start (start .pre .1 .1 .1) (λ q. gain-start (start .args .transitions .now) (11 * start .args .i)
           (start .args .x) q),
     )
 
@@ -73,28 +67,20 @@ arg-of-requires c κs =
     let r = readable (start .pre .0 .runs) (start .args .i) (start .pre .1 .1 .0) in
     (r .inside, omega (arith, r .narrow, c .before .loop .inv .1))
 
+scaled-requires : tie.Need-scaled-requires Inv-loop μ-loop
+scaled-requires c κs =
+    let start = c .before .before .before .before .before .before .before .before .before in
+    let r = readable (start .pre .0 .runs) (start .args .i) (start .pre .1 .1 .0) in
+    (c .arg-of .ensures .1, omega (arith, r .narrow, c .before .before .loop .inv .1))
+
 value-requires : tie.Need-value-requires Inv-loop μ-loop
 value-requires c κs = search needs
 
 add-requires : tie.Need-add-requires Inv-loop μ-loop
-add-requires c κs =
-    let start = c .before .before .before .before .before .before .before .before .before .before .before in (
-      c .before .before .before .before .loop .inv .6 .prints,
-      omega (
-        arith,
-        c .before .before .arg-of .ensures .0,
-      ),
-    )
-
-fold-requires : tie.Need-fold-requires Inv-loop μ-loop
-fold-requires c κs =
-    let start = c .before .before .before .before .before .before .before .before .before .before .before .before in (
-      c .before .before .before .before .before .loop .inv .3,
-      omega (
-        arith,
-        c .before .before .before .arg-of .ensures .0,
-      ),
-    )
+add-requires c κs = (
+  c .before .before .before .before .before .loop .inv .3 .prints,
+  omega (arith, c .before .before .before .arg-of .ensures .1),
+)
 
 add-k : tie.Need-add-k Inv-loop μ-loop
 add-k c = search needs
@@ -104,37 +90,22 @@ loop-less c = search needs
 
 loop-again : tie.Need-loop-again Inv-loop μ-loop
 loop-again c =
-    let start = c .before .before .before .before .before .before .before .before .before .before .before .before
-    .before in
-    let h : (c .before .before .before .before .before .before .loop .k) < arityOf (start .args .transitions .now)
-    ((11 * (start .args) .i)) = omega (
-      arith,
-      c .before .before .before .before .before .before .loop .inv .1,
-    ) in
-    let f = ap (λ (y : ℕ). y / 256) (c .before .before .before .before .before .before .loop .inv .5) ∙ packed-next
-    (start .args .transitions .now) ((11 *
-    (start .args) .i)) (c .before .before .before .before .before .before .loop .k) h (omega arith) in (
+    let at-arg-of = c .before .before .before .before in
+    let at-loop = at-arg-of .before .before in
+    let start = at-loop .before .before .before .before .before .before .before in (
       omega arith,
-      c .before .before .before .before .before .before .loop .inv .1,
-      c .before .before .before .before .before .before .loop .inv .2,
-      c .fold .ensures .1,
-      c .fold .ensures .0 ∙
-          folded-next (start .args .transitions .now) ((11 * (start .args) .i)) (c .before .before .before .before
-          .before .before .loop .k) (c .before .before .before .before .before .before .loop .inv .4)
-          (c .before .before .before .before .arg-of .ensures .0),
-      f,
-      filling-next (c .before .before .before .before .before .before .loop .inv .6) (c .before .add .ensures)
-          (gain-step
-          (start .args .transitions .now) ((11 * (start .args) .i)) (start .args .x) (c .before .before .before
-          .before .before .before .loop .k) h (c .before .before .before .before .arg-of .ensures .0) (c .before
-          .before .before .before .before .before .loop .inv .4) f (c .before .before .before .before .before .before
-          .loop .inv .2) (c .before .before .value .ensures)),
+      at-loop .loop .inv .1,
+      at-loop .loop .inv .2,
+      filling-next (at-loop .loop .inv .3) (c .add .ensures) (gain-step (start .args .transitions .now)
+          (11 * start .args .i) (start .args .x) (at-loop .loop .k) (omega (arith, at-loop .loop .inv .1))
+          (at-arg-of .arg-of .ensures .0) (at-loop .loop .inv .2) (c .before .before .before .scaled .ensures)
+          (c .before .value .ensures)),
     )
 
 returns : tie.Need-returns Inv-loop μ-loop
 returns c =
     let start = c .before .before .before .before .before .before .before .before in
-    filling-end (c .before .loop .inv .6) (λ q. gain-end (start .args .transitions .now) ((11 * (start .args) .i))
+    filling-end (c .before .loop .inv .3) (λ q. gain-end (start .args .transitions .now) (11 * start .args .i)
     (start .args .x) (c .before .loop .k) q (omega (arith, c .before .loop .inv .1)))
 
 pub add-uses-spec : {M : Type 1} → statement M
@@ -149,14 +120,14 @@ add-uses-spec =
     label-of-requires
     widened-requires
     salt-requires
-    mul-packed-args
-    packed-args-requires
+    mul-xor-args
+    xor-args-requires
     loop-holds
     mul-arg-of
     arg-of-requires
+    scaled-requires
     value-requires
     add-requires
-    fold-requires
     add-k
     loop-less
     loop-again

@@ -15,9 +15,9 @@ returns : tie.Need-returns
 returns c =
     let at-class-prints = c .before .before in
     let start = at-class-prints .before .before .before in
-    round-is (start .args .classes .now) (start .args .transitions .now) (start .args .n) (start .args .count) (start
-    .args .useful .now) (printOf (start .args .seen .now)) (start .pre .0 .over) (start .pre .1)
-    (at-class-prints .class-prints .ensures) (c .add-all-uses .ensures)
+    round-is (start .args .classes .now) (start .args .transitions .now) (start .args .n) (start .args .count)
+    (at-class-prints .class-prints .ensures) (start .args .useful .now) (printOf (start .args .seen .now))
+    (start .pre .0 .over) (start .pre .1) (c .add-all-uses .ensures)
 
 pub round-spec : {M : Type 1} → statement M
 round-spec = tie.close (tie.spec class-prints-requires add-all-uses-requires returns)

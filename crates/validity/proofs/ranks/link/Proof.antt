@@ -5,13 +5,13 @@ use native.Mathlib.Omega.{arith}
 use lib.ListN.{length}
 use borrow.Author.Needs.{needs}
 use Rattle.fields.proofs.Transitions.{readable}
-use Rattle.format.specs.Format.{byteValues, maxProduct}
+use Rattle.format.specs.Format.{byteValues, maxTransitions}
 use Rattle.validity.proofs.ranks.link.Statement.{statement}
 use Rattle.validity.proofs.ranks.link.Tie as tie
 
 abbrev Inv-loop : tie.InvT-loop
 Inv-loop run count first₀ others₀ i₀ first others i =
-    (i ≤ count) × (length first ≡ byteValues) × (length others ≡ maxProduct)
+    (i ≤ count) × (length first ≡ byteValues) × (length others ≡ maxTransitions)
 
 abbrev μ-loop : tie.MeasureT-loop
 μ-loop run count first₀ others₀ i₀ first others i = count - i
