@@ -22,3 +22,4 @@ pub mod Example
 pub mod Others
 pub mod Totals
 pub mod TotalSamples
+pub mod Ranks
