@@ -48,3 +48,7 @@ pub mod TotalsFinite
 pub mod Totals
 pub mod TotalsCapped
 pub mod TotalSamples
+pub mod RankChoices
+pub mod RankFinite
+pub mod RankTrees
+pub mod RankBounds

@@ -3,11 +3,13 @@ pub mod FirstPlace
 pub mod Positions
 pub mod Intervals
 pub mod Limits
+pub mod Radix
 pub mod Loops
 pub mod Closure
 pub mod Conditions
 pub mod Distinct
 pub mod Counts
+pub mod Numberings
 pub mod Clearing
 pub mod Filling
 pub mod Parts
