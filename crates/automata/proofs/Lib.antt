@@ -52,3 +52,7 @@ pub mod RankChoices
 pub mod RankFinite
 pub mod RankTrees
 pub mod RankBounds
+pub mod Ranks
+pub mod RankPlaces
+pub mod RankOrder
+pub mod RankSamples

@@ -23,3 +23,4 @@ pub mod Others
 pub mod Totals
 pub mod TotalSamples
 pub mod Ranks
+pub mod RankSamples

@@ -1,6 +1,6 @@
--- Serial numbers of accepted trees (02, order 4): the order of trees in words, and the number of a tree and the tree of a
--- number, worked out from how many trees each state has.
-use mathlib.Core.Bool.{_&&_, cond}
+-- Serial numbers of accepted trees (02, order 4): the order of trees in words, and the number of a tree and the tree
+-- of a number, worked out from how many trees each state has.
+use mathlib.Core.Bool.{cond}
 use mathlib.Core.List.{List, [], _∷_}
 use mathlib.Core.Logic.{_⊎_}
 use mathlib.Core.Path.{_≡_}
@@ -49,7 +49,8 @@ abbrev mutual
   ranksIn A w nil = 0
   ranksIn A w (cons t f) = rankIn A w t * productOver w (runs A f) + ranksIn A w f
 
--- the number of an accepted tree, from 0 (02: the serial number): the trees of accepting states before its own come first
+-- the number of an accepted tree, from 0 (02: the serial number): the trees of accepting states before its own come
+-- first
 unfoldable pub rank : Automaton → Tree → ℕ
 rank A t = sumAccepting A (treesOf A) (upFrom 1 (run A t - 1)) + rankIn A (treesOf A) t
 
