@@ -2,6 +2,7 @@ pub mod Samples
 pub mod Conditions
 pub mod Model
 pub mod Reports
+pub mod Numbers
 pub mod Series
 pub mod Changes
 pub mod Sum

@@ -7,8 +7,8 @@ use Prim.Native.Nat.{ℕ}
 use Rattle.automata.specs.Acyclic.{Bounded}
 use Rattle.automata.specs.Automaton.{Automaton, accepts}
 use Rattle.automata.specs.Canonical.{Canonical}
-use Rattle.calls.specs.Calls.{Change, changed, changedTree, delete, insert}
-use Rattle.calls.specs.Series.{Call, Model, Response, add, canonicalOf, changedSet, member, modelConditions}
+use Rattle.calls.specs.Calls.{Change, Response, changed, changedTree, delete, insert}
+use Rattle.calls.specs.Series.{Call, Model, add, canonicalOf, changedSet, member, modelConditions}
 use Rattle.calls.specs.Series.{modelRefusal, query, remove, respond, withChange}
 use Rattle.trees.specs.Legal.{Legal}
 use Rattle.trees.specs.Tree.{Tree, eqTree}

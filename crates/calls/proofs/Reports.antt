@@ -10,9 +10,9 @@ use borrow.Author.Tests.{eqb-false, eqb-true}
 use Rattle.automata.specs.Automaton.{Automaton, accepts, run}
 use Rattle.automata.specs.Canonical.{Canonical, Subtree}
 use Rattle.automata.specs.Stops.{stopPlace}
-use Rattle.calls.specs.Calls.{asked, refusedOr}
+use Rattle.calls.specs.Calls.{Response, asked, refusedOr}
 use Rattle.calls.specs.Claim.{Reported, Reports}
-use Rattle.calls.specs.Series.{Response, onlyAnswer}
+use Rattle.calls.specs.Series.{onlyAnswer}
 use Rattle.calls.specs.declared.Answer.{Answer}
 use Rattle.calls.specs.declared.Answer.the-variants.{Approved, NotAt, NotPart}
 use Rattle.trees.specs.Listing.{listingRefusal, readTree}

@@ -10,17 +10,21 @@ use borrow.Author.Tests.{eqb-true, leb-true}
 use Rattle.automata.specs.Acyclic.{Bounded}
 use Rattle.automata.specs.Automaton.{Automaton, accepting, accepts, emptyAutomaton, run, states}
 use Rattle.automata.specs.Canonical.{Canonical}
+use Rattle.automata.specs.Ranks.{unrank}
 use Rattle.automata.specs.Totals.{total}
-use Rattle.calls.specs.Calls.{Change, acceptedWith, addResult, askAnswer, askRefusal, asked}
+use Rattle.calls.specs.Calls.{Change, Response, acceptedWith, addResult, askAnswer, askRefusal, asked}
 use Rattle.calls.specs.Calls.{changeRefusal, changeResult, changed, changedTree, delete, doneWith}
 use Rattle.calls.specs.Calls.{earlyConditions, insert, intakeAnswer, outcome, presence, refusedOr, removeResult}
-use Rattle.calls.specs.Calls.{scratchAfter, scratchCondition, sizeConditions, totalAnswer, totalled}
+use Rattle.calls.specs.Calls.{bufferCondition, numberConditions, rankAnswer, ranked, scratchAfter}
+use Rattle.calls.specs.Calls.{scratchCondition, sizeConditions, totalAnswer, totalled, unrankRefusal}
+use Rattle.calls.specs.Calls.{unrankResult, written}
 use Rattle.calls.specs.Claim.{Agrees, InStep, Meaning}
-use Rattle.calls.specs.Series.{AllBring, BringsBytes, Call, Model, Response, add, canonicalOf, changedSet}
+use Rattle.calls.specs.Series.{AllBring, BringsBytes, Call, Model, add, canonicalOf, changedSet}
 use Rattle.calls.specs.Series.{emptyModel, member, modelConditions, modelOf, modelRefusal, onlyAnswer, perform}
 use Rattle.calls.specs.Series.{query, queryResult, remove, replied, respond, settled, withChange}
 use Rattle.format.specs.Format.{AllBytes, maxStates, maxTransitions, tableBytes}
 use Rattle.lists.specs.Conditions.{Condition, firstBroken}
+use Rattle.lists.specs.Tests.{Counts}
 use Rattle.table.specs.Intake.{contentConditions, fitsTable, lengthCondition, tableRefusal}
 use Rattle.table.specs.Layout.{decode, encode}
 use Rattle.trees.specs.Legal.{Legal}
@@ -32,6 +36,7 @@ use Rattle.automata.proofs.ProductCounted.{product-counted}
 use Rattle.automata.proofs.Totals.{canonical-total}
 use Rattle.calls.proofs.Conditions.{model-from-one, table-from-one}
 use Rattle.calls.proofs.Model.{change-canonical, changed-bounded, changed-legal, model-accepts}
+use Rattle.calls.proofs.Numbers.{ranked-reports, unrank-numbers}
 use Rattle.calls.proofs.Reports.{asked-reports}
 use Rattle.lists.proofs.Conditions.{AllHold, append-same, hold-append, hold-first, hold-last, unbroken-hold}
 use Rattle.lists.proofs.Tests.{and-left, and-right}
@@ -82,6 +87,31 @@ module _ (b : List ℕ) (m : Model) (X : InStep b m) where
   unfolding totalAnswer
   total-same = rw (unrefused, decoded)
 
+  rank-same : (s : List ℕ) → rankAnswer s b ≡ refusedOr (listingRefusal s) (ranked (canonicalOf m) (readTree s))
+  unfolding rankAnswer
+  rank-same s =
+      ap₂ (λ (r : ℕ) (A : Automaton). refusedOr r (ranked A (readTree s))) (ask-refusal s) decoded
+
+  -- 6 and 18 to 20, from the set's automaton
+  abbrev ofNumber : ℕ → List ℕ → Automaton → List Condition
+  ofNumber k l A = bufferCondition l ∷ numberConditions (total A) k (unrank A k)
+
+  unrank-refusal : (k : ℕ) (l : List ℕ) → unrankRefusal k b l ≡ firstBroken (ofNumber k l (canonicalOf m))
+  unfolding unrankRefusal
+  unrank-refusal k l =
+      rw (table-hold .0) (ap (λ (r : ℕ). cond (bufferCondition l .holds) r 6)
+      (hold-first (contentConditions b) (numberConditions (total (decode b)) k (unrank (decode b) k)) (table-hold .1)))
+      ∙ ap (λ (A : Automaton). firstBroken (ofNumber k l A)) decoded
+
+  unrank-same : (k : ℕ) (l : List ℕ) → unrankResult k b l ≡
+      written (firstBroken (ofNumber k l (canonicalOf m))) (unrank (canonicalOf m) k) l
+  unfolding unrankResult
+  unrank-same k l =
+      ap₂ (λ (r : ℕ) (A : Automaton). written r (unrank A k) l) (unrank-refusal k l) decoded
+
+  counted : Counts (λ t. member m t ≡ true) (total (canonicalOf m))
+  counted = canonical-total (member m) (canonicalOf m) (X .canonical) (X .bounded)
+
   pub in-step-meaning : Meaning m
   unfolding queryResult
   in-step-meaning = record {
@@ -96,8 +126,22 @@ module _ (b : List ℕ) (m : Model) (X : InStep b m) where
     taken = ap onlyAnswer (ap intakeAnswer (sym (X .table)) ∙ intake-same);
     counted = record {
       number = total (canonicalOf m);
-      counts = canonical-total (member m) (canonicalOf m) (X .canonical) (X .bounded);
+      counts = counted;
       response = ap onlyAnswer (ap totalAnswer (sym (X .table)) ∙ total-same);
+    };
+    ranked = λ s. record {
+      number = total (canonicalOf m);
+      counts = counted;
+      answer = ranked (canonicalOf m) (readTree s);
+      reports = ranked-reports (member m) (canonicalOf m) (X .canonical) (X .bounded) (readTree s);
+      response = ap onlyAnswer (ap (rankAnswer s) (sym (X .table)) ∙ rank-same s);
+    };
+    unranked = λ k l. record {
+      number = total (canonicalOf m);
+      counts = counted;
+      tree = unrank (canonicalOf m) k;
+      numbers = unrank-numbers (member m) (canonicalOf m) (X .canonical) (X .bounded) k;
+      response = ap (λ (b : List ℕ). unrankResult k b l) (sym (X .table)) ∙ unrank-same k l;
     };
   }
 

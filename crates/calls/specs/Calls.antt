@@ -2,21 +2,29 @@
 -- of any length.
 use mathlib.Core.Bool.{Bool, _||_, cond, not}
 use mathlib.Core.List.{List, [], _++_, _∷_}
-use Prim.Native.Nat.{ℕ}
+use Prim.Native.Nat.{_-_, ℕ}
 use lib.Dec.{eqb, leb, ltb}
 use lib.ListN.{length, replicate}
 use Rattle.automata.specs.Automaton.{Automaton, accepts, run, states}
 use Rattle.automata.specs.Change.{deleteTree, insertTree, productTransitions}
+use Rattle.automata.specs.Ranks.{rank, unrank}
 use Rattle.automata.specs.Stops.{stopPlace}
 use Rattle.automata.specs.Totals.{total}
 use Rattle.calls.specs.declared.Answer.{Answer}
-use Rattle.calls.specs.declared.Answer.the-variants.{Accepted, Approved, Done, NotAt, NotPart, Over, Refused, Total}
-use Rattle.format.specs.Format.{maxProduct, numberLimit, scratchBytes}
+use Rattle.calls.specs.declared.Answer.the-variants.{Accepted, Approved, Done, Finished, NotAt, NotPart, Over}
+use Rattle.calls.specs.declared.Answer.the-variants.{Refused, Serial, Total}
+use Rattle.format.specs.Format.{maxListing, maxNodes, maxProduct, numberLimit, scratchBytes}
 use Rattle.lists.specs.Conditions.{Condition, condition, firstBroken}
 use Rattle.table.specs.Intake.{contentConditions, fitsTable, lengthCondition, tableRefusal}
 use Rattle.table.specs.Layout.{decode, encode}
-use Rattle.trees.specs.Listing.{listingConditions, readTree}
+use Rattle.trees.specs.Listing.{listing, listingConditions, readTree}
+use Rattle.trees.specs.Preorder.{preorder}
 use Rattle.trees.specs.Tree.{Tree}
+
+-- what a call gives back beside the table: its answer, and what it leaves in the buffer that it was lent, [] if none
+pub record Response : Type 0 where
+  pub answer : Answer
+  pub lent : List ℕ
 
 -- a refusal if its number is not 0, else the answer
 abbrev pub refusedOr : ℕ → Answer → Answer
@@ -54,6 +62,46 @@ intakeAnswer b = refusedOr (tableRefusal b) (acceptedWith (decode b))
 -- the total: 5 and 7 to 13
 unfoldable pub totalAnswer : List ℕ → Answer
 totalAnswer b = refusedOr (tableRefusal b) (totalled (total (decode b)))
+
+-- ---- serial numbers
+
+-- the number of an accepted tree, 18 if the total is over; a tree that is not accepted gets what ask answers
+unfoldable pub ranked : Automaton → Tree → Answer
+ranked A t = cond (accepts A t) (cond (ltb (total A) numberLimit) (Serial (rank A t)) (Refused 18)) (asked A t)
+
+-- tree to number: 1 to 5, 7 to 13 and 18
+unfoldable pub rankAnswer : List ℕ → List ℕ → Answer
+rankAnswer s b = refusedOr (askRefusal s b) (ranked (decode b) (readTree s))
+
+-- condition 6 of number to tree: the buffer has the bytes of the longest listing
+abbrev pub bufferCondition : List ℕ → Condition
+bufferCondition l = condition 6 (eqb (length l) maxListing)
+
+-- the tree has no more nodes than a listing may have
+unfoldable pub fitsListing : Tree → Bool
+fitsListing t = leb (length (preorder t)) maxNodes
+
+-- 18 to 20, from the total n, the number k and its tree
+abbrev pub numberConditions : ℕ → ℕ → Tree → List Condition
+numberConditions n k t =
+    condition 18 (ltb n numberLimit) ∷ condition 19 (ltb k n) ∷ condition 20 (fitsListing t) ∷ []
+
+-- number to tree: 5 to 13 and 18 to 20
+unfoldable pub unrankRefusal : ℕ → List ℕ → List ℕ → ℕ
+unrankRefusal k b l =
+    firstBroken (lengthCondition b ∷ bufferCondition l ∷
+    (contentConditions b ++ numberConditions (total (decode b)) k (unrank (decode b) k)))
+
+-- a listing, and zeros up to the length of the longest
+unfoldable pub paddedListing : Tree → List ℕ
+paddedListing t = listing t ++ replicate (maxListing - length (listing t)) 0
+
+-- refused by r with the buffer as it was, or done with the tree's listing in it
+unfoldable pub written : ℕ → Tree → List ℕ → Response
+written r t l = record { answer = refusedOr r Finished; lent = cond (eqb r 0) (paddedListing t) l }
+
+unfoldable pub unrankResult : ℕ → List ℕ → List ℕ → Response
+unrankResult k b l = written (unrankRefusal k b l) (unrank (decode b) k) l
 
 -- ---- calls that change the set
 

@@ -5,9 +5,9 @@ use Prim.Native.Nat.{ℕ}
 use lib.Dec.{eqb, leb}
 use Rattle.automata.specs.Automaton.{Automaton, accepts, emptyAutomaton}
 use Rattle.automata.specs.Change.{productTransitions}
-use Rattle.calls.specs.Calls.{Change, Result, addResult, askAnswer, changed, changedTree, delete, doneWith}
-use Rattle.calls.specs.Calls.{insert, intakeAnswer, presence, refusedOr, removeResult, scratchAfter}
-use Rattle.calls.specs.Calls.{scratchCondition, totalAnswer}
+use Rattle.calls.specs.Calls.{Change, Response, Result, addResult, askAnswer, changed, changedTree, delete}
+use Rattle.calls.specs.Calls.{doneWith, insert, intakeAnswer, presence, rankAnswer, refusedOr, removeResult}
+use Rattle.calls.specs.Calls.{scratchAfter, scratchCondition, totalAnswer, unrankResult}
 use Rattle.calls.specs.declared.Answer.{Answer}
 use Rattle.format.specs.Format.{AllBytes, maxProduct}
 use Rattle.lists.specs.Conditions.{Condition, condition, firstBroken}
@@ -16,10 +16,12 @@ use Rattle.table.specs.Layout.{decode, encode}
 use Rattle.trees.specs.Listing.{listingConditions, readTree}
 use Rattle.trees.specs.Tree.{Tree, eqTree}
 
--- a call that only reads the table, with what it brings: ask a listing
+-- a call that only reads the table, with what it brings: ask and tree to number a listing, number to tree a number and
+-- a buffer
 pub data Query : Type 0 where
-  ask : List ℕ → Query
+  ask rank : List ℕ → Query
   intake total : Query
+  unrank : ℕ → List ℕ → Query
 
 -- a call with what it brings: add and remove a listing and a scratch
 pub data Call : Type 0 where
@@ -37,11 +39,6 @@ abbrev pub AllBring : List Call → Type 0
 AllBring [] = Unit {0}
 AllBring (c ∷ cs) = BringsBytes c × AllBring cs
 
--- what a call gives back beside the table: its answer, and what it leaves in the buffer that it was lent, [] if none
-pub record Response : Type 0 where
-  pub answer : Answer
-  pub lent : List ℕ
-
 abbrev pub onlyAnswer : Answer → Response
 onlyAnswer a = record { answer = a; lent = [] }
 
@@ -57,6 +54,8 @@ unfoldable pub queryResult : Query → List ℕ → Response
 queryResult (ask s) b = onlyAnswer (askAnswer s b)
 queryResult intake b = onlyAnswer (intakeAnswer b)
 queryResult total b = onlyAnswer (totalAnswer b)
+queryResult (rank s) b = onlyAnswer (rankAnswer s b)
+queryResult (unrank k l) b = unrankResult k b l
 
 abbrev pub replied : Result → Reply (List ℕ)
 replied r = record { response = record { answer = r .answer; lent = r .scratch }; next = r .table }
