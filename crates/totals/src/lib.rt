@@ -14,7 +14,7 @@ ghost use Rattle.automata.specs.Acyclic.{acyclic};
 ghost use Rattle.automata.specs.Order.{rising};
 ghost use Rattle.automata.specs.Totals.{sumAccepting, total};
 ghost use Rattle.fields.specs.Fields.{HoldsTransitionsOver};
-ghost use Rattle.fields.specs.View.{Viewed, viewed};
+ghost use Rattle.fields.specs.View.{viewed};
 ghost use Rattle.format.specs.Format.{byteValues, maxTransitions};
 ghost use Rattle.lists.specs.Positions.{upFrom};
 ghost use Rattle.table.specs.Intake.{tableRefusal};
@@ -25,10 +25,12 @@ use fields::transition_count;
 use format::HEAD_BYTES;
 use format::wide;
 pub use limited::Total;
-use limited::plus;
-use numbers::SLOTS;
-use numbers::number_of;
+pub use limited::plus;
+pub use limited::times;
+pub use numbers::SLOTS;
+pub use numbers::number_of;
 use numbers::same;
+pub use rounds::product;
 use rounds::round;
 use rounds::rounds;
 use search::link;
@@ -57,8 +59,8 @@ fn numbers_of(transitions: &[u8], count: usize, n: usize) -> [u64; SLOTS]
     rounds(transitions, count, n)
 }
 
-// The number of state q if it is accepting, else none.
-fn accepting_number(classes: &[u8], q: usize, numbers: &[u64; SLOTS]) -> Total
+// The number of state q if it is accepting, else none. `classes` has the class of state q at byte q.
+pub fn accepting_number(classes: &[u8], q: usize, numbers: &[u64; SLOTS]) -> Total
     requires { ⌜ q < length (now classes) ⌝ }
     requires { ⌜ q < byteValues ⌝ }
     ensures { λ r. ⌜ r ≡ totalOf (cond (classAt (now (classes .entry)) q) (numberIn (now (numbers .entry)) q) 0) ⌝ }
@@ -69,8 +71,8 @@ fn accepting_number(classes: &[u8], q: usize, numbers: &[u64; SLOTS]) -> Total
     Total::Number { value: 0 }
 }
 
-// The sum of the numbers of the accepting states.
-fn sum_accepting(classes: &[u8], n: usize, numbers: &[u64; SLOTS]) -> Total
+// The sum of the numbers of those of the states 1 to n that are accepting.
+pub fn sum_accepting(classes: &[u8], n: usize, numbers: &[u64; SLOTS]) -> Total
     requires { ⌜ n < length (now classes) ⌝ }
     requires { ⌜ n < byteValues ⌝ }
     ensures { λ r. ⌜ r ≡ totalOf (sumAccepting (viewed (now (classes .entry)) [] n 0) (numberIn (now
@@ -85,17 +87,24 @@ fn sum_accepting(classes: &[u8], n: usize, numbers: &[u64; SLOTS]) -> Total
     sum
 }
 
-// The number of trees that an automaton accepts, if no state comes back to itself. `classes` has the class of state q
-// at byte q.
-fn accepted_trees(classes: &[u8], transitions: &[u8], count: usize, n: usize) -> Total
-    requires { ⌜ Viewed (now classes) (now transitions) n count ⌝ }
-    requires { ⌜ rising (transitionsIn (now transitions) count) ≡ true ⌝ }
-    requires { ⌜ count ≤ maxTransitions ⌝ }
-    requires { ⌜ acyclic (viewed (now classes) (now transitions) n count) ≡ true ⌝ }
-    ensures { λ r. ⌜ r ≡ totalOf (total (viewed (now (classes .entry)) (now (transitions .entry)) n count)) ⌝ }
+// The numbers of the trees of a table's states.
+pub fn state_numbers(table: &[u8]) -> [u64; SLOTS]
+    requires { ⌜ tableRefusal (now table) ≡ 0 ⌝ }
+    ensures { λ r. ⌜ NumbersOf (decode (now (table .entry))) r ⌝ }
 {
-    let numbers = numbers_of(transitions, count, n);
-    sum_accepting(classes, n, &numbers)
+    let count = transition_count(table);
+    let n = wide(table[0]);
+    numbers_of(&table[HEAD_BYTES..], count, n)
+}
+
+// The number of trees that a table accepts, from those of its states.
+pub fn total_of(table: &[u8], numbers: &[u64; SLOTS]) -> Total
+    requires { ⌜ tableRefusal (now table) ≡ 0 ⌝ }
+    requires { ⌜ NumbersOf (decode (now table)) (now numbers) ⌝ }
+    ensures { λ r. ⌜ r ≡ totalOf (total (decode (now (table .entry)))) ⌝ }
+{
+    let n = wide(table[0]);
+    sum_accepting(table, n, numbers)
 }
 
 // The number of trees that a table accepts.
@@ -103,7 +112,6 @@ pub fn total(table: &[u8]) -> Total
     requires { ⌜ tableRefusal (now table) ≡ 0 ⌝ }
     ensures { λ r. ⌜ r ≡ totalOf (total (decode (now (table .entry)))) ⌝ }
 {
-    let count = transition_count(table);
-    let n = wide(table[0]);
-    accepted_trees(table, &table[HEAD_BYTES..], count, n)
+    let numbers = state_numbers(table);
+    total_of(table, &numbers)
 }

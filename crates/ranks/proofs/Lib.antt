@@ -1,0 +1,9 @@
+pub mod Worth
+pub mod Products
+pub mod Places
+pub mod Before
+pub mod Agreeing
+pub mod NodePass
+pub mod Pending
+pub mod Listings
+pub mod Tables
