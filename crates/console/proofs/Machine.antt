@@ -9,9 +9,9 @@ use lib.ListN.{length, length-replicate, replicate}
 use borrow.Author.Tests.{leb-false, leb-true}
 use Rattle.automata.specs.Automaton.{Automaton}
 use Rattle.calls.proofs.Series.{in-step-meaning, one-call, zero-in-step}
-use Rattle.calls.specs.Calls.{addResult, changeResult, intakeAnswer, outcome, removeResult}
+use Rattle.calls.specs.Calls.{Response, addResult, changeResult, intakeAnswer, outcome, removeResult}
 use Rattle.calls.specs.Claim.{InStep}
-use Rattle.calls.specs.Series.{BringsBytes, Model, Response, emptyModel, perform, query, queryResult, respond}
+use Rattle.calls.specs.Series.{BringsBytes, Model, emptyModel, perform, query, queryResult, respond}
 use Rattle.calls.specs.Series.{total}
 use Rattle.format.specs.Format.{AllBytes, maxLine, scratchBytes, tableBytes}
 use Rattle.report.specs.declared.Outcome.the-variants.{Answered}

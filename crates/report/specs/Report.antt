@@ -3,7 +3,8 @@
 use mathlib.Core.List.{List, [], _++_, _∷_}
 use Prim.Native.Nat.{ℕ}
 use Rattle.calls.specs.declared.Answer.{Answer}
-use Rattle.calls.specs.declared.Answer.the-variants.{Accepted, Approved, Done, NotAt, NotPart, Over, Refused, Total}
+use Rattle.calls.specs.declared.Answer.the-variants.{Accepted, Approved, Done, Finished, NotAt, NotPart, Over, Refused}
+use Rattle.calls.specs.declared.Answer.the-variants.{Serial, Total}
 use Rattle.lists.specs.Decimal.{decimal}
 use Rattle.report.specs.declared.Outcome.{Outcome}
 use Rattle.report.specs.declared.Outcome.the-variants.{Answered, Form, Long}
@@ -35,6 +36,9 @@ totalWord = 116 ∷ 111 ∷ 116 ∷ 97 ∷ 108 ∷ []
 abbrev pub overWord : List ℕ
 overWord = 111 ∷ 118 ∷ 101 ∷ 114 ∷ []
 
+abbrev pub numberWord : List ℕ
+numberWord = 110 ∷ 117 ∷ 109 ∷ 98 ∷ 101 ∷ 114 ∷ []
+
 abbrev pub refusedWord : List ℕ
 refusedWord = 114 ∷ 101 ∷ 102 ∷ 117 ∷ 115 ∷ 101 ∷ 100 ∷ []
 
@@ -51,7 +55,7 @@ endWord = 101 ∷ 110 ∷ 100 ∷ []
 unfoldable pub field : ℕ → List ℕ
 field n = space ∷ decimal n
 
--- the word of an answer and its numbers; no line makes the call that accepts a table
+-- the word of an answer and its numbers; no line makes the calls that accept a table or number a tree
 unfoldable pub answerText : Answer → List ℕ
 answerText Approved = approvedWord
 answerText NotPart = notWord ++ (space ∷ partWord)
@@ -60,6 +64,8 @@ answerText (Accepted states transitions) = acceptedWord ++ (field states ++ fiel
 answerText (Done states transitions) = doneWord ++ (field states ++ field transitions)
 answerText (Total number) = totalWord ++ field number
 answerText Over = totalWord ++ (space ∷ overWord)
+answerText (Serial number) = numberWord ++ field number
+answerText Finished = doneWord
 answerText (Refused number) = refusedWord ++ field number
 
 -- what came of a line: an answer, the column from which it is malformed, or that it is too long

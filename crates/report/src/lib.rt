@@ -119,6 +119,11 @@ fn put_answer(out: &mut [u8; LINE_BYTES], at: usize, answer: Answer) -> usize
             put_field(out, first, number)
         }
         Answer::Over => put_word(out, at, b"total over"),
+        Answer::Serial { number } => {
+            let first = put_word(out, at, b"number");
+            put_field(out, first, number)
+        }
+        Answer::Finished => put_word(out, at, b"done"),
         Answer::Refused { number } => {
             let first = put_word(out, at, b"refused");
             put_field(out, first, number as u64)

@@ -12,8 +12,8 @@ use Rattle.automata.specs.Totals.{total}
 use Rattle.calls.specs.Answers.{numberAfter}
 use Rattle.calls.specs.Calls.{totalAnswer, totalled}
 use Rattle.calls.specs.declared.Answer.{Answer}
-use Rattle.calls.specs.declared.Answer.the-variants.{Accepted, Approved, Done, NotAt, NotPart, Over as TooMany, Refused}
-use Rattle.calls.specs.declared.Answer.the-variants.{Total as Counted}
+use Rattle.calls.specs.declared.Answer.the-variants.{Accepted, Approved, Done, Finished, NotAt, NotPart, Over as TooMany}
+use Rattle.calls.specs.declared.Answer.the-variants.{Refused, Serial, Total as Counted}
 use Rattle.calls.proofs.Answer.{the-type}
 use Rattle.format.specs.Format.{numberLimit}
 use Rattle.table.specs.Intake.{tableRefusal}
@@ -46,14 +46,19 @@ unfolding totalAnswer
 total-answered b e z f y d =
     rw (eq-eqb (tableRefusal b) 0 (sym e ∙ z)) (ap fromTotal (sym d ∙ f) ∙ from-total (total (decode b)))
 
--- an answer of any other case than the sixth, which has a total, leaves the number that was lent
-pub other-number : (a : Answer) (old : ℕ) → OneOf (0 ∷ 1 ∷ 2 ∷ 3 ∷ 4 ∷ 6 ∷ 7 ∷ []) (tagOf the-type a) →
-    old ≡ numberAfter a old
+-- the cases of answers that have neither a total nor a tree's number
+abbrev others : List ℕ
+others = 0 ∷ 1 ∷ 2 ∷ 3 ∷ 4 ∷ 6 ∷ 8 ∷ 9 ∷ []
+
+-- such an answer leaves the number that was lent
+pub other-number : (a : Answer) (old : ℕ) → OneOf others (tagOf the-type a) → old ≡ numberAfter a old
 other-number Approved old h = refl
 other-number NotPart old h = refl
 other-number (NotAt k) old h = refl
 other-number (Accepted j k) old h = refl
 other-number (Done j k) old h = refl
-other-number (Counted n) old h = absurd (miss (0 ∷ 1 ∷ 2 ∷ 3 ∷ 4 ∷ 6 ∷ 7 ∷ []) 5 tt h)
+other-number (Counted n) old h = absurd (miss others 5 tt h)
 other-number TooMany old h = refl
+other-number (Serial n) old h = absurd (miss others 7 tt h)
+other-number Finished old h = refl
 other-number (Refused k) old h = refl

@@ -1,17 +1,22 @@
 // The calls on byte slices, each also for a C host. No public function has a `requires`: any bytes of any length get
 // the answer that document 01 gives.
 mod lines; // lines of text
+mod serials; // serial numbers of trees
 
 ghost use mathlib.Core.Path.{_≡_};
 ghost use Rattle.calls.specs.Answers.{answerNumber, countsNumber, numberAfter};
-ghost use Rattle.calls.specs.Calls.{addResult, askAnswer, askRefusal, changeResult, intakeAnswer, removeResult};
-ghost use Rattle.calls.specs.Calls.{totalAnswer};
+ghost use Rattle.calls.specs.Calls.{addResult, askAnswer, askRefusal, asked, changeResult, intakeAnswer};
+ghost use Rattle.calls.specs.Calls.{removeResult, totalAnswer};
 ghost use Rattle.change.specs.Changing.{changeOf, resultOf};
-ghost use Rattle.trees.specs.Listing.{readTree};
+ghost use Rattle.fields.specs.Fields.{InTable};
+ghost use Rattle.running.specs.Running.{HoldsStates};
+ghost use Rattle.table.specs.Layout.{decode};
+ghost use Rattle.trees.specs.Listing.{listingRefusal, readTree};
 ghost use Rattle.trees.specs.Tree.{Tree};
 ghost use Rattle.scalebench.specs.Changes.{inputRefusal, presenceRefusal};
 use calls::Answer;
 use fields::transition_count;
+use format::MAX_NODES;
 use format::SCRATCH_BYTES;
 use format::TABLE_BYTES;
 use intake::content_refusal;
@@ -59,6 +64,8 @@ fn answer_number(answer: Answer) -> u64
         } => counts(states, transitions),
         Answer::Total { .. } => 0,
         Answer::Over => 256,
+        Answer::Serial { .. } => 256,
+        Answer::Finished => 0,
         Answer::Refused { number } => wide64(number),
     }
 }
@@ -74,6 +81,25 @@ fn ask_refusal(tree: &[u8], table: &[u8]) -> u8
     intake::refusal(table)
 }
 
+// Whether the table's set has the tree whose nodes ran to these states, and if not, what stops the tree.
+fn asked(tree: &[u8], table: &[u8], reached: &[u8; MAX_NODES]) -> Answer
+    requires { ⌜ listingRefusal (now tree) ≡ 0 ⌝ }
+    requires { ⌜ InTable (now table) ⌝ }
+    requires { ⌜ HoldsStates (decode (now table)) (readTree (now tree)) (now reached) ⌝ }
+    ensures { λ r. ⌜ r ≡ asked (decode (now (table .entry))) (readTree (now (tree .entry))) ⌝ }
+{
+    let q = reached[0];
+    if q == 0 {
+        return Answer::NotAt {
+            place: stop_place(tree, reached),
+        };
+    }
+    if accepts_state(table, q) {
+        return Answer::Approved;
+    }
+    Answer::NotPart
+}
+
 // Whether the table's set has the tree, and if not, what stops the tree.
 pub fn ask(tree: &[u8], table: &[u8]) -> Answer
     ensures { λ r. ⌜ r ≡ askAnswer (now (tree .entry)) (now (table .entry)) ⌝ }
@@ -83,16 +109,7 @@ pub fn ask(tree: &[u8], table: &[u8]) -> Answer
         return Answer::Refused { number };
     }
     let reached = node_states(tree, table);
-    let q = reached[0];
-    if q == 0 {
-        return Answer::NotAt {
-            place: stop_place(tree, &reached),
-        };
-    }
-    if accepts_state(table, q) {
-        return Answer::Approved;
-    }
-    Answer::NotPart
+    asked(tree, table, &reached)
 }
 
 // Whether the table is one that these calls leave.
@@ -225,14 +242,15 @@ pub extern "C" fn scalebench_ask(tree: &[u8], table: &[u8]) -> u64
     answer_number(answer)
 }
 
-// The number that a host has after an answer: the total, or what was there.
+// The number that a host has after an answer: the total, the tree's number, or what was there.
 fn number_after(answer: Answer, old: u64) -> u64
     ensures { λ r. ⌜ r ≡ numberAfter answer old ⌝ }
 {
-    let Answer::Total { number } = answer else {
-        return old;
-    };
-    number
+    match answer {
+        Answer::Total { number } => number,
+        Answer::Serial { number } => number,
+        _ => old,
+    }
 }
 
 #[no_mangle]

@@ -9,7 +9,8 @@ use lib.ListN.{drop, length, length-append, replicate, take}
 use Rattle.format.specs.Format.{listingBytes}
 use Rattle.calls.specs.Calls.{Result, intakeAnswer, totalAnswer}
 use Rattle.calls.specs.declared.Answer.{Answer}
-use Rattle.calls.specs.declared.Answer.the-variants.{Accepted, Approved, Done, NotAt, NotPart, Over, Refused, Total as Counted}
+use Rattle.calls.specs.declared.Answer.the-variants.{Accepted, Approved, Done, Finished, NotAt, NotPart, Over, Refused}
+use Rattle.calls.specs.declared.Answer.the-variants.{Serial, Total as Counted}
 use Rattle.calls.proofs.Answer.{the-type}
 use Rattle.report.specs.Printing.{Printed}
 use Rattle.report.specs.Report.{endText, lineText}
@@ -111,14 +112,19 @@ pub printed-closing : (n : ℕ) (b t x : List ℕ) (r : ℕ) (a : Answer) → a 
 unfolding closing
 printed-closing n b t x r a e f p = subst (λ (y : List ℕ). Printed t y r) (sym f ∙ ap (closingFor n) e) p
 
--- an answer of any other case than the fourth, which accepts a table, has no numbers
-pub other-closing : (n : ℕ) (a : Answer) → OneOf (0 ∷ 1 ∷ 2 ∷ 4 ∷ 5 ∷ 6 ∷ 7 ∷ []) (tagOf the-type a) →
-    closingFor n a ≡ endText n 0 0
+-- the cases of answers that do not accept a table
+abbrev others : List ℕ
+others = 0 ∷ 1 ∷ 2 ∷ 4 ∷ 5 ∷ 6 ∷ 7 ∷ 8 ∷ 9 ∷ []
+
+-- such an answer has no numbers
+pub other-closing : (n : ℕ) (a : Answer) → OneOf others (tagOf the-type a) → closingFor n a ≡ endText n 0 0
 other-closing n Approved h = refl
 other-closing n NotPart h = refl
 other-closing n (NotAt k) h = refl
-other-closing n (Accepted j k) h = absurd (miss (0 ∷ 1 ∷ 2 ∷ 4 ∷ 5 ∷ 6 ∷ 7 ∷ []) 3 tt h)
+other-closing n (Accepted j k) h = absurd (miss others 3 tt h)
 other-closing n (Done j k) h = refl
 other-closing n (Counted k) h = refl
 other-closing n Over h = refl
+other-closing n (Serial k) h = refl
+other-closing n Finished h = refl
 other-closing n (Refused k) h = refl

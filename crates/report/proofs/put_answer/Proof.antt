@@ -93,11 +93,32 @@ slice-aggregate-put-word-8 c = search needs
 put-word-requires-8 : tie.Need-put-word-requires-8
 put-word-requires-8 c κs = search needs
 
+put-field-requires-3 : tie.Need-put-field-requires-3
+put-field-requires-3 c κs = search needs
+
+enum-told-4 : tie.Need-enum-told-4
+enum-told-4 c = search needs
+
+slice-aggregate-put-word-9 : tie.Need-slice-aggregate-put-word-9
+slice-aggregate-put-word-9 c = search needs
+
+put-word-requires-9 : tie.Need-put-word-requires-9
+put-word-requires-9 c κs = search needs
+
+enum-known-answer-6 : tie.Need-enum-known-answer-6
+enum-known-answer-6 c = search needs
+
+slice-aggregate-put-word-10 : tie.Need-slice-aggregate-put-word-10
+slice-aggregate-put-word-10 c = search needs
+
+put-word-requires-10 : tie.Need-put-word-requires-10
+put-word-requires-10 c κs = search needs
+
 cast-put-field-2 : tie.Need-cast-put-field-2
 cast-put-field-2 c = search needs
 
-put-field-requires-3 : tie.Need-put-field-requires-3
-put-field-requires-3 c κs = search needs
+put-field-requires-4 : tie.Need-put-field-requires-4
+put-field-requires-4 c κs = search needs
 
 returns : tie.Need-returns
 unfolding answerText
@@ -144,6 +165,17 @@ returns-8 c =
     let at-answer = c .before .before .before .before .before .before in
     (rw (at-answer .answer5 .given .1) (put-then (c .before .before .put-word8 .ensures) (c .put-field3 .ensures .0)), omega arith)
 
+returns-9 : tie.Need-returns-9
+unfolding answerText
+returns-9 c =
+    (rw (c .before .before .before .enum-told4 .given .1) (c .put-word9 .ensures), omega arith)
+
+returns-10 : tie.Need-returns-10
+unfolding answerText
+returns-10 c =
+    let at-answer = c .before .before .before .before .before .before in
+    (rw (at-answer .answer6 .given .1) (put-then (c .before .before .put-word10 .ensures) (c .put-field4 .ensures .0)), omega arith)
+
 pub put-answer-spec : {M : Type 1} → statement M
 put-answer-spec =
     tie.close
@@ -177,8 +209,15 @@ put-answer-spec =
     enum-known-answer-5
     slice-aggregate-put-word-8
     put-word-requires-8
-    cast-put-field-2
     put-field-requires-3
+    enum-told-4
+    slice-aggregate-put-word-9
+    put-word-requires-9
+    enum-known-answer-6
+    slice-aggregate-put-word-10
+    put-word-requires-10
+    cast-put-field-2
+    put-field-requires-4
     returns
     returns-2
     returns-3
@@ -186,4 +225,6 @@ put-answer-spec =
     returns-5
     returns-6
     returns-7
-    returns-8)
+    returns-8
+    returns-9
+    returns-10)

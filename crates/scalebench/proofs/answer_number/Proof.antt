@@ -39,6 +39,12 @@ enum-told-3 c = search needs
 enum-told-4 : tie.Need-enum-told-4
 enum-told-4 c = search needs
 
+enum-told-5 : tie.Need-enum-told-5
+enum-told-5 c = search needs
+
+enum-told-6 : tie.Need-enum-told-6
+enum-told-6 c = search needs
+
 enum-known-answer-4 : tie.Need-enum-known-answer-4
 enum-known-answer-4 c = search needs
 
@@ -72,6 +78,12 @@ returns-7 c = search needs
 returns-8 : tie.Need-returns-8
 returns-8 c = search needs
 
+returns-9 : tie.Need-returns-9
+returns-9 c = search needs
+
+returns-10 : tie.Need-returns-10
+returns-10 c = search needs
+
 pub answer-number-spec : {M : Type 1} → statement M
 answer-number-spec =
     tie.close
@@ -87,6 +99,8 @@ answer-number-spec =
     counts-requires-2
     enum-told-3
     enum-told-4
+    enum-told-5
+    enum-told-6
     enum-known-answer-4
     wide64-requires-2
     returns
@@ -96,4 +110,6 @@ answer-number-spec =
     returns-5
     returns-6
     returns-7
-    returns-8)
+    returns-8
+    returns-9
+    returns-10)
