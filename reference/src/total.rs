@@ -14,7 +14,7 @@ pub fn exact(automaton: &Automaton) -> Natural {
 }
 
 /// Each tree of a state has one transition at its top, and the children are chosen one by one.
-fn of_state(automaton: &Automaton, state: u8, known: &mut BTreeMap<u8, Natural>) -> Natural {
+pub fn of_state(automaton: &Automaton, state: u8, known: &mut BTreeMap<u8, Natural>) -> Natural {
     if let Some(number) = known.get(&state) {
         return number.clone();
     }

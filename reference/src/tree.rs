@@ -1,6 +1,7 @@
 //! Trees and their listings: refusals 1 to 4.
 
 pub const MAX_NODES: usize = 48;
+pub const LISTING_BYTES: usize = 2 * MAX_NODES;
 pub const MAX_CHILDREN: usize = 8;
 
 #[derive(Clone, Debug, PartialEq, Eq, PartialOrd, Ord, Hash)]
@@ -49,7 +50,7 @@ impl Tree {
 
 /// The tree that the bytes list, or the number of the first condition that they break.
 pub fn read(listing: &[u8]) -> Result<Tree, u8> {
-    if listing.len() < 2 || listing.len() > 2 * MAX_NODES || listing.len() % 2 != 0 {
+    if listing.len() < 2 || listing.len() > LISTING_BYTES || listing.len() % 2 != 0 {
         return Err(1);
     }
     if listing.iter().step_by(2).any(|&label| label == 0) {
