@@ -5,6 +5,7 @@ pub mod damage;
 pub mod dice;
 pub mod library;
 pub mod lines;
+pub mod serial;
 pub mod series;
 pub mod stops;
 pub mod swaps;

@@ -1,10 +1,11 @@
 //! The proved library and the reference on the same bytes: series of calls from the empty table, from random legal
 //! tables and from such near the limits; damaged tables; all lengths; lines of text; changes in either order; trees
-//! that stop at every place; totals around 2^64. Answers and every byte that a call may write are compared, and every
-//! answer must be met.
+//! that stop at every place; totals around 2^64; serial numbers both ways. Answers and every byte that a call may write
+//! are compared, and every answer must be met.
 
 use differential::dice::Dice;
 use differential::lines::lines;
+use differential::serial::serial;
 use differential::series::{next_tree, series};
 use differential::stops::stops;
 use differential::swaps::swaps;
@@ -12,7 +13,7 @@ use differential::tally::{Call, Tally};
 use differential::totals::totals;
 use reference::automaton::Automaton;
 use reference::table::{encode, SCRATCH_BYTES, TABLE_BYTES};
-use reference::tree::Tree;
+use reference::tree::{Tree, LISTING_BYTES};
 
 const SERIES: usize = 400;
 const CALLS: usize = 60;
@@ -60,6 +61,8 @@ fn damaged_tables(dice: &mut Dice, tally: &mut Tally) {
         let call = if dice.roll(2) == 0 { Call::Add } else { Call::Remove };
         let scratch = if dice.roll(50) == 0 { dice.noise(7) } else { dice.noise(SCRATCH_BYTES) };
         tally.read(&listing, &table);
+        let number = dice.serial(&table);
+        tally.unrank(number, &table, &dice.noise(LISTING_BYTES));
         tally.change(call, &listing, &mut table.clone(), &scratch);
     }
 }
@@ -105,7 +108,7 @@ fn lengths(dice: &mut Dice, tally: &mut Tally) {
 fn main() {
     let mut dice = Dice::new(1);
     let mut tally = Tally::default();
-    for part in [all_series, near_limits, damaged_tables, any_automata, lengths, lines, swaps, stops, totals] {
+    for part in [all_series, near_limits, damaged_tables, any_automata, lengths, lines, swaps, stops, totals, serial] {
         part(&mut dice, &mut tally);
         println!("{} calls", tally.calls());
     }

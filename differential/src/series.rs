@@ -1,6 +1,7 @@
 //! Series of calls on one table, as document 01 has them: each gets the table as the call before left it.
 
 use crate::dice::Dice;
+use crate::serial::from_number;
 use crate::tally::{Call, Tally};
 use reference::automaton::Automaton;
 use reference::table::{encode, intake, SCRATCH_BYTES, TABLE_BYTES};
@@ -23,6 +24,8 @@ pub fn series(dice: &mut Dice, tally: &mut Tally, start: &Automaton, calls: usiz
             _ => tally.change(Call::Remove, &listing, &mut table, &scratch),
         }
         tally.total(&table);
+        let number = dice.serial(&table);
+        from_number(dice, tally, number, &table);
         used.push(tree);
     }
     tally.intake(&table);

@@ -14,7 +14,12 @@ pub enum Call {
     Remove,
     Read,
     Total,
+    Rank,
+    Unrank,
 }
+
+const CALLS: [Call; 8] =
+    [Call::Ask, Call::Intake, Call::Add, Call::Remove, Call::Read, Call::Total, Call::Rank, Call::Unrank];
 
 #[derive(Default)]
 pub struct Tally {
@@ -54,7 +59,7 @@ impl Tally {
         });
     }
 
-    /// Ask, intake and total.
+    /// Ask, intake, total and rank.
     pub fn read(&mut self, listing: &[u8], table: &[u8]) {
         let answer = library::ask(listing, table);
         if answer & 0xffff == 0 {
@@ -63,21 +68,52 @@ impl Tally {
         self.answers(Call::Ask, listing, answer, reference::ask(listing, table).packed());
         self.intake(table);
         self.total(table);
+        self.rank(listing, table);
     }
 
     pub fn intake(&mut self, table: &[u8]) {
         self.answers(Call::Intake, &[], library::intake(table), reference::take_in(table).packed());
     }
 
+    /// Some number to lend, another one for each call.
+    fn lent(&self) -> u64 {
+        0x5ca1_eb0a_7ab1_e000 + self.passed as u64
+    }
+
+    fn number(&mut self, call: Call, lent: u64, library: u64, reference: u64) {
+        let tell = || format!("{call:?}: library {library}, reference {reference}, lent {lent}");
+        self.expect(library == reference, tell);
+    }
+
     /// Total, with some number lent, which only a total overwrites.
     pub fn total(&mut self, table: &[u8]) {
-        let lent = 0x5ca1_eb0a_7ab1_e000 + self.passed as u64;
+        let lent = self.lent();
         let mut number = lent;
         let answer = library::total(table, &mut number);
         let reference = reference::total(table);
         self.answers(Call::Total, &[], answer, reference.packed());
-        let want = reference.left(lent);
-        self.expect(number == want, || format!("Total: library {number}, reference {want}, lent {lent}"));
+        self.number(Call::Total, lent, number, reference.left(lent));
+    }
+
+    /// Rank, with some number lent, which only the number of an approved tree overwrites; that number.
+    pub fn rank(&mut self, listing: &[u8], table: &[u8]) -> Option<u64> {
+        let lent = self.lent();
+        let mut number = lent;
+        let answer = library::rank(listing, table, &mut number);
+        let reference = reference::rank(listing, table);
+        self.answers(Call::Rank, listing, answer, reference.packed());
+        self.number(Call::Rank, lent, number, reference.left(lent));
+        (answer == 256).then_some(number)
+    }
+
+    /// Unrank, with this listing lent, which only a tree overwrites; all of it after the call, if it has one.
+    pub fn unrank(&mut self, number: u64, table: &[u8], listing: &[u8]) -> Option<Vec<u8>> {
+        let (mut own, mut other) = (listing.to_vec(), listing.to_vec());
+        let answer = library::unrank(number, table, &mut own);
+        let reference = reference::unrank(number, table, &mut other);
+        self.answers(Call::Unrank, &[], answer, reference.packed());
+        self.bytes(Call::Unrank, &[], "listing", &own, &other);
+        (answer == 0).then_some(own)
     }
 
     /// Add or remove; the table is left as the reference leaves it.
@@ -125,7 +161,7 @@ impl Tally {
     pub fn all_met(&mut self) {
         let places = std::mem::take(&mut self.places);
         self.expect(places.iter().copied().eq(1..=MAX_NODES as u64), || format!("places met: {places:?}"));
-        for call in [Call::Ask, Call::Intake, Call::Add, Call::Remove, Call::Read, Call::Total] {
+        for call in CALLS {
             let answers: Vec<u64> = match call {
                 Call::Ask => (0..=5).chain(7..=13).chain([256, 512]).collect(),
                 Call::Intake => [0, 5].into_iter().chain(7..=13).collect(),
@@ -133,6 +169,8 @@ impl Tally {
                 Call::Remove => (0..=13).chain(15..=17).collect(),
                 Call::Read => (0..=6).map(|kind| 256 * kind).collect(),
                 Call::Total => [0, 5].into_iter().chain(7..=13).chain([256]).collect(),
+                Call::Rank => (0..=5).chain(7..=13).chain([18, 256, 512]).collect(),
+                Call::Unrank => [0, 5, 6].into_iter().chain(7..=13).chain(18..=20).collect(),
             };
             for answer in answers {
                 let met = self.met.contains_key(&(call, answer));

@@ -11,14 +11,14 @@ use reference::total::{exact, listed};
 use reference::tree::Tree;
 use std::collections::BTreeMap;
 
-const NEAR: u128 = 1 << 64;
+pub const NEAR: u128 = 1 << 64;
 const TABLES: usize = 300;
 const LISTED: usize = 1_500;
 const NODES: usize = 3_000;
 const POWERS: usize = 63;
 
 /// A sum of powers of two. State k of a chain has 2^(k - 1) trees, and a power is a product of some of them.
-fn sum_of(dice: &mut Dice, exponents: &[usize]) -> Automaton {
+pub fn sum_of(dice: &mut Dice, exponents: &[usize]) -> Automaton {
     let top = POWERS as u8 + 2;
     let mut lines = BTreeMap::from([(Key::new(1, vec![]), 1)]);
     for state in 1..top - 1 {
@@ -47,7 +47,7 @@ fn factors(dice: &mut Dice, exponent: usize) -> Vec<u8> {
 }
 
 /// The exponents of the number in base 2, some of them as twice the one below.
-fn exponents(dice: &mut Dice, number: u128) -> Vec<usize> {
+pub fn exponents(dice: &mut Dice, number: u128) -> Vec<usize> {
     let mut exponents: Vec<usize> = (0..128).filter(|&bit| number >> bit & 1 == 1).collect();
     for _ in 0..dice.roll(4) {
         let at = dice.roll(exponents.len());

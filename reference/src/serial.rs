@@ -1,5 +1,5 @@
-//! Serial numbers of accepted trees, from 0: all trees listed and sorted, if they are few and small, and by exact numbers
-//! of the trees that come before. The automaton is one that passed intake.
+//! Serial numbers of accepted trees, from 0: all trees listed and sorted, if they are few and small, and by exact
+//! numbers of the trees that come before. The automaton is one that passed intake.
 
 use crate::automaton::{Automaton, Key};
 use crate::natural::Natural;
@@ -71,8 +71,8 @@ impl Numbers<'_> {
         sum
     }
 
-    /// The number of trees of a state. A tree of the state stands below some accepted tree, and another in its place makes
-    /// another accepted tree: so there are no more than accepted ones, and these have a total.
+    /// The number of trees of a state. A tree of the state stands below some accepted tree, and another in its place
+    /// makes another accepted tree: so there are no more than accepted ones, and these have a total.
     fn small(&self, number: &Natural) -> u64 {
         number.small().expect("no more than the total")
     }
