@@ -8,13 +8,13 @@
  * Every call may be handed any bytes of any length: it checks all that it is given and answers with the first
  * condition that is broken. A pointer may be NULL if its length is 0.
  *
- * Aliasing. What a call writes (table and scratch of add and remove, the number of total, the listing of read) shares
- * no byte with anything else that the call gets, and nobody else writes to what a call is given while it runs. Two
- * things that a call only reads may overlap.
+ * Aliasing. What a call writes (table and scratch of add and remove, the number of total and rank, the listing of
+ * unrank and read) shares no byte with anything else that the call gets, and nobody else writes to what a call is given
+ * while it runs. Two things that a call only reads may overlap.
  *
  * Threads. The library has no state of its own and takes no memory but stack; SCALEBENCH_CHANGE_STACK_BYTES and the
- * like below say how much. Calls on different tables may run at the same time; so may ask, intake and total on one
- * table while nobody changes it.
+ * like below say how much. Calls on different tables may run at the same time; so may ask, intake, total, rank and
+ * unrank on one table while nobody changes it.
  *
  * A whole program. It prints "approved, 2 states, 2 transitions".
  *
@@ -51,9 +51,12 @@ extern "C" {
 #endif
 
 /* The version of the library, of this header and of the host. */
-#define SCALEBENCH_VERSION "0.4.0"
+#define SCALEBENCH_VERSION "0.5.0"
 
-/* The lengths that a table and a scratch must have, and the greatest length of a listing for ask, add and remove. */
+/*
+ * The lengths that a table and a scratch must have. The greatest length of a listing for ask, rank, add and remove is
+ * the length that the listing lent to unrank must have.
+ */
 #define SCALEBENCH_TABLE_BYTES 11467
 #define SCALEBENCH_SCRATCH_BYTES 33792
 #define SCALEBENCH_LISTING_BYTES 96
@@ -63,8 +66,8 @@ extern "C" {
 #define SCALEBENCH_LINE_BYTES 512
 
 /*
- * The stack that a call takes at most: add and remove; ask and intake; total; read. Measured on x86-64 (160, 78, 100 and
- * 41 KiB) and rounded up by about a fifth. tests/stack.c makes the calls on stacks of these sizes.
+ * The stack that a call takes at most: add and remove; ask and intake; total, rank and unrank; read. Measured on x86-64
+ * and rounded up by about a fifth. tests/stack.c makes the calls on stacks of these sizes.
  */
 #define SCALEBENCH_CHANGE_STACK_BYTES 196608
 #define SCALEBENCH_ASK_STACK_BYTES 98304
@@ -93,9 +96,29 @@ uint64_t scalebench_intake(const uint8_t *table, size_t table_len);
 uint64_t scalebench_total(const uint8_t *table, size_t table_len, uint64_t *number);
 
 /*
+ * The serial number of an approved tree, from 0 to the total less one. Trees are ordered by the state that they lead
+ * to, then by the transition used at the top node, in the order of the table, then by their children, the first that
+ * differ deciding. So the number is how many approved trees come before it, and a change of the set may give the tree
+ * another one. First does all that ask does: refuses by 1 to 5 and 7 to 13, and a tree that is not approved gets ask's
+ * answer. Then refuses by 18. Else the answer is approved, and `*number` is the tree's. Any other answer leaves
+ * `*number` as it was; `number` is not NULL. Writes nothing else.
+ */
+uint64_t scalebench_rank(const uint8_t *tree, size_t tree_len, const uint8_t *table, size_t table_len,
+                         uint64_t *number);
+
+/*
+ * The approved tree that has a serial number. Not refused: returns 0, the listing of the tree stands at the start of
+ * `listing`, and zeros follow. Refuses by 5, by 6 if the listing is not SCALEBENCH_LISTING_BYTES long, by 7 to 13 and
+ * by 18 to 20. A table can approve trees of any size, so some numbers may be refused by 20. A refusal leaves every
+ * byte of the listing as it was. Writes nothing else.
+ */
+uint64_t scalebench_unrank(uint64_t number, const uint8_t *table, size_t table_len, uint8_t *listing,
+                           size_t listing_len);
+
+/*
  * Puts the tree into the set, or takes it out. Not refused: the table is that of the new set, and the answer has its
- * numbers of states and transitions. Add refuses by all but 15, remove by all but 14; a refusal leaves every byte of
- * the table as it was.
+ * numbers of states and transitions. Add refuses by 1 to 14, 16 and 17, remove by 1 to 13 and 15 to 17; a refusal
+ * leaves every byte of the table as it was.
  *
  * The scratch is memory to work in; what it holds before the call does not matter. After refusals 1 to 15 it is as it
  * was, after 16, 17 and a change it is all zeros.
@@ -131,8 +154,8 @@ static inline unsigned scalebench_refusal(uint64_t answer) { return SCALEBENCH_A
 static inline unsigned scalebench_kind(uint64_t answer) { return SCALEBENCH_AS(unsigned, answer >> 8 & 255); }
 
 /*
- * Of ask: whether the tree is approved; whether it is not, but part of an approved tree; the place of the node that
- * stops it, counted in nodes of the listing from 1, else 0.
+ * Of ask and rank: whether the tree is approved; whether it is not, but part of an approved tree; the place of the
+ * node that stops it, counted in nodes of the listing from 1, else 0.
  */
 static inline int scalebench_approved(uint64_t answer) { return scalebench_kind(answer) == 1; }
 static inline int scalebench_part(uint64_t answer) { return scalebench_kind(answer) == 2; }
@@ -162,7 +185,7 @@ static inline const char *scalebench_reason(unsigned refusal)
         /*  3 */ "a child count is above 8",
         /*  4 */ "the child counts do not make exactly one tree",
         /*  5 */ "the table is not 11467 bytes long",
-        /*  6 */ "the scratch is not 33792 bytes long",
+        /*  6 */ "the scratch is not 33792 bytes long, or the listing to be written not 96",
         /*  7 */ "a field of the table is out of its range, or a byte that must be 0 is not",
         /*  8 */ "the transitions of the table are not in strictly rising order",
         /*  9 */ "some state of the table has no tree that leads to it",
@@ -174,6 +197,9 @@ static inline const char *scalebench_reason(unsigned refusal)
         /* 15 */ "the tree is not approved",
         /* 16 */ "the product of the table and the tree has more than 3072 transitions",
         /* 17 */ "the new table needs more than 200 states or 1024 transitions",
+        /* 18 */ "more than 18446744073709551615 trees are approved, so they have no numbers",
+        /* 19 */ "the number is not below the number of approved trees",
+        /* 20 */ "the tree has more than 48 nodes",
     };
     return refusal < sizeof reasons / sizeof reasons[0] ? reasons[refusal] : "no such refusal";
 }

@@ -33,6 +33,26 @@ static void cost_of_total(const char *what)
     expect(what, scalebench_refusal(answer), 0);
 }
 
+/* The first tree, if it fits a listing, and its number. */
+static void cost_of_numbers(const char *what)
+{
+    uint8_t listing[SCALEBENCH_LISTING_BYTES] = {0};
+    uint64_t number = UINT64_MAX;
+    size_t nodes = 1;
+    double began = seconds();
+    uint64_t answer = scalebench_unrank(0, table, TABLE, listing, sizeof listing);
+    note(what, "unrank", seconds() - began);
+    expect(what, answer == 0 || (answer >= 18 && answer <= 20), 1);
+    if (answer != 0)
+        return;
+    while (nodes < 48 && listing[2 * nodes])
+        nodes++;
+    began = seconds();
+    answer = scalebench_rank(listing, 2 * nodes, table, TABLE, &number);
+    note(what, "rank", seconds() - began);
+    expect(what, scalebench_approved(answer) && number == 0, 1);
+}
+
 /* The table passes; ask on it is repeated, so that a small cost shows. */
 static void cost_of_ask(const char *what)
 {
@@ -48,6 +68,7 @@ static void cost_of_ask(const char *what)
     expect(what, scalebench_intake(table, TABLE), counts(table[0], 256u * table[201] + table[202]));
     note(what, "ask", each);
     cost_of_total(what);
+    cost_of_numbers(what);
 }
 
 /* The tree added to the table, and removed where it was added, which gives the first bytes back. */

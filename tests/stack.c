@@ -33,6 +33,16 @@ static void total(void)
     uint64_t number;
     scalebench_total(table, TABLE, &number);
 }
+static void rank(void)
+{
+    uint64_t number;
+    scalebench_rank(tree, tree_length, table, TABLE, &number);
+}
+static void unrank(void)
+{
+    uint8_t listing[SCALEBENCH_LISTING_BYTES];
+    scalebench_unrank(0, table, TABLE, listing, sizeof listing);
+}
 static void add(void) { scalebench_add(tree, tree_length, table, TABLE, scratch, SCRATCH); }
 static void take_out(void) { scalebench_remove(tree, tree_length, table, TABLE, scratch, SCRATCH); }
 static void read_line(void)
@@ -45,6 +55,8 @@ static struct kind kinds[] = {
     {"ask", SCALEBENCH_ASK_STACK_BYTES, 0, ask},
     {"intake", SCALEBENCH_ASK_STACK_BYTES, 0, intake},
     {"total", SCALEBENCH_TOTAL_STACK_BYTES, 0, total},
+    {"rank", SCALEBENCH_TOTAL_STACK_BYTES, 0, rank},
+    {"unrank", SCALEBENCH_TOTAL_STACK_BYTES, 0, unrank},
     {"add", SCALEBENCH_CHANGE_STACK_BYTES, 0, add},
     {"remove", SCALEBENCH_CHANGE_STACK_BYTES, 0, take_out},
     {"read", SCALEBENCH_READ_STACK_BYTES, 0, read_line},
@@ -125,6 +137,17 @@ static void all_trees(const char *what)
     }
 }
 
+/* A chain of 48 nodes, labels rising from the leaf up, and all that stand below it: approved trees of every depth. */
+static void deep_trees(void)
+{
+    memset(table, 0, TABLE);
+    table[0] = 48;
+    memset(table + 1, 1, 48);
+    append(table, 1, 0, NULL, 1);
+    for (unsigned q = 1; q < 48; q++)
+        append(table, q + 1, 1, (const uint8_t[]){(uint8_t)q}, q + 1);
+}
+
 /* Two states that are alike, so that no fingerprints distinguish them. */
 static void alike(void)
 {
@@ -151,6 +174,10 @@ int main(void)
         chain(table, falling, 8, 5);
         all_trees("a chain of eight places");
     }
+    deep_trees();
+    all_trees("48 levels, all approved");
+    memset(table + 1, 0, 47);
+    all_trees("48 levels");
     alike();
     all_trees("two states alike");
     for (size_t i = 0; i < sizeof kinds / sizeof kinds[0]; i++)

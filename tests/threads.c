@@ -1,6 +1,6 @@
 /*
- * What the header says of threads: four at once, each with a table and a scratch of its own and a stack of 256 KiB, leave
- * what one alone leaves; and all ask of one table, and for its total, meanwhile.
+ * What the header says of threads: four at once, each with a table and a scratch of its own and a stack of 256 KiB,
+ * leave what one alone leaves; and all ask of one table, for its total and for serial numbers, meanwhile.
  */
 #define _XOPEN_SOURCE 700
 
@@ -30,9 +30,12 @@ static void *work_through(void *given)
                                 (uint8_t)(1 + x / 15 % 4), 0, (uint8_t)(1 + x / 60 % 5), 0};
         work->answers[i] = (i % 3 == 2 ? scalebench_remove : scalebench_add)(tree, sizeof tree, work->table, TABLE,
                                                                            work->scratch, SCRATCH);
-        uint64_t trees = 0;
+        uint64_t trees = 0, number = 0;
+        uint8_t listing[SCALEBENCH_LISTING_BYTES];
         if (!scalebench_approved(scalebench_ask(known, sizeof known, shared, TABLE)) ||
-            scalebench_total(shared, TABLE, &trees) != 0 || trees != 5)
+            scalebench_total(shared, TABLE, &trees) != 0 || trees != 5 ||
+            !scalebench_approved(scalebench_rank(known, sizeof known, shared, TABLE, &number)) || number != 1 ||
+            scalebench_unrank(1, shared, TABLE, listing, sizeof listing) != 0 || memcmp(listing, known, sizeof known))
             work->answers[i] = UINT64_MAX;
     }
     uint8_t deep[96];
