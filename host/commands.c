@@ -22,16 +22,9 @@ static enum status refused(const struct session *session, unsigned long number, 
 static enum status not_approved(const struct session *session, unsigned long number, const uint8_t *tree,
                                 uint64_t answer)
 {
-    char node[NODE_TEXT];
-    unsigned place = scalebench_place(answer);
-    if (place == 0) {
-        output(session->quiet, "%lu not part\n", number);
-        explain("not approved: part of an approved assembly");
-        return STATUS_NOT;
-    }
-    node_text(tree, place, node);
-    output(session->quiet, "%lu not %u\n", number, place);
-    explain("not approved: %s", node);
+    char text[NOT_TEXT];
+    output(session->quiet, "%lu %s\n", number, not_text(answer, text));
+    explain_not(tree, answer);
     return STATUS_NOT;
 }
 
@@ -186,14 +179,14 @@ static enum status each_line(const struct session *session, FILE *input, struct 
             return STATUS_FAILED;
         tally->refused += status == STATUS_REFUSED;
         if (counted && tally->lines % 100 == 0)
-            show_count(tally->lines);
+            show_count("%lu lines", tally->lines);
     }
     message_line(0);
     tally->unread = ferror(input);
     if (tally->unread)
         explain("cannot read the input: %s", strerror(errno));
     if (counted)
-        show_count(tally->lines);
+        show_count("%lu lines", tally->lines);
     end_count();
     return STATUS_FINE;
 }

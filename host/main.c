@@ -5,6 +5,7 @@
 #include "message.h"
 #include "options.h"
 #include "output.h"
+#include "serial.h"
 #include "upkeep.h"
 
 #include <errno.h>
@@ -25,7 +26,7 @@ static int fill_descriptors(void)
     return 1;
 }
 
-static enum status carry_out_options(struct book *book, const struct options *options)
+static enum status carry_out_commands(struct book *book, const struct options *options)
 {
     const struct session session = {book, options->dry_run, options->batch, options->quiet};
     int how = (options->begin ? BOOK_NEW : 0) | (options->dry_run ? BOOK_TRY : 0);
@@ -35,6 +36,21 @@ static enum status carry_out_options(struct book *book, const struct options *op
     if (options->command)
         return carry_out_line(&session, options->command);
     return options->batch ? carry_out_batch(&session, stdin) : carry_out_all(&session, stdin);
+}
+
+static enum status carry_out_options(struct book *book, const struct options *options)
+{
+    if (options->check)
+        return check_book(book, options->book, options->quiet);
+    if (options->backup)
+        return back_up(book, options->book, options->backup);
+    if (options->tree)
+        return print_number(book, options->book, options->tree, options->quiet);
+    if (options->numbered)
+        return print_tree(book, options->book, options->number, options->quiet);
+    if (options->list)
+        return list_book(book, options->book, options->quiet);
+    return carry_out_commands(book, options);
 }
 
 int main(int count, char **arguments)
@@ -53,11 +69,7 @@ int main(int count, char **arguments)
     if (options.help || options.version) {
         output(0, "%s", options.help ? help : "scalebench " SCALEBENCH_VERSION "\n");
         status = written() ? STATUS_FINE : STATUS_FAILED;
-    } else if (options.check)
-        status = check_book(&book, options.book, options.quiet);
-    else if (options.backup)
-        status = back_up(&book, options.book, options.backup);
-    else
+    } else
         status = carry_out_options(&book, &options);
     book_close(&book);
     return (int)status;

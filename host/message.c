@@ -74,9 +74,13 @@ void explain(const char *why, ...)
     va_end(values);
 }
 
-void show_count(unsigned long lines)
+void show_count(const char *count, ...)
 {
-    fprintf(stderr, "\rscalebench: %lu lines", lines);
+    va_list values;
+    fputs("\rscalebench: ", stderr);
+    va_start(values, count);
+    vfprintf(stderr, count, values);
+    va_end(values);
     counting = 1;
 }
 

@@ -17,8 +17,8 @@ void explain(const char *why, ...) __attribute__((format(printf, 1, 2)));
  */
 const char *shown(const char *name);
 
-/* Shows how many lines have been read, over the number shown before. The next message or the last count ends it. */
-void show_count(unsigned long lines);
+/* Shows how much is done, over what was shown before. The next message or the end of the count ends the line. */
+void show_count(const char *count, ...) __attribute__((format(printf, 1, 2)));
 void end_count(void);
 
 #endif

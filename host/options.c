@@ -3,6 +3,7 @@
 
 #include "message.h"
 
+#include <errno.h>
 #include <stddef.h>
 #include <stdlib.h>
 #include <string.h>
@@ -12,6 +13,9 @@ const char help[] =
     "       scalebench --batch [--new] [--dry-run] [--wait SECONDS] [-q] BOOK\n"
     "       scalebench --check [-q] BOOK\n"
     "       scalebench --backup FILE BOOK\n"
+    "       scalebench --number TREE [-q] BOOK\n"
+    "       scalebench --tree NUMBER [-q] BOOK\n"
+    "       scalebench --list [-q] BOOK\n"
     "\n"
     "Keeps approved assemblies in the file BOOK. COMMAND, or each line of standard\n"
     "input, is one of\n"
@@ -36,6 +40,15 @@ const char help[] =
     "                      (5 if not given, 0 not to wait)\n"
     "      --check         say whether BOOK is sound, and if not why\n"
     "      --backup FILE   copy BOOK to FILE, which must not exist\n"
+    "      --number TREE   print the serial number of an approved assembly, from 0 to\n"
+    "                      the total less one; else not part, not PLACE, refused\n"
+    "                      NUMBER, form COLUMN or long. A change of BOOK may give an\n"
+    "                      assembly another number\n"
+    "      --tree NUMBER   print the approved assembly that has this number; else\n"
+    "                      refused NUMBER\n"
+    "      --list          print (add TREE) for every approved assembly, by number; a\n"
+    "                      batch of these lines makes an equal book. Numbers whose\n"
+    "                      assembly has more than 48 modules go to standard error\n"
     "  -q, --quiet         print nothing on standard output\n"
     "  -h, --help          print this\n"
     "      --version       print the version\n"
@@ -43,15 +56,16 @@ const char help[] =
     "\n"
     "exit status\n"
     "  0  COMMAND: approved, done or counted; standard input: each line done or\n"
-    "     answered; --check: sound; --backup: copied\n"
-    "  1  COMMAND asked, and the assembly is not approved\n"
+    "     answered; --check: sound; --backup: copied; --number, --tree: found;\n"
+    "     --list: all are listed\n"
+    "  1  COMMAND or --number: the assembly is not approved\n"
     "  2  the command line is wrong\n"
     "  3  BOOK is missing, is damaged, or may not be read or changed\n"
     "  4  another program is changing BOOK\n"
     "  5  BOOK or FILE could not be saved, or input or output failed; what was\n"
     "     printed as done is saved\n"
     "  6  a line was refused, malformed or too long; the others were carried out,\n"
-    "     with --batch none\n";
+    "     with --batch none; --number, --tree: refused; --list: some are not listed\n";
 
 /* The options that are only given or not, and where that is noted. */
 static const struct {
@@ -62,6 +76,7 @@ static const struct {
     {"--batch", "", offsetof(struct options, batch)},
     {"--check", "", offsetof(struct options, check)},
     {"--dry-run", "", offsetof(struct options, dry_run)},
+    {"--list", "", offsetof(struct options, list)},
     {"--quiet", "-q", offsetof(struct options, quiet)},
     {"--help", "-h", offsetof(struct options, help)},
     {"--version", "", offsetof(struct options, version)},
@@ -93,6 +108,26 @@ static int read_seconds(const char *text, unsigned *seconds)
     return 1;
 }
 
+static int read_number(const char *text, struct options *options)
+{
+    size_t digits = strspn(text, "0123456789");
+    errno = 0;
+    options->number = strtoull(text, NULL, 10);
+    options->numbered = 1;
+    if (digits == 0 || text[digits] || errno == ERANGE)
+        return wrong("not a number up to 18446744073709551615:", text);
+    return 1;
+}
+
+static int takes_value(const char *option)
+{
+    static const char *const options[] = {"--wait", "--backup", "--number", "--tree"};
+    for (size_t i = 0; i < sizeof options / sizeof options[0]; i++)
+        if (strcmp(option, options[i]) == 0)
+            return 1;
+    return 0;
+}
+
 /* An option with a value, which is the next argument. */
 static int read_value(const char *option, const char *value, struct options *options)
 {
@@ -100,7 +135,9 @@ static int read_value(const char *option, const char *value, struct options *opt
         return wrong("a value is missing after", option);
     if (strcmp(option, "--wait") == 0)
         return read_seconds(value, &options->wait);
-    options->backup = value;
+    if (strcmp(option, "--tree") == 0)
+        return read_number(value, options);
+    *(strcmp(option, "--backup") == 0 ? &options->backup : &options->tree) = value;
     return 1;
 }
 
@@ -117,14 +154,15 @@ static int read_name(const char *argument, struct options *options)
 static int fits(const struct options *options)
 {
     int changes = options->begin || options->batch || options->dry_run;
+    int only_read = options->check + !!options->backup + !!options->tree + options->numbered + options->list;
     if (options->help || options->version)
         return 1;
     if (!options->book)
         explain("no book named");
-    else if (options->check && options->backup)
-        explain("--check and --backup do not go together");
-    else if ((options->check || options->backup) && (changes || options->command))
-        explain("--check and --backup change nothing and take no COMMAND");
+    else if (only_read > 1)
+        explain("--check, --backup, --number, --tree and --list do not go together");
+    else if (only_read && (changes || options->command))
+        explain("--check, --backup, --number, --tree and --list change nothing and take no COMMAND");
     else if (options->batch && options->command)
         explain("--batch reads standard input and takes no COMMAND");
     else
@@ -143,7 +181,7 @@ int read_options(int count, char **arguments, struct options *options)
             fine = read_name(argument, options);
         else if (strcmp(argument, "--") == 0)
             ended = 1;
-        else if (strcmp(argument, "--wait") == 0 || strcmp(argument, "--backup") == 0)
+        else if (takes_value(argument))
             fine = read_value(argument, arguments[++i], options);
         else
             fine = read_flag(argument, options);

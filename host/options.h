@@ -2,10 +2,13 @@
 #ifndef OPTIONS_H
 #define OPTIONS_H
 
+#include <stdint.h>
+
 struct options {
-    const char *book, *command, *backup;
-    int begin, batch, check, dry_run, quiet, help, version;
-    unsigned wait; /* seconds */
+    const char *book, *command, *backup, *tree;
+    int begin, batch, check, dry_run, list, numbered, quiet, help, version;
+    unsigned wait;   /* seconds */
+    uint64_t number; /* of the assembly that is asked for, if `numbered` */
 };
 
 extern const char help[];

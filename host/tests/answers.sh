@@ -101,32 +101,10 @@ run 'malformed totals' 6 '1 form 3
 end 7 0 0' book
 told 'malformed totals' 'line 7: not (add TREE), (drop TREE), (ask TREE) or (total) from column 8 on'
 
-zeros() { head -c "$1" /dev/zero; }
-bytes() { # BYTE..
-    for byte in "$@"; do
-        # shellcheck disable=SC2059 # the format is the byte in octal
-        printf "\\$(printf %o "$byte")"
-    done
-}
-squares() { # LEVELS: a book of two leaves, and label 3 over each level twice makes the next: 2^2^LEVELS assemblies
-    {
-        bytes $(($1 + 1))
-        zeros "$1"
-        bytes 1
-        zeros $((199 - $1))
-        bytes 0 $(($1 + 2)) 1 0 0 0 0 0 0 0 0 0 1 2 0 0 0 0 0 0 0 0 0 1
-        level=1
-        while [ $level -le "$1" ]; do
-            bytes 3 2 $level $level 0 0 0 0 0 0 $((level + 1))
-            level=$((level + 1))
-        done
-        zeros $((11467 - 203 - 11 * ($1 + 2)))
-    } >squares
-}
-squares 5
+squares 5 >squares
 run 'a large total' 0 '1 total 4294967296
 end 1 6 7' squares '(total)'
-squares 6
+squares 6 >squares
 run 'over' 0 '1 total over
 end 1 7 8' squares '(total)'
 told 'over' 'line 1: more than 18446744073709551615 assemblies are approved'

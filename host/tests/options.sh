@@ -25,6 +25,16 @@ wrong 'no copy named' 'a value is missing after --backup' book --backup
 wrong 'check and back up' 'do not go together' --check --backup copy book
 wrong 'check with a command' 'take no COMMAND' --check book '(ask (1))'
 wrong 'check of a new book' 'change nothing' --check --new book
+wrong 'no assembly' 'a value is missing after --number' book --number
+wrong 'no serial number' 'a value is missing after --tree' book --tree
+for number in '' x 1x -1 +1 ' 1' 0x1 18446744073709551616 99999999999999999999999; do
+    wrong "the serial number '$number'" 'not a number up to 18446744073709551615: ' --tree "$number" book
+done
+wrong 'a number and a tree' 'do not go together' --number '(1)' --tree 0 book
+wrong 'a list and a check' 'do not go together' --list --check book
+wrong 'a tree with a command' 'take no COMMAND' --tree 0 book '(ask (1))'
+wrong 'a list of a new book' 'change nothing' --list --new book
+wrong 'a list of a batch' 'change nothing' --list --batch book
 wrong 'a batch with a command' 'takes no COMMAND' --batch book '(ask (1))'
 holds 'nothing is begun'
 
@@ -33,7 +43,7 @@ for option in -h --help; do
     equal "$option" "$? $(head -c 17 "$folder/out") $(wc -c <"$folder/err")" '0 usage: scalebench 0'
 done
 equal 'help within 80 columns' "$(awk 'length > 80' "$folder/out")" ''
-for word in --new --batch --dry-run --wait --check --backup --quiet -q --help -h --version; do
+for word in --new --batch --dry-run --wait --check --backup --number --tree --list --quiet -q --help -h --version; do
     grep -q -- "$word" "$folder/out"
     equal "help names $word" $? 0
 done
