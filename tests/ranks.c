@@ -87,6 +87,21 @@ static void order(void)
     expect("nothing is written", (uint64_t)memcmp(copy, table, TABLE), 0);
 }
 
+/* The samples of order 4: (1) and (2) are no more than parts, states 2 and 3 are approved. */
+static void twelve(void)
+{
+    const struct line lines[] = {{1, 0, {0}, 1}, {2, 0, {0}, 1}, {3, 0, {0}, 2},
+                                 {4, 1, {1}, 3}, {4, 1, {2}, 3}, {5, 2, {1, 1}, 2}};
+    const char *const trees[] = {"(3)",         "(5 (1) (1))",     "(5 (1) (2))",     "(5 (2) (1))",
+                                 "(5 (2) (2))", "(4 (1))",         "(4 (2))",         "(4 (3))",
+                                 "(4 (5 (1) (1)))", "(4 (5 (1) (2)))", "(4 (5 (2) (1)))", "(4 (5 (2) (2)))"};
+    uint8_t table[TABLE];
+    build(table, "011", lines, 6);
+    for (uint64_t number = 0; number < 12; number++)
+        both(number, trees[number], table);
+    none("twelve", 12, table, 19);
+}
+
 static void samples(void)
 {
     const char *const forks[] = {"(1 (1) (1))", "(1 (1) (2))", "(1 (2) (1))", "(1 (2) (2))", "(2 (1) (2))"};
@@ -225,6 +240,7 @@ static void refusals(void)
 int main(void)
 {
     order();
+    twelve();
     samples();
     limit();
     sizes();

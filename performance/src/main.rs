@@ -7,7 +7,7 @@ use differential::dice::Dice;
 use differential::library;
 use reference::automaton::Automaton;
 use reference::table::{encode, SCRATCH_BYTES};
-use reference::tree::Tree;
+use reference::tree::{Tree, LISTING_BYTES};
 use std::hint::black_box;
 use std::time::{Duration, Instant};
 
@@ -48,9 +48,11 @@ impl Measured {
     fn row(&self) -> String {
         let answer = match (self.call, self.answer & 255, self.answer >> 8 & 255) {
             ("total", 0, over) => if over == 1 { "over" } else { "a number" }.to_string(),
+            ("rank", 0, 1) => "a number".to_string(),
+            ("unrank", 0, _) => "a tree".to_string(),
             (_, 0, 1) => "approved".to_string(),
-            ("ask", 0, 2) => "not part".to_string(),
-            ("ask", 0, _) => format!("not {}", self.answer >> 16),
+            ("ask" | "rank", 0, 2) => "not part".to_string(),
+            ("ask" | "rank", 0, _) => format!("not {}", self.answer >> 16),
             (_, 0, _) => format!("{} {}", self.answer >> 16 & 65535, self.answer >> 32),
             (_, refusal, _) => format!("refused {refusal}"),
         };
@@ -65,8 +67,19 @@ type Changing = (fn(&[u8], &mut [u8], &mut [u8]) -> u64, fn(&[u8], &mut [u8], &m
 const ASK: Reading = (library::ask, |tree, table| reference::ask(tree, table).packed());
 const INTAKE: Reading = (|_, table| library::intake(table), |_, table| reference::take_in(table).packed());
 const TOTAL: Reading = (|_, table| library::total(table, &mut 0), |_, table| reference::total(table).packed());
+const RANK: Reading =
+    (|tree, table| library::rank(tree, table, &mut 0), |tree, table| reference::rank(tree, table).packed());
+const UNRANK: Reading = (
+    |number, table| library::unrank(number_of(number), table, &mut [0; LISTING_BYTES]),
+    |number, table| reference::unrank(number_of(number), table, &mut [0; LISTING_BYTES]).packed(),
+);
 const ADD: Changing = (library::add, |tree, table, scratch| reference::add(tree, table, scratch).packed());
 const REMOVE: Changing = (library::remove, |tree, table, scratch| reference::remove(tree, table, scratch).packed());
+
+/// A number given as bytes.
+fn number_of(bytes: &[u8]) -> u64 {
+    u64::from_le_bytes(bytes.try_into().expect("eight bytes"))
+}
 
 fn reading(call: &'static str, calls: Reading, tree: &[u8], table: &[u8]) -> Measured {
     let time = |run: fn(&[u8], &[u8]) -> u64| least(|| (), |_| run(black_box(tree), black_box(table)));
@@ -95,8 +108,9 @@ fn trees(automaton: &Automaton) -> (Tree, Tree) {
     (inside, outside.unwrap_or(Tree::leaf(255)))
 }
 
-/// The five calls. What was added is removed again; where the addition is refused a tree of the set is removed.
-fn five_calls(automaton: &Automaton, outside: Option<Tree>) -> Vec<Measured> {
+/// The calls. Unrank gets the number of the tree that rank gets, or 0. What was added is removed again; where the addition
+/// is refused a tree of the set is removed.
+fn all_calls(automaton: &Automaton, outside: Option<Tree>) -> Vec<Measured> {
     let table = encode(automaton);
     let (inside, near) = trees(automaton);
     let (inside, outside) = (inside.listing(), outside.unwrap_or(near).listing());
@@ -106,9 +120,12 @@ fn five_calls(automaton: &Automaton, outside: Option<Tree>) -> Vec<Measured> {
     } else {
         changing("remove", REMOVE, &inside, &table).0
     };
+    let mut number = 0;
+    library::rank(&inside, &table, &mut number);
     let read = |(call, calls)| reading(call, calls, &inside, &table);
-    let queries = [("ask", ASK), ("intake", INTAKE), ("total", TOTAL)];
-    queries.into_iter().map(read).chain([added, removed]).collect()
+    let queries = [("ask", ASK), ("intake", INTAKE), ("total", TOTAL), ("rank", RANK)];
+    let unranked = reading("unrank", UNRANK, &number.to_le_bytes(), &table);
+    queries.into_iter().map(read).chain([unranked, added, removed]).collect()
 }
 
 fn main() {
@@ -121,16 +138,20 @@ fn main() {
         ("full", tables::mixed(200, 1024), None),
         ("chain", tables::chain(), None),
         ("eleven families", tables::families(), Some(split)),
+        ("wide", tables::wide(), None),
     ] {
-        for measured in five_calls(&automaton, outside) {
+        for measured in all_calls(&automaton, outside) {
             println!("| {name} | {}", measured.row());
         }
     }
     println!("\n| states | transitions | ask | intake | total | add | remove |\n|---|---|---|---|---|---|---|");
     let sizes = [(25, 128), (50, 256), (100, 512), (200, 1024), (25, 1024), (50, 1024), (100, 1024), (100, 256)];
     for (states, transitions) in sizes {
-        let cell = |it: &Measured| format!("{:.1} ({:.2})", it.library, it.library / it.reference);
-        let cells: Vec<String> = five_calls(&tables::mixed(states, transitions), None).iter().map(cell).collect();
+        // These tables are over, so that rank and unrank are refused once the total is known.
+        let calls = all_calls(&tables::mixed(states, transitions), None);
+        let shown = calls.iter().filter(|it| !["rank", "unrank"].contains(&it.call));
+        let cells: Vec<String> =
+            shown.map(|it| format!("{:.1} ({:.2})", it.library, it.library / it.reference)).collect();
         println!("| {states} | {transitions} | {} |", cells.join(" | "));
     }
 }

@@ -26,6 +26,15 @@ pub fn families() -> Automaton {
     Automaton { accepting: vec![false, true], transitions }
 }
 
+/// 255 leaves in one state, and 769 transitions of one to four places over it: every tree has a number and fits a listing.
+pub fn wide() -> Automaton {
+    let mut transitions: BTreeMap<Key, u8> = (1..=255).map(|label| (Key::new(label, vec![]), 1)).collect();
+    for (places, labels) in [(1, 255), (2, 255), (3, 255), (4, 4)] {
+        transitions.extend((1..=labels).map(|label| (Key::new(label, vec![1; places]), 2)));
+    }
+    Automaton { accepting: vec![false, true], transitions }
+}
+
 /// A legal automaton with exactly these numbers: every state has a transition into it from lower ones, a use of its own
 /// that tells it apart, and the rest of the transitions go from any states to any higher one.
 pub fn mixed(states: u8, transitions: usize) -> Automaton {

@@ -88,6 +88,21 @@ fn order() {
     assert_eq!(rank(&over(1, &[&two, &leaf(9)]).listing(), &table), Answer::NotAt(3));
 }
 
+/// The samples of order 4: states 2 and 3 are approved, 1 is not.
+#[test]
+fn samples() {
+    let lines: [(u8, &[u8], u8); 6] =
+        [(1, &[], 1), (2, &[], 1), (3, &[], 2), (4, &[1], 3), (4, &[2], 3), (5, &[1, 1], 2)];
+    let automaton = automaton(3, &[2, 3], &lines);
+    let (one, two) = (leaf(1), leaf(2));
+    let forks = [[&one, &one], [&one, &two], [&two, &one], [&two, &two]].map(|pair| over(5, &pair));
+    let second: Vec<Tree> = [leaf(3)].into_iter().chain(forks).collect();
+    let third = [one, two].iter().chain(&second).map(|tree| over(4, &[tree])).collect();
+    let trees = [second.clone(), third].concat();
+    assert_eq!(sorted(&automaton, NODES).as_ref(), Some(&trees));
+    all(&automaton, &trees);
+}
+
 /// Ten leaves in each of three states, and two labels over them: 2,000 trees, and as many that have these below a node.
 #[test]
 fn two_thousand() {
