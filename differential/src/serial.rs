@@ -15,8 +15,8 @@ use std::collections::BTreeMap;
 use std::time::{Duration, Instant};
 
 const TABLES: usize = 400;
-const EACH: usize = 30;
-const NODES: usize = 20_000;
+const EACH: usize = 16;
+const NODES: usize = 4_000;
 const CHOSEN: usize = 12;
 const FAMILY: u8 = 10;
 const BASE: u128 = 254;
@@ -78,7 +78,7 @@ fn random(dice: &mut Dice, tally: &mut Tally) -> usize {
     let mut all = 0;
     for i in 0..TABLES {
         let (states, transitions, width) = (2 + dice.roll(10), 2 + dice.roll(30), 1 + dice.roll(4));
-        let automaton = if i % 100 == 0 { dice.deep() } else { dice.legal(states, transitions, 4, width) };
+        let automaton = if i % 200 == 0 { dice.deep() } else { dice.legal(states, transitions, 4, width) };
         let table = encode(&automaton);
         if let Some(trees) = sorted(&automaton, NODES) {
             all += 1;

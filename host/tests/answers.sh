@@ -101,14 +101,14 @@ run 'malformed totals' 6 '1 form 3
 end 7 0 0' book
 told 'malformed totals' 'line 7: not (add TREE), (drop TREE), (ask TREE) or (total) from column 8 on'
 
-squares 5 >squares
+squares 5 >large
 run 'a large total' 0 '1 total 4294967296
-end 1 6 7' squares '(total)'
-squares 6 >squares
+end 1 6 7' large '(total)'
+squares 6 >larger
 run 'over' 0 '1 total over
-end 1 7 8' squares '(total)'
+end 1 7 8' larger '(total)'
 told 'over' 'line 1: more than 18446744073709551615 assemblies are approved'
-rm squares
+rm large larger
 
 # Lines that are malformed, refused by a call, or at the limits; a NUL, a CR, no final end of line.
 {

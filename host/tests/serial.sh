@@ -103,12 +103,12 @@ chains() { # PLACES STATES CLASS: each state under the next at so many places; t
     bytes $(cat ../numbers)
     zeros $((11467 - 203 - 11 * $2))
 }
-chains 1 60 1 >chains
+chains 1 60 1 >sixty
 run 'the last that fits' 0 "$(awk 'BEGIN { for (i = 0; i < 47; i++) printf "(1 "; printf "(1"
-    for (i = 0; i < 48; i++) printf ")" }')" --tree 47 chains
-run 'the first that does not fit' 6 'refused 20' --tree 48 chains
+    for (i = 0; i < 48; i++) printf ")" }')" --tree 47 sixty
+run 'the first that does not fit' 6 'refused 20' --tree 48 sixty
 told 'the first that does not fit' 'scalebench: the tree has more than 48 nodes'
-"$host" --list chains >../out 2>../err
+"$host" --list sixty >../out 2>../err
 equal 'a list with a gap' "$? $(wc -l <../out) $(cat ../err)" \
     '6 48 scalebench: numbers 48 to 59: the tree has more than 48 nodes
 scalebench: 12 of 60 assemblies are not listed'

@@ -108,8 +108,8 @@ fn trees(automaton: &Automaton) -> (Tree, Tree) {
     (inside, outside.unwrap_or(Tree::leaf(255)))
 }
 
-/// The calls. Unrank gets the number of the tree that rank gets, or 0. What was added is removed again; where the addition
-/// is refused a tree of the set is removed.
+/// The calls. Unrank gets the number of the tree that rank gets, or 0. What was added is removed again; where the
+/// addition is refused a tree of the set is removed.
 fn all_calls(automaton: &Automaton, outside: Option<Tree>) -> Vec<Measured> {
     let table = encode(automaton);
     let (inside, near) = trees(automaton);

@@ -26,7 +26,8 @@ pub fn families() -> Automaton {
     Automaton { accepting: vec![false, true], transitions }
 }
 
-/// 255 leaves in one state, and 769 transitions of one to four places over it: every tree has a number and fits a listing.
+/// 255 leaves in one state, and 769 transitions of one to four places over it: every tree has a number and fits a
+/// listing.
 pub fn wide() -> Automaton {
     let mut transitions: BTreeMap<Key, u8> = (1..=255).map(|label| (Key::new(label, vec![]), 1)).collect();
     for (places, labels) in [(1, 255), (2, 255), (3, 255), (4, 4)] {

@@ -71,18 +71,12 @@ impl Numbers<'_> {
         sum
     }
 
-    /// The number of trees of a state. A tree of the state stands below some accepted tree, and another in its place
-    /// makes another accepted tree: so there are no more than accepted ones, and these have a total.
-    fn small(&self, number: &Natural) -> u64 {
-        number.small().expect("no more than the total")
-    }
-
     /// The tree of a number within a state; none if it has more than so many nodes, which are then used up.
     fn tree(&self, state: u8, number: u64, nodes: &mut usize) -> Option<Tree> {
         *nodes = nodes.checked_sub(1)?;
         let mut rest = number;
         for key in self.lines(state) {
-            let here = self.small(&self.choices(&key.args));
+            let here = small(&self.choices(&key.args));
             if rest < here {
                 let digits = self.digits(&key.args, rest);
                 let children = key.args.iter().zip(digits).map(|(&q, digit)| self.tree(q, digit, nodes));
@@ -98,7 +92,7 @@ impl Numbers<'_> {
         let mut rest = number;
         let mut digits = Vec::new();
         for state in states.iter().rev() {
-            let each = self.small(&self.of_states[state]);
+            let each = small(&self.of_states[state]);
             digits.push(rest % each);
             rest /= each;
         }
@@ -109,6 +103,12 @@ impl Numbers<'_> {
     fn accepting(&self) -> impl Iterator<Item = u8> + '_ {
         (1..=self.automaton.accepting.len() as u8).filter(|&q| self.automaton.accepts(q))
     }
+}
+
+/// A number of trees of a state, or at a line. Each of them is part of an accepted tree, and another in its place makes
+/// another accepted tree: so they are no more than the total, which is not over.
+fn small(number: &Natural) -> u64 {
+    number.small().expect("no more than the total")
 }
 
 /// How many accepted trees come before an accepted one.
@@ -123,9 +123,10 @@ pub fn tree(automaton: &Automaton, number: u64) -> Option<Tree> {
     let numbers = Numbers::new(automaton);
     let mut rest = number;
     for state in numbers.accepting() {
-        let here = numbers.small(&numbers.of_states[&state]);
+        let here = small(&numbers.of_states[&state]);
         if rest < here {
-            return numbers.tree(state, rest, &mut { MAX_NODES });
+            let mut nodes = MAX_NODES;
+            return numbers.tree(state, rest, &mut nodes);
         }
         rest -= here;
     }
