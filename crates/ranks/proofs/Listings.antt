@@ -91,7 +91,8 @@ pub record Walk (w : ℕ → ℕ) (s : List ℕ) (c n q k : ℕ) (qs ks bytes : 
 module _ {w : ℕ → ℕ} {s : List ℕ} {c n q k : ℕ} where
   -- the tree itself is to come
   pub walk-start : 1 ≤ q → q ≤ n → k < w q → {qs ks bytes : List ℕ} → length qs ≡ maxNodes → length ks ≡ maxNodes →
-      getD qs (maxNodes - 1) 0 ≡ q → getD ks (maxNodes - 1) 0 ≡ k → bytes ≡ replicate maxListing 0 → Walk w s c n q k qs ks bytes (maxNodes - 1) 0
+      getD qs (maxNodes - 1) 0 ≡ q → getD ks (maxNodes - 1) 0 ≡ k → bytes ≡ replicate maxListing 0 →
+      Walk w s c n q k qs ks bytes (maxNodes - 1) 0
   walk-start h l b {qs} {ks} a d e f g = record {
     states-size = a;
     numbers-size = d;
