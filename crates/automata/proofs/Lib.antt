@@ -56,3 +56,8 @@ pub mod Ranks
 pub mod RankPlaces
 pub mod RankOrder
 pub mod RankSamples
+pub mod SubtreeNodes
+pub mod StatePairs
+pub mod OpenStates
+pub mod PairNodes
+pub mod ProductSum

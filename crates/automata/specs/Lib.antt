@@ -21,6 +21,7 @@ pub mod Valid
 pub mod Example
 pub mod Others
 pub mod Totals
+pub mod OpenStates
 pub mod TotalSamples
 pub mod Ranks
 pub mod RankSamples
