@@ -1,0 +1,5 @@
+pub mod Counting
+pub mod Products
+pub mod Summing
+pub mod Marking
+pub mod Fitting

@@ -1,1 +1,77 @@
-// Refusal 16 by counting: how many transitions the product of a table and a tree has, before any of them is made.
+// Refusal 16 by counting: how many transitions the product of a table's automaton and a tree has, before any of them is
+// made. A state has a pair for each subtree that runs to it, and one more if it is open.
+mod opening; // which states are open
+mod sums; // products over arguments and their sums
+
+ghost use mathlib.Core.Path.{_≡_};
+ghost use Prim.Native.Nat.{_+_, _<_, _≤_, ℕ};
+ghost use lib.Dec.{leb};
+ghost use Rattle.automata.specs.Automaton.{Automaton};
+ghost use Rattle.automata.specs.Change.{productTransitions};
+ghost use Rattle.automata.specs.OpenStates.{atState};
+ghost use Rattle.fields.specs.Fields.{HoldsTransitions};
+ghost use Rattle.format.specs.Format.{byteValues, maxNodes, maxProduct};
+ghost use Rattle.lists.specs.Tests.{bit};
+ghost use Rattle.marking.specs.Marks.{nonzero};
+ghost use Rattle.trees.specs.Tree.{Tree};
+ghost use Rattle.pairs.specs.Counts.{Counted, Numbers, Setting, entriesWith, entry, weightOf};
+use format::BYTE_VALUES;
+use format::MAX_NODES;
+use opening::open_states;
+use sums::index;
+use sums::sum_fits;
+
+// How many of the first m subtrees run to each state.
+fn count_states(m: usize, states: &[u8; MAX_NODES]) -> [u8; BYTE_VALUES]
+    requires { ⌜ m ≤ maxNodes ⌝ }
+    ensures { λ r. ⌜ Counted (now (states .entry)) m r ⌝ }
+{
+    let mut counts = [0u8; BYTE_VALUES];
+    let mut j = 0;
+    while j < m {
+        let q = index(states[j]);
+        counts[q] = counts[q] + 1;
+        j += 1;
+    }
+    counts
+}
+
+// A number, and one more if there is a mark.
+fn weight(count: u8, mark: u8) -> u8
+    requires { ⌜ count ≤ maxNodes ⌝ }
+    ensures { λ r. ⌜ r ≡ count + bit (nonzero mark) ⌝ }
+{
+    if mark == 0 {
+        return count;
+    }
+    count + 1
+}
+
+// The number of pairs of each state.
+fn weights(counts: &[u8; BYTE_VALUES], marks: &[u8; BYTE_VALUES]) -> [u8; BYTE_VALUES]
+    requires { ⌜ ((q : ℕ) → q < byteValues → entry (now counts) q ≤ maxNodes) ⌝ }
+    ensures { λ r. ⌜ Numbers (weightOf (now (counts .entry)) (now (marks .entry))) r ⌝ }
+{
+    let mut numbers = [0u8; BYTE_VALUES];
+    let mut q = 0;
+    while q < BYTE_VALUES {
+        numbers[q] = weight(counts[q], marks[q]);
+        q += 1;
+    }
+    numbers
+}
+
+// Whether the product of an automaton and a tree has no more transitions than it may have. `states` has the states of
+// the m subtrees.
+pub fn product_fits(transitions: &[u8], count: usize, m: usize, states: &[u8; MAX_NODES]) -> bool
+    requires { ⌜ HoldsTransitions (now transitions) count ⌝ }
+    requires { ⌜ m ≤ maxNodes ⌝ }
+    ensures { λ r. ⌜ ((A : Automaton) (t : Tree) → Setting A (now (transitions .entry)) count →
+        ((q : ℕ) → entriesWith (now (states .entry)) m q ≡ atState A t q) →
+        r ≡ leb (productTransitions A t) maxProduct) ⌝ }
+{
+    let counts = count_states(m, states);
+    let marks = open_states(transitions, count, &counts);
+    let numbers = weights(&counts, &marks);
+    sum_fits(transitions, count, index(counts[0]), &numbers)
+}

@@ -1,0 +1,74 @@
+-- `pairs::count_states` meets its contract: the entries before `j` are counted.
+use mathlib.Core.Path.{refl}
+use Prim.Native.Nat.{_-_, _≤_}
+use native.Mathlib.Omega.{arith}
+use Rattle.pairs.specs.Counts.{Counted}
+use Rattle.pairs.proofs.Counting.{counted-end, counted-next, counted-start, few-with}
+use borrow.Author.Needs.{needs}
+use Rattle.pairs.proofs.count_states.Statement.{statement}
+use Rattle.pairs.proofs.count_states.Tie as tie
+
+abbrev Inv-loop : tie.InvT-loop
+Inv-loop m states counts₀ j₀ counts j = (j ≤ m) × Counted states j counts
+
+abbrev μ-loop : tie.MeasureT-loop
+μ-loop m states counts₀ j₀ counts j = m - j
+
+loop-holds : tie.Need-loop-holds Inv-loop μ-loop
+loop-holds c = (omega arith, counted-start)
+
+element-copy-out-index : tie.Need-element-copy-out-index Inv-loop μ-loop
+element-copy-out-index c = search needs
+
+index-requires : tie.Need-index-requires Inv-loop μ-loop
+index-requires c κs = search needs
+
+array-read-counts : tie.Need-array-read-counts Inv-loop μ-loop
+array-read-counts c = c .index .ensures .1
+
+add-counts : tie.Need-add-counts Inv-loop μ-loop
+add-counts c =
+    let now = c .before .before .before in
+    let start = now .before in
+    omega (
+      arith,
+      now .loop .inv .1 .each (c .index .result) (c .index .ensures .1),
+      few-with (start .args .states .now) (now .loop .j) (c .index .result),
+      start .pre,
+      c .before .before .loop-test .taken,
+    )
+
+array-write-counts : tie.Need-array-write-counts Inv-loop μ-loop
+array-write-counts c = c .index .ensures .1
+
+add-j : tie.Need-add-j Inv-loop μ-loop
+add-j c = search needs
+
+loop-less : tie.Need-loop-less Inv-loop μ-loop
+loop-less c = search needs
+
+loop-again : tie.Need-loop-again Inv-loop μ-loop
+loop-again c =
+    let now = c .before .before .before in
+    (omega arith, counted-next (now .loop .inv .1) (c .index .ensures .0) (c .index .ensures .1) refl)
+
+returns : tie.Need-returns Inv-loop μ-loop
+returns c =
+    let now = c .before .loop in counted-end (now .inv .1) (omega (arith, now .inv .0, c .loop-test .left))
+
+pub count-states-spec : {M : Type 1} → statement M
+count-states-spec =
+    tie.close
+    (tie.spec
+    Inv-loop
+    μ-loop
+    loop-holds
+    element-copy-out-index
+    index-requires
+    array-read-counts
+    add-counts
+    array-write-counts
+    add-j
+    loop-less
+    loop-again
+    returns)

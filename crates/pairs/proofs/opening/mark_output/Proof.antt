@@ -1,0 +1,52 @@
+-- `pairs::opening::mark_output` meets its contract: the output has its mark, no argument has one, or gets its mark.
+use mathlib.Core.Bool.{true≢false}
+use mathlib.Core.Path.{_∙_, sym}
+use native.Mathlib.Omega.{arith}
+use borrow.Author.Needs.{needs}
+use borrow.Author.Tests.{not-false, not-true}
+use Rattle.marking.proofs.Sweeps.{nonzero-false, nonzero-true}
+use Rattle.marking.proofs.Spreading.{spread-none}
+use Rattle.pairs.proofs.Marking.{spread-some}
+use Rattle.pairs.proofs.opening.mark_output.Statement.{statement}
+use Rattle.pairs.proofs.opening.mark_output.Tie as tie
+
+out-of-requires : tie.Need-out-of-requires
+out-of-requires c κs = search needs
+
+element-copy-out-if1 : tie.Need-element-copy-out-if1
+element-copy-out-if1 c = search needs
+
+returns : tie.Need-returns
+returns c = spread-none (λ _. nonzero-true _ (rw (c .before .before .out-of .ensures .0) at (c .if1 .taken)))
+
+some-marked-requires : tie.Need-some-marked-requires
+some-marked-requires c κs = search needs
+
+returns-2 : tie.Need-returns-2
+returns-2 c =
+    spread-none
+    (λ e. absurd (true≢false (sym e ∙ sym (c .before .some-marked .ensures) ∙ not-true _ (c .if2 .taken))))
+
+element-write-marks : tie.Need-element-write-marks
+element-write-marks c = search needs
+
+returns-3 : tie.Need-returns-3
+returns-3 c =
+    let start = c .before .before .before .before .before .before .before in
+    let o = c .before .before .before .before .before .out-of .ensures .0 in
+    let new = nonzero-false _ (rw o at (c .before .before .before .if1 .left)) in
+    rw o
+    (spread-some (start .args .transitions .now) (start .args .at) (start .args .marks .now) (start .pre .1)
+    (omega (arith, o)) new (sym (c .before .some-marked .ensures) ∙ not-false _ (c .if2 .left)))
+
+pub mark-output-spec : {M : Type 1} → statement M
+mark-output-spec =
+    tie.close
+    (tie.spec
+    out-of-requires
+    element-copy-out-if1
+    returns
+    some-marked-requires
+    returns-2
+    element-write-marks
+    returns-3)

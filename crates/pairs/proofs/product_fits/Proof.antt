@@ -1,0 +1,58 @@
+-- `pairs::product_fits` meets its contract: the sum is the number of transitions of the product.
+use native.Mathlib.Omega.{arith}
+use Rattle.pairs.proofs.Fitting.{few-counted, subtrees-counted, sum-counted}
+use borrow.Author.Needs.{needs}
+use Rattle.pairs.proofs.product_fits.Statement.{statement}
+use Rattle.pairs.proofs.product_fits.Tie as tie
+
+count-states-requires : tie.Need-count-states-requires
+count-states-requires c κs = search needs
+
+open-states-requires : tie.Need-open-states-requires
+open-states-requires c κs = search needs
+
+weights-requires : tie.Need-weights-requires
+weights-requires c κs =
+    let at-counts = c .before .before .before .before in
+    few-counted (at-counts .count-states .ensures) (at-counts .before .before .pre .1)
+
+array-read-index : tie.Need-array-read-index
+array-read-index c = search needs
+
+index-requires : tie.Need-index-requires
+index-requires c κs = search needs
+
+sum-fits-requires : tie.Need-sum-fits-requires
+sum-fits-requires c κs =
+    let at-counts = c .before .before .before .before .before .before .before in
+    let start = at-counts .before .before in (
+      start .pre .0,
+      omega (
+        arith,
+        c .before .index .ensures .0,
+        few-counted (at-counts .count-states .ensures) (start .pre .1) 0 (omega arith),
+      ),
+    )
+
+returns : tie.Need-returns
+returns c =
+    let at-weights = c .before .before .before in
+    let at-open = at-weights .before .before .before in
+    let at-counts = at-open .before .before in
+    let start = at-counts .before .before in
+    λ A t S e.
+    let C = subtrees-counted (at-counts .count-states .ensures) (start .pre .1) e in
+    sum-counted S C (at-open .open-states .ensures A t S C) (at-weights .weights .ensures) (c .before .before .index
+    .ensures .0) (c .sum-fits .ensures)
+
+pub product-fits-spec : {M : Type 1} → statement M
+product-fits-spec =
+    tie.close
+    (tie.spec
+    count-states-requires
+    open-states-requires
+    weights-requires
+    array-read-index
+    index-requires
+    sum-fits-requires
+    returns)

@@ -1,0 +1,114 @@
+// Open states: those that some tree runs to which is no subtree. A state is open at once if it has no subtree, or if
+// nodes over subtrees that run to it are more than its subtrees. An open argument opens the output.
+ghost use mathlib.Core.Bool.{_||_, not};
+ghost use mathlib.Core.Path.{_≡_};
+ghost use lib.Dec.{eqb};
+ghost use lib.ListN.{length};
+ghost use Rattle.automata.specs.Automaton.{Automaton};
+ghost use Rattle.fields.specs.Fields.{HoldsTransitions, Readable};
+ghost use Rattle.format.specs.Format.{byteValues};
+ghost use Rattle.lists.specs.Tests.{any};
+ghost use Rattle.marking.specs.Marks.{marked, nonzero};
+ghost use Rattle.marking.specs.Spread.{Spread, UpTo};
+ghost use Rattle.table.specs.Layout.{transitionAt};
+ghost use Rattle.trees.specs.Tree.{Tree};
+ghost use Rattle.pairs.specs.Counts.{MarkedBy, Open, Setting, SomeUp, Subtrees, nthSomeUp, startsAt};
+use crate::sums::sums_into;
+use fields::arg_of;
+use fields::arity_of;
+use fields::out_of;
+use format::BYTE_VALUES;
+use format::TRANSITION_BYTES;
+
+// The mark of a state with so many subtrees and so many nodes over subtrees.
+fn opens(count: u8, sum: u8) -> u8
+    ensures { λ r. ⌜ nonzero r ≡ (eqb count 0 || not (eqb sum count)) ⌝ }
+{
+    if count == 0 {
+        return 1;
+    }
+    if sum != count {
+        return 1;
+    }
+    0
+}
+
+// Marks for the states that are open at once.
+fn open_at_once(counts: &[u8; BYTE_VALUES], sums: &[u8; BYTE_VALUES]) -> [u8; BYTE_VALUES]
+    ensures { λ r. ⌜ MarkedBy (startsAt (now (counts .entry)) (now (sums .entry))) r ⌝ }
+{
+    let mut marks = [0u8; BYTE_VALUES];
+    let mut q = 0;
+    while q < BYTE_VALUES {
+        marks[q] = opens(counts[q], sums[q]);
+        q += 1;
+    }
+    marks
+}
+
+// Whether some argument of the transition that starts at a byte is marked.
+fn some_marked(transitions: &[u8], at: usize, marks: &[u8; BYTE_VALUES]) -> bool
+    requires { ⌜ Readable (now transitions) at ⌝ }
+    ensures { λ r. ⌜ r ≡ any (marked (now (marks .entry))) (transitionAt (now (transitions .entry)) at .args) ⌝ }
+{
+    let arity = arity_of(transitions, at);
+    let mut k = 0;
+    while k < arity {
+        let q = arg_of(transitions, at, k);
+        if marks[q] != 0 {
+            return true;
+        }
+        k += 1;
+    }
+    false
+}
+
+// One transition: marks its output if some argument is marked. Returns whether the mark is new.
+fn mark_output(transitions: &[u8], at: usize, marks: &mut [u8; BYTE_VALUES]) -> bool
+    requires { ⌜ Readable (now transitions) at ⌝ }
+    requires { ⌜ length (now marks) ≡ byteValues ⌝ }
+    ensures { λ r. ⌜ Spread (SomeUp (now (transitions .entry)) at) (now (marks .entry)) (now (marks .exit)) r ⌝ }
+{
+    let out = out_of(transitions, at);
+    if marks[out] != 0 {
+        return false;
+    }
+    if !some_marked(transitions, at, marks) {
+        return false;
+    }
+    marks[out] = 1;
+    true
+}
+
+// One round over the transitions. Returns whether a mark is new.
+fn mark_outputs(transitions: &[u8], count: usize, marks: &mut [u8; BYTE_VALUES]) -> bool
+    requires { ⌜ HoldsTransitions (now transitions) count ⌝ }
+    requires { ⌜ length (now marks) ≡ byteValues ⌝ }
+    ensures { λ r. ⌜ Spread (UpTo (nthSomeUp (now (transitions .entry))) count) (now (marks .entry)) (now
+        (marks .exit)) r ⌝ }
+{
+    let mut changed = false;
+    let mut i = 0;
+    while i < count {
+        let r = mark_output(transitions, TRANSITION_BYTES * i, marks);
+        changed = changed | r;
+        i += 1;
+    }
+    changed
+}
+
+// Marks for the open states, from the number of subtrees of each state.
+pub fn open_states(
+    transitions: &[u8],
+    count: usize,
+    counts: &[u8; BYTE_VALUES],
+) -> [u8; BYTE_VALUES]
+    requires { ⌜ HoldsTransitions (now transitions) count ⌝ }
+    ensures { λ r. ⌜ ((A : Automaton) (t : Tree) → Setting A (now (transitions .entry)) count →
+        Subtrees A t (now (counts .entry)) → Open A t r) ⌝ }
+{
+    let sums = sums_into(transitions, count, counts);
+    let mut marks = open_at_once(counts, &sums);
+    while mark_outputs(transitions, count, &mut marks) {}
+    marks
+}

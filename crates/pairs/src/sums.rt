@@ -1,0 +1,116 @@
+// Products over the arguments of transitions and their sums, from a number for each state. `transitions` has transition
+// i at byte 11 i. Every number stops at a cap, so none overflows.
+ghost use mathlib.Core.Path.{_≡_};
+ghost use Prim.Native.Nat.{_+_, _<_, _≤_, min};
+ghost use lib.Dec.{leb};
+ghost use lib.ListN.{length};
+ghost use Rattle.automata.specs.OpenStates.{sumOver};
+ghost use Rattle.fields.specs.Fields.{HoldsTransitions, Readable};
+ghost use Rattle.format.specs.Format.{byteValues, maxNodes, maxProduct};
+ghost use Rattle.table.specs.Layout.{outOf, transitionsIn};
+ghost use Rattle.pairs.specs.Counts.{Raised, SumsInto, entry, productAt, productCap, sumCap};
+use fields::arg_of;
+use fields::arity_of;
+use fields::out_of;
+use format::BYTE_VALUES;
+use format::MAX_PRODUCT;
+use format::TRANSITION_BYTES;
+use format::wide;
+
+const SUM_CAP: usize = 255;
+
+// A byte as an index.
+pub fn index(x: u8) -> usize
+    ensures { λ r. ⌜ r ≡ x ⌝ }
+    ensures { λ r. ⌜ r < byteValues ⌝ }
+{
+    wide(x)
+}
+
+// A product, up to its cap.
+fn capped(product: usize) -> usize
+    ensures { λ r. ⌜ r ≡ min productCap product ⌝ }
+{
+    if product > MAX_PRODUCT {
+        return MAX_PRODUCT + 1;
+    }
+    product
+}
+
+// The product of the numbers of the arguments of the transition that starts at a byte.
+fn product(transitions: &[u8], at: usize, numbers: &[u8; BYTE_VALUES]) -> usize
+    requires { ⌜ Readable (now transitions) at ⌝ }
+    ensures { λ r. ⌜ r ≡ min productCap (productAt (now (numbers .entry)) (now (transitions .entry)) at) ⌝ }
+{
+    let arity = arity_of(transitions, at);
+    let mut product = 1;
+    let mut k = 0;
+    while k < arity {
+        let q = arg_of(transitions, at, k);
+        product = capped(product * index(numbers[q]));
+        k += 1;
+    }
+    product
+}
+
+// A byte and more, up to the greatest byte.
+fn raised(sum: u8, more: usize) -> u8
+    requires { ⌜ more ≤ productCap ⌝ }
+    ensures { λ r. ⌜ r ≡ min sumCap (sum + more) ⌝ }
+{
+    let total = wide(sum) + more;
+    if total > SUM_CAP {
+        return SUM_CAP as u8;
+    }
+    total as u8
+}
+
+// Adds the product of the transition that starts at a byte to the sum of its output.
+fn add_product(
+    transitions: &[u8],
+    at: usize,
+    numbers: &[u8; BYTE_VALUES],
+    sums: &mut [u8; BYTE_VALUES],
+)
+    requires { ⌜ Readable (now transitions) at ⌝ }
+    requires { ⌜ length (now sums) ≡ byteValues ⌝ }
+    ensures { λ _. ⌜ Raised (outOf (now (transitions .entry)) at) (productAt (now (numbers .entry)) (now
+        (transitions .entry)) at) (now (sums .entry)) (now (sums .exit)) ⌝ }
+{
+    let more = product(transitions, at, numbers);
+    let out = out_of(transitions, at);
+    sums[out] = raised(sums[out], more);
+}
+
+// For each state the sum of the products of the transitions into it.
+pub fn sums_into(transitions: &[u8], count: usize, numbers: &[u8; BYTE_VALUES]) -> [u8; BYTE_VALUES]
+    requires { ⌜ HoldsTransitions (now transitions) count ⌝ }
+    ensures { λ r. ⌜ SumsInto (entry (now (numbers .entry))) (transitionsIn (now (transitions .entry)) count) r ⌝ }
+{
+    let mut sums = [0u8; BYTE_VALUES];
+    let mut i = 0;
+    while i < count {
+        add_product(transitions, TRANSITION_BYTES * i, numbers, &mut sums);
+        i += 1;
+    }
+    sums
+}
+
+// Whether the products of all transitions and some more are no more than a product of automata may have.
+pub fn sum_fits(transitions: &[u8], count: usize, more: usize, numbers: &[u8; BYTE_VALUES]) -> bool
+    requires { ⌜ HoldsTransitions (now transitions) count ⌝ }
+    requires { ⌜ more ≤ maxNodes ⌝ }
+    ensures { λ r. ⌜ r ≡ leb (sumOver (entry (now (numbers .entry))) (transitionsIn (now (transitions .entry)) count)
+        + more) maxProduct ⌝ }
+{
+    let mut sum = more;
+    let mut i = 0;
+    while i < count {
+        sum = sum + product(transitions, TRANSITION_BYTES * i, numbers);
+        if sum > MAX_PRODUCT {
+            return false;
+        }
+        i += 1;
+    }
+    true
+}
