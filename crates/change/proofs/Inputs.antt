@@ -7,6 +7,7 @@ use lib.ListN.{length}
 use Rattle.automata.specs.Automaton.{Fits}
 use Rattle.fields.specs.Fields.{InTable, HoldsTransitionsOver}
 use Rattle.format.specs.Format.{AllBytes, headBytes, maxStates, tableBytes}
+use Rattle.pairs.specs.Counts.{Setting}
 use Rattle.products.specs.Result.{Holds}
 use Rattle.subtrees.specs.Store.{Lists, bottomUp}
 use Rattle.subtrees.specs.declared.Subtrees.{Subtrees}
@@ -29,6 +30,7 @@ pub record Table (b : List ℕ) (k n : ℕ) : Type 0 where
   pub over : HoldsTransitionsOver (part b headBytes) k n
   pub transitions : decode b .transitions ≡ transitionsIn (part b headBytes) k
   pub fits : Fits (decode b)
+  pub setting : Setting (decode b) (part b headBytes) k
 
 pub passed-size : (b : List ℕ) → tableRefusal b ≡ 0 → length b ≡ tableBytes
 passed-size b e = unrefused-passes b e .length
@@ -43,6 +45,13 @@ given-table b e k n c m = record {
       (subst (λ (i : ℕ). HoldsTransitionsOver (body b) (transitionCount b) i) (sym m) (in-table .over));
   transitions = decoded-transitions b ∙ ap₂ transitionsIn (sym (part-body b)) (sym c);
   fits = ranged-fits (decode b) (passes .valid .ranged);
+  setting = record {
+    transitions = decoded-transitions b ∙ ap₂ transitionsIn (sym (part-body b)) (sym c);
+    few = omega (arith, decoded-states b, in-table .states);
+    ranged = passes .valid .ranged;
+    rises = passes .valid .rises;
+    reached = passes .valid .reached;
+  };
 }
   where
     passes : Passes b

@@ -2,3 +2,4 @@ pub mod Pairs
 pub mod Inputs
 pub mod Exact
 pub mod Answering
+pub mod SubtreeStates

@@ -4,16 +4,23 @@ mod classes; // a class for each pair
 
 ghost use mathlib.Core.Bool.{true};
 ghost use mathlib.Core.Path.{_≡_};
+ghost use Prim.Native.Nat.{_≤_};
 ghost use lib.ListN.{length, replicate};
+ghost use Rattle.automata.specs.Automaton.{Automaton};
 ghost use Rattle.automata.specs.Minimal.{minimal};
 ghost use Rattle.automata.specs.Order.{rising};
+ghost use Rattle.fields.specs.Fields.{HoldsTransitionsOver};
 ghost use Rattle.fields.specs.View.{Viewed, viewed};
-ghost use Rattle.format.specs.Format.{scratchBytes, tableBytes};
+ghost use Rattle.format.specs.Format.{maxStates, scratchBytes, tableBytes};
 ghost use Rattle.minimize.specs.Made.{madeOf, writtenTo};
+ghost use Rattle.pairs.specs.Counts.{Setting};
+ghost use Rattle.products.specs.Pairs.{Nodes};
+ghost use Rattle.products.specs.Result.{Answers, Holds};
 ghost use Rattle.table.specs.Intake.{tableRefusal};
 ghost use Rattle.running.specs.Running.{HoldsStates};
 ghost use Rattle.table.specs.Layout.{decode, transitionsIn};
 ghost use Rattle.trees.specs.Listing.{listingRefusal, readTree};
+ghost use Rattle.trees.specs.Tree.{Tree};
 ghost use Rattle.change.specs.Changing.{MadeFits, Worked, changeOf, changedOutcome, resultOf};
 use calls::Answer;
 use classes::pair_classes;
@@ -24,9 +31,11 @@ use format::MAX_NODES;
 use format::wide;
 use minimize::write::Made;
 use minimize::write::write;
+use pairs::product_fits;
 use partition::distinguish;
 use products::Produced;
 use products::product;
+use subtrees::Subtrees;
 use subtrees::collect;
 
 // Zeroes every byte.
@@ -61,6 +70,23 @@ fn minimize(
     write(transitions, count, classes, n, &marks, table)
 }
 
+// Writes the transitions of the product of an automaton and a tree into the scratch. They are counted first, so that
+// too many cost no time.
+fn produce(transitions: &[u8], count: usize, n: usize, s: Subtrees, scratch: &mut [u8]) -> Produced
+    requires { ⌜ HoldsTransitionsOver (now transitions) count n ⌝ }
+    requires { ⌜ n ≤ maxStates ⌝ }
+    requires { ⌜ Nodes (s .count) (s .labels) (s .arities) (s .children) ⌝ }
+    requires { ⌜ length (now scratch) ≡ scratchBytes ⌝ }
+    ensures { λ r. ⌜ ((A : Automaton) (t : Tree) → Holds A t (now (transitions .entry)) count n s →
+        Setting A (now (transitions .entry)) count → Answers A t n s (now (scratch .exit)) r) ⌝ }
+{
+    let states = s.states;
+    if !product_fits(transitions, count, s.count, &states) {
+        return Produced::TooMany;
+    }
+    product(transitions, count, n, s, scratch)
+}
+
 // Puts the tree in or takes it out, and leaves anything in the scratch. `reached` has the states of the tree's nodes.
 fn work(
     tree: &[u8],
@@ -82,7 +108,7 @@ fn work(
     let m = s.count;
     let own = n + wide(s.root);
     let states = s.states;
-    let Produced::Transitions { count: made } = product(&table[HEAD_BYTES..], count, n, s, scratch)
+    let Produced::Transitions { count: made } = produce(&table[HEAD_BYTES..], count, n, s, scratch)
     else {
         return Answer::Refused { number: 16 };
     };

@@ -45,21 +45,21 @@ add-own c =
     (at-collect .collect .ensures A (start .pre .1 .0)) in
     omega (arith, g .table .few, c .wide2 .ensures, g .holds .lists .root-known, g .holds .lists .few)
 
-sub-product : tie.Need-sub-product
-sub-product c =
+sub-produce : tie.Need-sub-produce
+sub-produce c =
     let start = c .before .before .before .before .before .before .before .before .before .before in
     omega (arith, passed-size (start .args .table .now) (start .pre .1 .1 .0))
 
-part-product-start : tie.Need-part-product-start
-part-product-start c =
+part-produce-start : tie.Need-part-produce-start
+part-produce-start c =
     let start = c .before .before .before .before .before .before .before .before .before .before .before in
     omega (arith, passed-size (start .args .table .now) (start .pre .1 .1 .0))
 
-part-product-end : tie.Need-part-product-end
-part-product-end c = search needs
+part-produce-end : tie.Need-part-produce-end
+part-produce-end c = search needs
 
-product-requires : tie.Need-product-requires
-product-requires c κs =
+produce-requires : tie.Need-produce-requires
+produce-requires c κs =
     let at-collect = c .before .before .before .before .before in
     let at-count = at-collect .before in
     let at-wide = at-count .before .before in
@@ -86,7 +86,7 @@ same-length-2 c = search needs
 
 returns : tie.Need-returns
 returns c =
-    let at-product = c .before .before .before .before in
+    let at-produce = c .before .before .before .before in
     let at-collect = c .before .before .before .before .before .before .before .before .before .before in
     let at-count = at-collect .before in
     let at-wide = at-count .before .before in
@@ -97,8 +97,8 @@ returns c =
     (λ i. known .shared-slice-known .given i .fits) (at-count .transition-count .result) (at-wide .wide .result)
     (at-count .transition-count .ensures .0) (at-wide .wide .ensures) (at-collect .collect .result)
     (at-collect .collect .ensures A (start .pre .1 .0)) in
-    given-16 g (at-product .product .last .1 .1 .1 .1 .0) (at-product .product .result)
-    (at-product .product .ensures A (readTree (start .args .tree .now)) (g .holds)) (c .enum-told .given .1)
+    given-16 g (at-produce .produce .last .1 .1 .1 .1 .0) (at-produce .produce .result)
+    (at-produce .produce .ensures A (readTree (start .args .tree .now)) (g .holds) (g .table .setting)) (c .enum-told .given .1)
     (start .args .inserting)
 
 pair-classes-requires : tie.Need-pair-classes-requires
@@ -136,8 +136,8 @@ minimize-requires : tie.Need-minimize-requires
 minimize-requires c κs =
     let at-pair-classes = c .before .before .before in
     let at-made = at-pair-classes .before .before .before .before in
-    let at-product = at-made .before .before .before .before in
-    let at-wide2 = at-product .before .before .before .before .before in
+    let at-produce = at-made .before .before .before .before in
+    let at-wide2 = at-produce .before .before .before .before .before in
     let at-collect = at-wide2 .before in
     let at-count = at-collect .before in
     let at-wide = at-count .before .before in
@@ -148,8 +148,8 @@ minimize-requires c κs =
     (λ i. known .shared-slice-known .given i .fits) (at-count .transition-count .result) (at-wide .wide .result)
     (at-count .transition-count .ensures .0) (at-wide .wide .ensures) (at-collect .collect .result)
     (at-collect .collect .ensures A (start .pre .1 .0)) in
-    let h = given-holding g (at-product .product .last .1 .1 .1 .1 .0) (at-product .product .result)
-    (at-product .product .ensures A (readTree (start .args .tree .now)) (g .holds)) (at-made .made .given .1) in
+    let h = given-holding g (at-produce .produce .last .1 .1 .1 .1 .0) (at-produce .produce .result)
+    (at-produce .produce .ensures A (readTree (start .args .tree .now)) (g .holds) (g .table .setting)) (at-made .made .given .1) in
     let v = given-view g h (at-wide2 .wide2 .ensures) (start .args .inserting) (at-pair-classes .pair-classes .ensures) in
     (v .0, (v .1, g .table .size))
 
@@ -170,8 +170,8 @@ returns-2 c =
     let at-minimize = c .before .before .before .before .before .before in
     let at-pair-classes = c .before .before .before .before .before .before .before .before .before .before in
     let at-made = at-pair-classes .before .before .before .before in
-    let at-product = at-made .before .before .before .before in
-    let at-wide2 = at-product .before .before .before .before .before in
+    let at-produce = at-made .before .before .before .before in
+    let at-wide2 = at-produce .before .before .before .before .before in
     let at-collect = at-wide2 .before in
     let at-count = at-collect .before in
     let at-wide = at-count .before .before in
@@ -182,8 +182,8 @@ returns-2 c =
     (λ i. known .shared-slice-known .given i .fits) (at-count .transition-count .result) (at-wide .wide .result)
     (at-count .transition-count .ensures .0) (at-wide .wide .ensures) (at-collect .collect .result)
     (at-collect .collect .ensures A (start .pre .1 .0)) in
-    let h = given-holding g (at-product .product .last .1 .1 .1 .1 .0) (at-product .product .result)
-    (at-product .product .ensures A (readTree (start .args .tree .now)) (g .holds)) (at-made .made .given .1) in
+    let h = given-holding g (at-produce .produce .last .1 .1 .1 .1 .0) (at-produce .produce .result)
+    (at-produce .produce .ensures A (readTree (start .args .tree .now)) (g .holds) (g .table .setting)) (at-made .made .given .1) in
     given-made g h (at-wide2 .wide2 .ensures) (start .args .inserting) (at-pair-classes .pair-classes .ensures)
     (at-minimize .minimize .ensures .0) (at-minimize .minimize .ensures .1 .0) TooBig (c .enum-told2 .given .1)
 
@@ -210,8 +210,8 @@ returns-3 c =
     let at-minimize = c .before .before .before .before .before .before .before in
     let at-pair-classes = c .before .before .before .before .before .before .before .before .before .before .before in
     let at-made = at-pair-classes .before .before .before .before in
-    let at-product = at-made .before .before .before .before in
-    let at-wide2 = at-product .before .before .before .before .before in
+    let at-produce = at-made .before .before .before .before in
+    let at-wide2 = at-produce .before .before .before .before .before in
     let at-collect = at-wide2 .before in
     let at-count = at-collect .before in
     let at-wide = at-count .before .before in
@@ -222,8 +222,8 @@ returns-3 c =
     (λ i. known .shared-slice-known .given i .fits) (at-count .transition-count .result) (at-wide .wide .result)
     (at-count .transition-count .ensures .0) (at-wide .wide .ensures) (at-collect .collect .result)
     (at-collect .collect .ensures A (start .pre .1 .0)) in
-    let h = given-holding g (at-product .product .last .1 .1 .1 .1 .0) (at-product .product .result)
-    (at-product .product .ensures A (readTree (start .args .tree .now)) (g .holds)) (at-made .made .given .1) in
+    let h = given-holding g (at-produce .produce .last .1 .1 .1 .1 .0) (at-produce .produce .result)
+    (at-produce .produce .ensures A (readTree (start .args .tree .now)) (g .holds) (g .table .setting)) (at-made .made .given .1) in
     given-made g h (at-wide2 .wide2 .ensures) (start .args .inserting) (at-pair-classes .pair-classes .ensures)
     (at-minimize .minimize .ensures .0) (at-minimize .minimize .ensures .1 .0)
     (Table (c .before .left .given .0 .0) (c .before .left .given .0 .1 .0)) (c .before .left .given .1)
@@ -238,10 +238,10 @@ work-spec =
     collect-requires
     wide-requires-2
     add-own
-    sub-product
-    part-product-start
-    part-product-end
-    product-requires
+    sub-produce
+    part-produce-start
+    part-produce-end
+    produce-requires
     enum-known-made
     enum-told
     same-length
