@@ -1,157 +1,86 @@
-//! The least time of many runs of each call, in the library and in the reference, on tables of different kinds, and how
-//! it grows with states and with transitions.
+//! What each call costs in the library, beside a prototype without proofs that answers the same: for each table and
+//! call both times and their ratio, for each call the mean and the worst ratio, and how times grow with the table.
 
+mod agreement;
+mod calls;
+mod cases;
+mod measure;
 mod tables;
 
-use differential::dice::Dice;
-use differential::library;
-use reference::automaton::Automaton;
-use reference::table::{encode, SCRATCH_BYTES};
-use reference::tree::{Tree, LISTING_BYTES};
-use std::hint::black_box;
-use std::time::{Duration, Instant};
+use calls::{changing, reading, Call, Measured, ADD, ASK, INTAKE, RANK, REMOVE, TOTAL, UNRANK};
+use cases::Case;
+use reference::table::encode;
 
-/// How long a call is measured in a round, if it is not slower than that. Library and reference take turns, so that a
-/// busy moment of the machine does not fall on one of them alone.
-const MEASURED: Duration = Duration::from_millis(100);
-const ROUNDS: usize = 4;
+const PASSES: usize = 5;
 
-/// The least time of many runs in microseconds; what is made ready before a run is not counted.
-fn least<T>(ready: impl Fn() -> T, mut run: impl FnMut(&mut T) -> u64) -> f64 {
-    let began = Instant::now();
-    let mut least = Duration::MAX;
-    while least == Duration::MAX || began.elapsed() < MEASURED {
-        let mut input = ready();
-        let start = Instant::now();
-        black_box(run(black_box(&mut input)));
-        least = least.min(start.elapsed());
-    }
-    least.as_secs_f64() * 1e6
-}
-
-/// The least times of the library and of the reference over all rounds.
-fn in_turns<F: Copy>(calls: (F, F), time: impl Fn(F) -> f64) -> (f64, f64) {
-    let rounds = (0..ROUNDS).map(|_| (time(calls.0), time(calls.1)));
-    rounds.fold((f64::MAX, f64::MAX), |least, round| (least.0.min(round.0), least.1.min(round.1)))
-}
-
-/// One call of both on the same bytes.
-struct Measured {
-    call: &'static str,
-    answer: u64,
-    library: f64,
-    reference: f64,
-}
-
-impl Measured {
-    /// The call's name, its answer in words, both times and their ratio: the end of a row.
-    fn row(&self) -> String {
-        let answer = match (self.call, self.answer & 255, self.answer >> 8 & 255) {
-            ("total", 0, over) => if over == 1 { "over" } else { "a number" }.to_string(),
-            ("rank", 0, 1) => "a number".to_string(),
-            ("unrank", 0, _) => "a tree".to_string(),
-            (_, 0, 1) => "approved".to_string(),
-            ("ask" | "rank", 0, 2) => "not part".to_string(),
-            ("ask" | "rank", 0, _) => format!("not {}", self.answer >> 16),
-            (_, 0, _) => format!("{} {}", self.answer >> 16 & 65535, self.answer >> 32),
-            (_, refusal, _) => format!("refused {refusal}"),
-        };
-        let ratio = self.library / self.reference;
-        format!("{} | {answer} | {:.1} | {:.1} | {ratio:.2} |", self.call, self.library, self.reference)
-    }
-}
-
-type Reading = (fn(&[u8], &[u8]) -> u64, fn(&[u8], &[u8]) -> u64);
-type Changing = (fn(&[u8], &mut [u8], &mut [u8]) -> u64, fn(&[u8], &mut [u8], &mut [u8]) -> u64);
-
-const ASK: Reading = (library::ask, |tree, table| reference::ask(tree, table).packed());
-const INTAKE: Reading = (|_, table| library::intake(table), |_, table| reference::take_in(table).packed());
-const TOTAL: Reading = (|_, table| library::total(table, &mut 0), |_, table| reference::total(table).packed());
-const RANK: Reading =
-    (|tree, table| library::rank(tree, table, &mut 0), |tree, table| reference::rank(tree, table).packed());
-const UNRANK: Reading = (
-    |number, table| library::unrank(number_of(number), table, &mut [0; LISTING_BYTES]),
-    |number, table| reference::unrank(number_of(number), table, &mut [0; LISTING_BYTES]).packed(),
-);
-const ADD: Changing = (library::add, |tree, table, scratch| reference::add(tree, table, scratch).packed());
-const REMOVE: Changing = (library::remove, |tree, table, scratch| reference::remove(tree, table, scratch).packed());
-
-/// A number given as bytes.
-fn number_of(bytes: &[u8]) -> u64 {
-    u64::from_le_bytes(bytes.try_into().expect("eight bytes"))
-}
-
-fn reading(call: &'static str, calls: Reading, tree: &[u8], table: &[u8]) -> Measured {
-    let time = |run: fn(&[u8], &[u8]) -> u64| least(|| (), |_| run(black_box(tree), black_box(table)));
-    let (library, reference) = in_turns(calls, time);
-    Measured { call, answer: calls.0(tree, table), library, reference }
-}
-
-/// The measure, and the table after the call.
-fn changing(call: &'static str, calls: Changing, tree: &[u8], table: &[u8]) -> (Measured, Vec<u8>) {
-    let ready = || (table.to_vec(), vec![0; SCRATCH_BYTES]);
-    let time = |run: fn(&[u8], &mut [u8], &mut [u8]) -> u64| least(ready, |(table, scratch)| run(tree, table, scratch));
-    let (mut after, mut scratch) = ready();
-    let answer = calls.0(tree, &mut after, &mut scratch);
-    let (library, reference) = in_turns(calls, time);
-    (Measured { call, answer, library, reference }, after)
-}
-
-/// A tree of the set, if one fits a listing, and one like it that is not in the set.
-fn trees(automaton: &Automaton) -> (Tree, Tree) {
-    let mut dice = Dice::new(7);
-    let Some(inside) = (0..1000).find_map(|_| dice.accepted(automaton)) else {
-        return (Tree::leaf(255), Tree::leaf(255));
+/// The calls. Unrank gets the number of the tree that rank gets, or 0. What was added is removed again; if the addition
+/// is refused a tree of the set is removed.
+fn all_calls(case: &Case) -> Vec<Call> {
+    let table = encode(&case.automaton);
+    let (inside, outside) = (case.inside.listing(), case.added.listing());
+    let added = changing("add", ADD, &outside, &table);
+    let (answer, after) = added.checked();
+    let removed = match &case.removed {
+        Some(tree) => changing("remove", REMOVE, &tree.listing(), &table),
+        None if answer & 255 == 0 => changing("remove", REMOVE, &outside, &after),
+        None => changing("remove", REMOVE, &inside, &table),
     };
-    let outside = (0..1000).map(|_| dice.near_miss(automaton, &inside));
-    let outside = outside.into_iter().find(|tree| !automaton.accepts(automaton.run(tree)));
-    (inside, outside.unwrap_or(Tree::leaf(255)))
-}
-
-/// The calls. Unrank gets the number of the tree that rank gets, or 0. What was added is removed again; where the
-/// addition is refused a tree of the set is removed.
-fn all_calls(automaton: &Automaton, outside: Option<Tree>) -> Vec<Measured> {
-    let table = encode(automaton);
-    let (inside, near) = trees(automaton);
-    let (inside, outside) = (inside.listing(), outside.unwrap_or(near).listing());
-    let (added, after) = changing("add", ADD, &outside, &table);
-    let removed = if added.answer & 255 == 0 {
-        changing("remove", REMOVE, &outside, &after).0
-    } else {
-        changing("remove", REMOVE, &inside, &table).0
-    };
+    let read = |(call, calls)| reading(call, calls, &inside, &table);
     let mut number = 0;
     library::rank(&inside, &table, &mut number);
-    let read = |(call, calls)| reading(call, calls, &inside, &table);
     let queries = [("ask", ASK), ("intake", INTAKE), ("total", TOTAL), ("rank", RANK)];
-    let unranked = reading("unrank", UNRANK, &number.to_le_bytes(), &table);
-    queries.into_iter().map(read).chain([unranked, added, removed]).collect()
+    let unrank = reading("unrank", UNRANK, &number.to_le_bytes(), &table);
+    queries.into_iter().map(read).chain([unrank, added, removed]).collect()
+}
+
+/// The least times of each table's calls. There are several passes over all tables, so that the turns of a call are far
+/// apart.
+fn measured(tables: &[Vec<Call>]) -> Vec<Vec<Measured>> {
+    let first = |call: &Call| Measured { call: call.name, answer: call.checked().0, times: call.times() };
+    let mut rows: Vec<Vec<Measured>> = tables.iter().map(|calls| calls.iter().map(first).collect()).collect();
+    for _ in 1..PASSES {
+        for (measured, call) in rows.iter_mut().flatten().zip(tables.iter().flatten()) {
+            measured.times = measured.times.least(call.times());
+        }
+    }
+    rows
+}
+
+/// For each call that the prototype has: on how many tables, and the geometric mean and the worst of the ratios.
+fn print_summary(cases: &[Case], rows: &[Vec<Measured>]) {
+    println!("\n| call | tables | mean ratio | worst ratio | worst on |\n|---|---|---|---|---|");
+    for call in ["ask", "intake", "add", "remove"] {
+        let ratio = |row: &Vec<Measured>| row.iter().find(|measured| measured.call == call)?.ratio();
+        let ratios: Vec<(f64, &str)> =
+            cases.iter().zip(rows).filter_map(|(case, row)| Some((ratio(row)?, case.name))).collect();
+        let mean = (ratios.iter().map(|(ratio, _)| ratio.ln()).sum::<f64>() / ratios.len() as f64).exp();
+        let worst = ratios.iter().max_by(|one, other| one.0.total_cmp(&other.0));
+        let (worst, name) = worst.expect("a table is measured");
+        println!("| {call} | {} | {mean:.2} | {worst:.2} | {name} |", ratios.len());
+    }
+}
+
+/// A table whose last columns are the calls.
+fn print_rows(first: &str, names: &[String], rows: &[Vec<Measured>], cell: fn(&Measured) -> String) {
+    let calls: Vec<&str> = rows[0].iter().map(|measured| measured.call).collect();
+    println!("| {first} | {} |\n|{}", calls.join(" | "), "---|".repeat(first.split('|').count() + calls.len()));
+    for (name, row) in names.iter().zip(rows) {
+        let cells: Vec<String> = row.iter().map(cell).collect();
+        println!("| {name} | {} |", cells.join(" | "));
+    }
 }
 
 fn main() {
-    println!("| table | call | answer | library µs | reference µs | ratio |\n|---|---|---|---|---|---|");
-    let split = Tree::new(20, vec![Tree::leaf(1)]);
-    for (name, automaton, outside) in [
-        ("empty", Automaton::default(), None),
-        ("P7", tables::example(), None),
-        ("middle", tables::mixed(40, 300), None),
-        ("full", tables::mixed(200, 1024), None),
-        ("chain", tables::chain(), None),
-        ("eleven families", tables::families(), Some(split)),
-        ("wide", tables::wide(), None),
-    ] {
-        for measured in all_calls(&automaton, outside) {
-            println!("| {name} | {}", measured.row());
-        }
-    }
-    println!("\n| states | transitions | ask | intake | total | add | remove |\n|---|---|---|---|---|---|---|");
-    let sizes = [(25, 128), (50, 256), (100, 512), (200, 1024), (25, 1024), (50, 1024), (100, 1024), (100, 256)];
-    for (states, transitions) in sizes {
-        // These tables are over, so that rank and unrank are refused once the total is known.
-        let calls = all_calls(&tables::mixed(states, transitions), None);
-        let shown = calls.iter().filter(|it| !["rank", "unrank"].contains(&it.call));
-        let cells: Vec<String> =
-            shown.map(|it| format!("{:.1} ({:.2})", it.library, it.library / it.reference)).collect();
-        println!("| {states} | {transitions} | {} |", cells.join(" | "));
-    }
+    agreement::check_random_calls();
+    let cases = cases::all();
+    let (sizes, mixed): (Vec<String>, Vec<Case>) = cases::sizes().into_iter().unzip();
+    let tables: Vec<Vec<Call>> = cases.iter().chain(&mixed).map(all_calls).collect();
+    tables.iter().flatten().for_each(|call| drop(call.checked()));
+    let rows = measured(&tables);
+    let (of_cases, of_sizes) = rows.split_at(cases.len());
+    let names: Vec<String> = cases.iter().map(|case| case.name.to_string()).collect();
+    print_rows("table", &names, of_cases, Measured::cell);
+    print_summary(&cases, of_cases);
+    println!();
+    print_rows("states | transitions", &sizes, of_sizes, Measured::short_cell);
 }
