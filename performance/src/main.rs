@@ -9,6 +9,7 @@ mod tables;
 
 use calls::{changing, reading, Call, Measured, ADD, ASK, INTAKE, RANK, REMOVE, TOTAL, UNRANK};
 use cases::Case;
+use differential::library;
 use reference::table::encode;
 
 const PASSES: usize = 5;
@@ -26,7 +27,7 @@ fn all_calls(case: &Case) -> Vec<Call> {
         None => changing("remove", REMOVE, &inside, &table),
     };
     let read = |(call, calls)| reading(call, calls, &inside, &table);
-    let mut number = 0;
+    let mut number: u64 = 0;
     library::rank(&inside, &table, &mut number);
     let queries = [("ask", ASK), ("intake", INTAKE), ("total", TOTAL), ("rank", RANK)];
     let unrank = reading("unrank", UNRANK, &number.to_le_bytes(), &table);
