@@ -1,10 +1,8 @@
 -- A tree is run by its children one after another, then its root. What is left of the bytes falls: twice their number,
 -- and one more for the children.
-use mathlib.Core.List.{_∷_}
-use mathlib.Core.Path.{_∙_, _≡_, ap, refl, sym}
+use mathlib.Core.Path.{_∙_, _≡_, ap}
 use native.Mathlib.Omega.{arith}
 use lib.Seq.{length-sets}
-use Rattle.automata.specs.Automaton.{run}
 use Rattle.automata.specs.NodeStates.{nodeStates}
 use Rattle.running.specs.Running.{over, ranState}
 use Rattle.trees.specs.Listing.{readTree}
@@ -14,9 +12,10 @@ use Rattle.running.proofs.Ahead.{ahead-nodes, children-ahead, first-ahe
 use Rattle.running.proofs.Ahead.{one-more, others-ahead, root-arity, root-row, root-size}
 use Rattle.running.proofs.Answers.{ran-to}
 use Rattle.running.proofs.ChildRows.{noted-next, noted-none, rows-put}
-use Rattle.running.proofs.Nodes.{bytes-none, child-states, children-none, children-ran, children-states, states-none, tree-ran, tree-states}
+use Rattle.running.proofs.Nodes.{bytes-none, child-states, children-nodes, children-none, children-states}
+use Rattle.running.proofs.Nodes.{root-nodes, root-run, root-state, states-none, tree-states}
 use borrow.Author.Needs.{needs}
-use Prim.Native.Nat.{_*_, _+_, _<_, ℕ, _-_, suc}
+use Prim.Native.Nat.{_*_, _+_, _-_, _<_, ℕ}
 use lib.ListN.{getD, length}
 use borrow.Fn.Kinds.{In}
 use borrow.Fn.PlainCycle.{Measures, is, falls, and}
@@ -29,7 +28,6 @@ use Rattle.running.proofs.+run_children+run_tree.Lts-run_tree as run-tr
 use Rattle.format.proofs.wide.Reads as wide-reads
 use Rattle.listing.proofs.children_at.Reads as children-at-reads
 use Rattle.listing.proofs.label_at.Reads as label-at-reads
-use Rattle.running.proofs.join.Reads as join-reads
 use Rattle.running.proofs.run_node.Reads as run-node-reads
 use Rattle.running.proofs.state_byte.Reads as state-byte-reads
 use Rattle.running.proofs.+run_children+run_tree.{statement}
@@ -64,12 +62,8 @@ abbrev run-children-calls : ℕ → run-children-lts.Claims
 run-children-calls t = (
   run-tree-below t,
   run-tree.Post,
-  state-byte-reads.Asked,
-  state-byte-reads.Learnt,
   run-children-below t,
   run-children.Post,
-  join-reads.Asked,
-  join-reads.Learnt,
 )
 
 abbrev run-tree-calls : ℕ → run-tree-lts.Claims
@@ -94,7 +88,7 @@ run-children-returns t c =
     let a = start .args in
     let τs = a .transitions .now in
     let j = a .arity - a .k in (
-      children-none τs (a .count) (a .s .now) j (omega arith),
+      children-none (a .s .now) j (omega arith),
       (
         noted-none (start .pre .1 .1 .1 .0) (c .if1 .taken) (states-none τs (a .count) (a .s .now) j (omega arith)),
         bytes-none τs (a .count) (a .s .now) j (a .node) (a .states .now) (omega arith),
@@ -112,8 +106,14 @@ run-children-run-tree-requires t c κs =
     let p = start .pre .1 in
     (omega (arith, start .pre .0), (p .0, (first-ahead v i e, (p .1 .1 .0, p .1 .1 .1 .0))))
 
-run-children-state-byte-requires : (t : ℕ) → run-children-lts.Need-state-byte-requires (run-children-calls t) (run-children-at t) run-children.Post
-run-children-state-byte-requires t c κs = search needs
+run-children-element-copy-out-rows : (t : ℕ) → run-children-lts.Need-element-copy-out-rows (run-children-calls t) (run-children-at t) run-children.Post
+run-children-element-copy-out-rows t c =
+    let at-if1 = c .before .before .before in
+    let start = c .before .before .before .before .before .before in
+    let a = start .args in
+    let v = start .pre .1 .1 .0 in
+    let e = one-more (start .pre .1 .1 .1 .1 .1 .1 .0) (at-if1 .if1 .left) in
+    root-row (first-ahead v (a .arity - (a .k + 1)) e)
 
 run-children-mul-rows : (t : ℕ) → run-children-lts.Need-mul-rows (run-children-calls t) (run-children-at t) run-children.Post
 run-children-mul-rows t c = search needs
@@ -133,9 +133,9 @@ run-children-mul-run-children t c =
     let v = start .pre .1 .1 .0 in
     let i = a .arity - (a .k + 1) in
     let e = one-more (start .pre .1 .1 .1 .1 .1 .1 .0) (at-if1 .if1 .left) in
-    let m = at-run-tree .run-tree .result .nodes in
+    let m = at-run-tree .run-tree .result in
     let ran = at-run-tree .run-tree .ensures .0 in
-    omega (arith, first-within v i e m (ran .nodes), start .good .0 .0)
+    omega (arith, first-within v i e m ran, start .good .0 .0)
 
 run-children-sub-run-children : (t : ℕ) → run-children-lts.Need-sub-run-children (run-children-calls t) (run-children-at t) run-children.Post
 run-children-sub-run-children t c =
@@ -146,9 +146,9 @@ run-children-sub-run-children t c =
     let v = start .pre .1 .1 .0 in
     let i = a .arity - (a .k + 1) in
     let e = one-more (start .pre .1 .1 .1 .1 .1 .1 .0) (at-if1 .if1 .left) in
-    let m = at-run-tree .run-tree .result .nodes in
+    let m = at-run-tree .run-tree .result in
     let ran = at-run-tree .run-tree .ensures .0 in
-    first-within v i e m (ran .nodes)
+    first-within v i e m ran
 
 run-children-part-run-children-start : (t : ℕ) → run-children-lts.Need-part-run-children-start (run-children-calls t) (run-children-at t) run-children.Post
 run-children-part-run-children-start t c =
@@ -159,9 +159,9 @@ run-children-part-run-children-start t c =
     let v = start .pre .1 .1 .0 in
     let i = a .arity - (a .k + 1) in
     let e = one-more (start .pre .1 .1 .1 .1 .1 .1 .0) (at-if1 .if1 .left) in
-    let m = at-run-tree .run-tree .result .nodes in
+    let m = at-run-tree .run-tree .result in
     let ran = at-run-tree .run-tree .ensures .0 in
-    first-within v i e m (ran .nodes)
+    first-within v i e m ran
 
 run-children-part-run-children-end : (t : ℕ) → run-children-lts.Need-part-run-children-end (run-children-calls t) (run-children-at t) run-children.Post
 run-children-part-run-children-end t c = search needs
@@ -175,9 +175,9 @@ run-children-add-run-children t c =
     let v = start .pre .1 .1 .0 in
     let i = a .arity - (a .k + 1) in
     let e = one-more (start .pre .1 .1 .1 .1 .1 .1 .0) (at-if1 .if1 .left) in
-    let m = at-run-tree .run-tree .result .nodes in
+    let m = at-run-tree .run-tree .result in
     let ran = at-run-tree .run-tree .ensures .0 in
-    omega (arith, first-within v i e m (ran .nodes), v .room)
+    omega (arith, first-within v i e m ran, v .room)
 
 run-children-add-run-children-2 : (t : ℕ) → run-children-lts.Need-add-run-children-2 (run-children-calls t) (run-children-at t) run-children.Post
 run-children-add-run-children-2 t c = search needs
@@ -191,62 +191,60 @@ run-children-run-children-requires t c κs =
     let v = start .pre .1 .1 .0 in
     let i = a .arity - (a .k + 1) in
     let e = one-more (start .pre .1 .1 .1 .1 .1 .1 .0) (at-if1 .if1 .left) in
-    let m = at-run-tree .run-tree .result .nodes in
+    let m = at-run-tree .run-tree .result in
     let ran = at-run-tree .run-tree .ensures .0 in
     let p = start .pre .1 in
-    let some = first-some v i e m (ran .nodes) in
-    let within = first-within v i e m (ran .nodes) in
+    let some = first-some v i e m ran in
+    let within = first-within v i e m ran in
     let less = part-length (a .s .now) (nodeBytes * m) in
     let here : a .parent < maxNodes = omega (arith, root-row (first-ahead v i e)) in
     let rows = rows-put (at-run-tree .run-tree .ensures .1 .0 .rows) (a .parent) _ _ here in
     let bytes = ap length (at-run-tree .run-tree .ensures .1 .1) ∙ length-sets (a .states .now) (a .node) (nodeStates (over (a .transitions .now) (a .count)) (readTree (a .s .now))) ∙ p .1 .1 .1 .0 in (
       omega (arith, start .pre .0),
-      (p .0, (others-ahead v i e m (ran .nodes), (rows, (bytes, (omega arith, (omega arith, p .1 .1 .1 .1 .1 .1)))))),
+      (p .0, (others-ahead v i e m ran, (rows, (bytes, (omega arith, (omega arith, p .1 .1 .1 .1 .1 .1)))))),
     )
 
-run-children-join-requires : (t : ℕ) → run-children-lts.Need-join-requires (run-children-calls t) (run-children-at t) run-children.Post
-run-children-join-requires t c κs = search needs
-
-run-children-add-t20 : (t : ℕ) → run-children-lts.Need-add-t20 (run-children-calls t) (run-children-at t) run-children.Post
-run-children-add-t20 t c =
-    let at-run-children = c .before .before in
-    let at-run-tree = c .before .before .before .before .before .before .before in
-    let at-if1 = c .before .before .before .before .before .before .before .before .before .before in
-    let start = c .before .before .before .before .before .before .before .before .before .before .before .before .before in
+run-children-add-result : (t : ℕ) → run-children-lts.Need-add-result (run-children-calls t) (run-children-at t) run-children.Post
+run-children-add-result t c =
+    let at-run-tree = c .before .before .before .before .before in
+    let at-if1 = c .before .before .before .before .before .before .before .before in
+    let start = c .before .before .before .before .before .before .before .before .before .before .before in
     let a = start .args in
     let v = start .pre .1 .1 .0 in
     let i = a .arity - (a .k + 1) in
     let e = one-more (start .pre .1 .1 .1 .1 .1 .1 .0) (at-if1 .if1 .left) in
-    let m = at-run-tree .run-tree .result .nodes in
+    let m = at-run-tree .run-tree .result in
     let ran = at-run-tree .run-tree .ensures .0 in
     omega (
       arith,
-      first-within v i e m (ran .nodes),
+      first-within v i e m ran,
       part-length (a .s .now) (nodeBytes * m),
-      ahead-nodes (others-ahead v i e m (ran .nodes)),
-      at-run-children .run-children .ensures .0 .nodes,
+      ahead-nodes (others-ahead v i e m ran),
+      c .run-children .ensures .0,
       start .good .0 .0,
     )
 
 run-children-returns-2 : (t : ℕ) → run-children-lts.Need-returns-2 (run-children-calls t) (run-children-at t) run-children.Post
 run-children-returns-2 t c =
-    let at-run-children = c .before .before in
-    let at-run-tree = c .before .before .before .before .before .before .before in
-    let at-if1 = c .before .before .before .before .before .before .before .before .before .before in
-    let start = c .before .before .before .before .before .before .before .before .before .before .before .before .before in
+    let at-run-tree = c .before .before .before .before .before in
+    let at-if1 = c .before .before .before .before .before .before .before .before in
+    let start = c .before .before .before .before .before .before .before .before .before .before .before in
     let a = start .args in
     let v = start .pre .1 .1 .0 in
     let i = a .arity - (a .k + 1) in
     let e = one-more (start .pre .1 .1 .1 .1 .1 .1 .0) (at-if1 .if1 .left) in
-    let m = at-run-tree .run-tree .result .nodes in
+    let m = at-run-tree .run-tree .result in
     let ran = at-run-tree .run-tree .ensures .0 in
     let τs = a .transitions .now in
     let here : a .parent < maxNodes = omega (arith, start .pre .1 .1 .1 .1 .1 .0, root-row (first-ahead v i e)) in
     let place : a .k < maxArity = omega (arith, start .pre .1 .1 .1 .1 .1 .1, e) in
-    let byte = c .before .before .before .before .before .before .state-byte .ensures in
-    let others = at-run-children .run-children .ensures in
-    let head = child-states τs (a .count) v i e ran byte in (
-      children-ran τs (a .count) v i e ran (others .0) (c .before .join .ensures) refl,
+    let row = root-row (first-ahead v i e) in
+    let byte : a .node < length (a .states .now) = omega (arith, start .pre .1 .1 .1 .1 .0) in
+    let state = ap (λ l. getD l (a .node) 0) (at-run-tree .run-tree .ensures .1 .1)
+    ∙ root-state (over τs (a .count)) (readTree (a .s .now)) (a .states .now) (a .node) byte in
+    let others = c .run-children .ensures in
+    let head = child-states τs (a .count) v i e ran state in (
+      children-nodes v i e ran (others .0),
       (
         noted-next here place (start .pre .1 .1 .1 .1 .1 .0) head (at-run-tree .run-tree .ensures .1 .0) (others .1 .0),
         children-states τs (a .count) v i e ran (a .states .now) (at-run-tree .run-tree .ensures .1 .1) (others .1 .1),
@@ -316,36 +314,34 @@ run-tree-element-write-states : (t : ℕ) → run-tree-lts.Need-element-write-st
 run-tree-element-write-states t c =
     root-row (c .before .before .before .before .before .before .before .before .before .before .before .before .pre .1 .1 .0)
 
-run-tree-add-t18 : (t : ℕ) → run-tree-lts.Need-add-t18 (run-tree-calls t) (run-tree-at t) run-tree.Post
-run-tree-add-t18 t c =
-    let at-wide = c .before .before .before .before .before .before .before .before .before in
-    let start = c .before .before .before .before .before .before .before .before .before .before .before .before .before in
+run-tree-add-result : (t : ℕ) → run-tree-lts.Need-add-result (run-tree-calls t) (run-tree-at t) run-tree.Post
+run-tree-add-result t c =
+    let at-wide = c .before .before .before .before .before .before .before .before in
+    let start = c .before .before .before .before .before .before .before .before .before .before .before .before in
     let a = start .args in
     let v = start .pre .1 .1 .0 in
     let k = at-wide .wide .result - 0 in
     let e : k ≡ getD (a .s .now) labelBytes 0 = omega (arith, at-wide .wide .ensures, at-wide .before .children-at .ensures) in
     let nodes = ahead-nodes (children-ahead v k e) in
     let within = part-length (a .s .now) nodeBytes in
-    let below = c .before .before .before .before .before .run-children .ensures .0 .nodes in
+    let below = c .before .before .before .before .run-children .ensures .0 in
     omega (arith, start .good .0 .0)
 
 run-tree-returns : (t : ℕ) → run-tree-lts.Need-returns (run-tree-calls t) (run-tree-at t) run-tree.Post
 run-tree-returns t c =
-    let at-run-children = c .before .before .before .before .before in
-    let at-wide = c .before .before .before .before .before .before .before .before .before in
-    let start = c .before .before .before .before .before .before .before .before .before .before .before .before .before in
+    let at-wide = c .before .before .before .before .before .before .before .before in
+    let start = c .before .before .before .before .before .before .before .before .before .before .before .before in
     let a = start .args in
     let v = start .pre .1 .1 .0 in
     let k = at-wide .wide .result - 0 in
     let e : k ≡ getD (a .s .now) labelBytes 0 = omega (arith, at-wide .wide .ensures, at-wide .before .children-at .ensures) in
     let τs = a .transitions .now in
-    let below = at-run-children .run-children .ensures in
-    let label = c .before .before .before .before .label-at .ensures .0 in
-    let ran = c .before .before .run-node .ensures _ (below .0 .filled) (below .1 .0 .row) in
-    let tree = tree-ran τs (a .count) v k e (below .0) (rw label at ran) refl in
-    let byte = c .before .state-byte .ensures ∙ ap ranState (tree .ran) ∙ ran-to (run (over τs (a .count)) (readTree (a .s .now))) in (
-      tree,
-      (below .1 .0 .kept, tree-states τs (a .count) v k e (below .0) _ byte (a .states .now) (below .1 .1)),
+    let below = c .before .before .before .before .run-children .ensures in
+    let label = c .before .before .before .label-at .ensures .0 in
+    let stored = c .state-byte .ensures ∙ ap ranState (c .before .run-node .ensures) ∙ ran-to _ in
+    let state = root-run v k e τs (a .count) stored label (below .1 .0 .row) in (
+      root-nodes v k e (below .0),
+      (below .1 .0 .kept, tree-states v k e τs (a .count) _ state (a .states .now) (below .1 .1)),
     )
 
 pub +run-children+run-tree-spec : {M : Type 1} → statement M
@@ -354,7 +350,7 @@ pub +run-children+run-tree-spec : {M : Type 1} → statement M
     run-children.Post
     (run-children-returns t)
     (run-children-run-tree-requires t)
-    (run-children-state-byte-requires t)
+    (run-children-element-copy-out-rows t)
     (run-children-mul-rows t)
     (run-children-index-1-rows t)
     (run-children-index-2-rows t)
@@ -365,8 +361,7 @@ pub +run-children+run-tree-spec : {M : Type 1} → statement M
     (run-children-add-run-children t)
     (run-children-add-run-children-2 t)
     (run-children-run-children-requires t)
-    (run-children-join-requires t)
-    (run-children-add-t20 t)
+    (run-children-add-result t)
     (run-children-returns-2 t))
     λ t. run-tree-lts.spec (run-tree-calls t)
     (run-tree-at t)
@@ -384,5 +379,5 @@ pub +run-children+run-tree-spec : {M : Type 1} → statement M
     (run-tree-run-node-requires t)
     (run-tree-state-byte-requires t)
     (run-tree-element-write-states t)
-    (run-tree-add-t18 t)
+    (run-tree-add-result t)
     (run-tree-returns t)
