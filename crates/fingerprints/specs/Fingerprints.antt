@@ -32,7 +32,7 @@ xored (q ∷ qs) k y = xored qs (k + 1) (bitXor y (q * multiplier k))
 
 -- what a label and the fingerprint of an output give
 unfoldable pub salted : ℕ → ℕ → ℕ
-salted a x = bitXor (a * 9223372037) x
+salted a x = bitXor (bitXor (a * 9223372037) (x % 4294967296 * 3935559001)) (x / 4294967296 * 2654435769)
 
 -- the product of a number's halves, but for the last 16 bits, which are 2: so the class is the last bit of a
 -- fingerprint, and the bits before it count the uses

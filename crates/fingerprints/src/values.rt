@@ -8,12 +8,13 @@ ghost use Rattle.fingerprints.specs.Fingerprints.{mixed, multiplier, sal
 use fields::arg_of;
 use fields::arity_of;
 
-// What the label and the fingerprint x of the output give.
+// What the label and the fingerprint x of the output give. The last bits of a fingerprint may be all that differs, so
+// both halves are spread.
 pub fn salt(label: usize, x: usize) -> usize
     requires { ⌜ label ≤ 65535 ⌝ }
     ensures { λ r. ⌜ r ≡ salted label x ⌝ }
 {
-    label * 9223372037 ^ x
+    label * 9223372037 ^ x % 4294967296 * 3935559001 ^ x / 4294967296 * 2654435769
 }
 
 // Argument q at place k.

@@ -1,16 +1,27 @@
--- `fingerprints::values::salt` meets its contract: the product fits 64 bits.
 use mathlib.Core.Path.{refl}
 use Rattle.fingerprints.specs.Fingerprints.{salted}
 use borrow.Author.Needs.{needs}
 use Rattle.fingerprints.proofs.values.salt.Statement.{statement}
 use Rattle.fingerprints.proofs.values.salt.Tie as tie
+use Rattle.fingerprints.proofs.values.salt.Reads as reads
+use Rattle.fingerprints.proofs.values.salt.Lts as lts
 
+-- src/values.rt:17:5
 mul-result : tie.Need-mul-result
 mul-result c = search needs
 
+-- src/values.rt:17:26
+mul-result-2 : tie.Need-mul-result-2
+mul-result-2 c = search needs
+
+-- src/values.rt:17:56
+mul-result-3 : tie.Need-mul-result-3
+mul-result-3 c = search needs
+
+-- src/values.rt:13:1
 returns : tie.Need-returns
 unfolding salted
 returns c = refl
 
 pub salt-spec : {M : Type 1} → statement M
-salt-spec = tie.close (tie.spec mul-result returns)
+salt-spec = tie.close (tie.spec mul-result mul-result-2 mul-result-3 returns)
