@@ -67,11 +67,11 @@ extern "C" {
 
 /*
  * The stack that a call takes at most: add and remove; ask and intake; total, rank and unrank; read. Measured on x86-64
- * and rounded up by about a fifth. tests/stack.c makes the calls on stacks of these sizes.
+ * (102, 14, 31 and 41 KiB) and rounded up by about a fifth. tests/stack.c makes the calls on stacks of these sizes.
  */
-#define SCALEBENCH_CHANGE_STACK_BYTES 196608
-#define SCALEBENCH_ASK_STACK_BYTES 98304
-#define SCALEBENCH_TOTAL_STACK_BYTES 131072
+#define SCALEBENCH_CHANGE_STACK_BYTES 122880
+#define SCALEBENCH_ASK_STACK_BYTES 16384
+#define SCALEBENCH_TOTAL_STACK_BYTES 36864
 #define SCALEBENCH_READ_STACK_BYTES 49152
 
 /*

@@ -138,6 +138,20 @@ module _ (s : List ℕ) (i : ℕ) where
       broken = λ d. absurd (true≢false d);
     }
 
+    -- its output has one, and all between have theirs
+    pub read-known : Spans m → top (τ .args) < τ .out → 1 ≤ getD m (τ .out) 0 →
+        getD m (τ .out) 0 ≤ top (τ .args) + 1 → NumbersRead s i m true
+    read-known spans h l k = record {
+      size = size;
+      passed = λ _. rw one-more
+          (passed-next passed τ (marked m) h (λ j a b. spans .each (τ .out) j seen (omega arith) (omega arith)) seen
+          (λ j n. refl));
+      broken = λ d. absurd (true≢false d);
+    }
+      where
+        seen : marked m (τ .out) ≡ true
+        seen = nonzero-true (getD m (τ .out) 0) (λ z. absurd (omega (arith, z, l)))
+
     -- a state between has no number
     pub read-broken : every (marked m) (upFrom (top (τ .args) + 1) (τ .out - (top (τ .args) + 1))) ≡ false →
         NumbersRead s i m false

@@ -68,8 +68,8 @@ fn climbs(transitions: &[u8], i: usize) -> bool
     t < out_of(transitions, at)
 }
 
-// Whether the states from one up to, not including, another have all been seen. A mark leads over all states that it
-// says have been seen.
+// Whether the states from one up to, not including, another have all been seen. A mark lets the loop skip the whole
+// interval that it says has been seen.
 fn all_seen(seen: &[u8; BYTE_VALUES], from: usize, end: usize) -> bool
     requires { ⌜ Spans (now seen) ⌝ }
     requires { ⌜ end ≤ byteValues ⌝ }
@@ -86,8 +86,18 @@ fn all_seen(seen: &[u8; BYTE_VALUES], from: usize, end: usize) -> bool
     true
 }
 
+// Whether a mark says that all states from another one on have been seen.
+fn leads_to(mark: usize, from: usize) -> bool
+    ensures { λ r. ⌜ (r ≡ true → (1 ≤ mark) × (mark ≤ from)) ⌝ }
+{
+    if mark == 0 {
+        return false;
+    }
+    mark <= from
+}
+
 // Reads transition i: whether every state strictly between its arguments and its output has been seen. Then the
-// output is seen, and its mark says so of them all.
+// output is seen, and its mark says so of them all. A mark that says more is kept.
 fn read(transitions: &[u8], i: usize, seen: &mut [u8; BYTE_VALUES]) -> bool
     requires { ⌜ Readable (now transitions) (transitionBytes * i) ⌝ }
     requires { ⌜ Padded (now transitions) (transitionBytes * i) ⌝ }
@@ -101,6 +111,9 @@ fn read(transitions: &[u8], i: usize, seen: &mut [u8; BYTE_VALUES]) -> bool
     let t = top_argument(transitions, at);
     let out = out_of(transitions, at);
     if out <= t {
+        return true;
+    }
+    if leads_to(wide(seen[out]), t + 1) {
         return true;
     }
     if !all_seen(seen, t + 1, out) {
