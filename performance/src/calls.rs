@@ -21,8 +21,8 @@ impl Measured {
             ("unrank", 0, _) => "a tree".to_string(),
             ("total", 0, over) => if over == 1 { "over" } else { "a number" }.to_string(),
             (_, 0, 1) => "approved".to_string(),
-            ("ask", 0, 2) => "not part".to_string(),
-            ("ask", 0, _) => format!("not {}", self.answer >> 16),
+            ("ask" | "rank", 0, 2) => "not part".to_string(),
+            ("ask" | "rank", 0, _) => format!("not {}", self.answer >> 16),
             (_, 0, _) => format!("{} {}", self.answer >> 16 & 65535, self.answer >> 32),
             (_, refusal, _) => format!("refused {refusal}"),
         };
