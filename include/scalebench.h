@@ -67,7 +67,7 @@ extern "C" {
 
 /*
  * The stack that a call takes at most: add and remove; ask and intake; total, rank and unrank; read. Measured on x86-64
- * (102, 14, 31 and 41 KiB) and rounded up by about a fifth. tests/stack.c makes the calls on stacks of these sizes.
+ * (98, 14, 31 and 41 KiB) and rounded up by about a fifth. tests/stack.c makes the calls on stacks of these sizes.
  */
 #define SCALEBENCH_CHANGE_STACK_BYTES 122880
 #define SCALEBENCH_ASK_STACK_BYTES 16384
