@@ -7,7 +7,7 @@ use mathlib.Core.Path.{_∙_, _≡_, ap, refl, sym}
 use Prim.Native.Nat.{_+_, _<_, _≤_, max, suc, zero, ℕ}
 use native.Mathlib.Omega.{arith}
 use lib.Dec.{eqb, leb}
-use borrow.Author.Tests.{eq-eqb, eqb-false, eqb-true, le-leb, leb-false, leb-true, lt-leb, lt-ltb, ltb-true}
+use borrow.Author.Tests.{eq-eqb, eqb-false, eqb-true, le-leb, leb-true, lt-ltb, ltb-true}
 use Rattle.automata.specs.Accessible.{accessible, accessibleRule, allAccessible}
 use Rattle.automata.specs.Automaton.{Automaton, Transition, states}
 use Rattle.automata.specs.Numbered.{Passed, firstOpen, numbered, opens, top}
@@ -18,20 +18,11 @@ use Rattle.automata.proofs.Valid.{ranged-transition}
 use Rattle.lists.proofs.Closure.{closed}
 use Rattle.lists.proofs.Intervals.{at-every, every-at}
 use Rattle.lists.proofs.Positions.{in-upFrom}
-use Rattle.lists.proofs.Tests.{and-both, and-left, and-right, eqb-same, every-in, in-any, in-every}
+use Rattle.lists.proofs.Tests.{and-both, and-left, and-right, eqb-same, every-in, in-any, in-every, leb-max}
 
 pub top-at : (qs : List ℕ) (k : ℕ) → every (λ q. leb q k) qs ≡ leb (top qs) k
 top-at [] k = sym (le-leb 0 k (omega arith))
-top-at (q ∷ qs) k = go (leb q k) refl (leb (top qs) k) refl (top-at qs k)
-  where
-    go : (b : Bool) → leb q k ≡ b → (d : Bool) → leb (top qs) k ≡ d → every (λ q. leb q k) qs ≡ leb (top qs) k →
-        (leb q k && every (λ q. leb q k) qs) ≡ leb (max q (top qs)) k
-    go true e true f h =
-        let l = leb-true q k e in let m = leb-true (top qs) k f in
-        let r = le-leb (max q (top qs)) k (omega arith) in cc
-    go true e false f h =
-        let m = leb-false (top qs) k f in let r = lt-leb (max q (top qs)) k (omega arith) in cc
-    go false e d f h = let l = leb-false q k e in let r = lt-leb (max q (top qs)) k (omega arith) in cc
+top-at (q ∷ qs) k = ap (λ b. leb q k && b) (top-at qs k) ∙ sym (leb-max q (top qs) k)
 
 -- a transition opens k if its greatest argument is at most k and its output above
 pub opens-between : (k : ℕ) (τ : Transition) → top (τ .args) ≤ k → k < τ .out → opens k τ ≡ true

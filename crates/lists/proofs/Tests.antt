@@ -3,11 +3,11 @@ use mathlib.Core.Bool.{Bool, _&&_, _||_, cond, false, false≢true, true, true�
 use mathlib.Core.List.{List, [], _++_, _∷_, map}
 use mathlib.Core.Logic.{_⊎_, inl, inr}
 use mathlib.Core.Path.{_≡_, ap, refl, sym}
-use Prim.Native.Nat.{_<_, _≤_, suc, ℕ}
+use Prim.Native.Nat.{_<_, _≤_, max, suc, ℕ}
 use native.Mathlib.Omega.{arith}
-use lib.Dec.{eqb}
+use lib.Dec.{eqb, leb}
 use lib.ListN.{length}
-use borrow.Author.Tests.{eq-eqb, eqb-true, ne-eqb}
+use borrow.Author.Tests.{eq-eqb, eqb-true, le-leb, leb-false, leb-true, lt-leb, ne-eqb}
 use Rattle.lists.specs.Tests.{_∈_, any, every, filter, sameList}
 
 pub and-left : (a b : Bool) → (a && b) ≡ true → a ≡ true
@@ -201,3 +201,13 @@ pub every-same-in : {A : Type 0} (p q : A → Bool) (xs : List A) → ((x : A) �
     every q xs
 every-same-in p q [] h = refl
 every-same-in p q (x ∷ xs) h = cc (h x (inl refl), every-same-in p q xs (λ y i. h y (inr i)))
+
+-- a bound of the greater of two numbers bounds both
+pub leb-max : (x y k : ℕ) → leb (max x y) k ≡ (leb x k && leb y k)
+leb-max x y k = go (leb x k) refl (leb y k) refl
+  where
+    go : (b : Bool) → leb x k ≡ b → (d : Bool) → leb y k ≡ d → leb (max x y) k ≡ (leb x k && leb y k)
+    go true e true f = let l = leb-true x k e in let m = leb-true y k f in
+        let r = le-leb (max x y) k (omega arith) in cc
+    go true e false f = let m = leb-false y k f in let r = lt-leb (max x y) k (omega arith) in cc
+    go false e d f = let l = leb-false x k e in let r = lt-leb (max x y) k (omega arith) in cc

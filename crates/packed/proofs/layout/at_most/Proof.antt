@@ -1,28 +1,36 @@
--- `packed::layout::at_most` meets its contract: what holds so far, and the bytes left.
+-- `packed::layout::at_most` meets its contract: what the greatest byte so far says, and the bytes left.
 use mathlib.Core.Path.{refl}
 use Prim.Native.Nat.{_+_, _-_, _≤_}
 use native.Mathlib.Omega.{arith}
+use lib.Dec.{leb}
 use borrow.Author.Needs.{needs}
+use borrow.Author.Tests.{le-leb}
 use Rattle.lists.specs.Positions.{upFrom}
 use Rattle.lists.specs.Tests.{every}
 use Rattle.lists.proofs.Loops.{CleanFrom, clean-end, clean-next, clean-start}
+use Rattle.lists.proofs.Tests.{leb-max}
 use Rattle.packed.specs.Places.{atMost}
 use Rattle.packed.proofs.layout.at_most.Statement.{statement}
 use Rattle.packed.proofs.layout.at_most.Tie as tie
 
 abbrev Inv-loop : tie.InvT-loop
-Inv-loop run from end bound all₀ j₀ all j =
-    (from ≤ j) × CleanFrom (every (atMost run bound) (upFrom from (end - from))) all (atMost run bound)
+Inv-loop run from end bound top₀ j₀ top j =
+    (from ≤ j) × CleanFrom (every (atMost run bound) (upFrom from (end - from))) (leb top bound) (atMost run bound)
     (from + (end - from)) j
 
 abbrev μ-loop : tie.MeasureT-loop
-μ-loop run from end bound all₀ j₀ all j = end - j
+μ-loop run from end bound top₀ j₀ top j = end - j
 
 loop-holds : tie.Need-loop-holds Inv-loop μ-loop
-loop-holds c = (omega arith, clean-start (c .args .end - (c .args) .from) refl)
+loop-holds c =
+    let start = c .before in
+    (omega arith, rw (le-leb 0 (start .args .bound) (omega arith)) (clean-start (start .args .end - (start .args) .from) refl))
 
-shared-slice-read-small : tie.Need-shared-slice-read-small Inv-loop μ-loop
-shared-slice-read-small c = search needs
+shared-slice-read-greater : tie.Need-shared-slice-read-greater Inv-loop μ-loop
+shared-slice-read-greater c = search needs
+
+greater-requires : tie.Need-greater-requires Inv-loop μ-loop
+greater-requires c κs = search needs
 
 add-j : tie.Need-add-j Inv-loop μ-loop
 add-j c = search needs
@@ -32,7 +40,12 @@ loop-less c = omega arith
 
 loop-again : tie.Need-loop-again Inv-loop μ-loop
 loop-again c =
-    (omega arith, clean-next (c .before .before .loop .inv .1) (omega arith) refl)
+    let at-loop = c .before .before .before in
+    let bound = at-loop .before .before .args .bound in (
+      omega arith,
+      rw (c .greater .ensures, leb-max (at-loop .loop .top) _ bound)
+          (clean-next (at-loop .loop .inv .1) (omega arith) refl),
+    )
 
 returns : tie.Need-returns Inv-loop μ-loop
 returns c = clean-end (c .before .loop .inv .1) (omega arith)
@@ -44,7 +57,8 @@ at-most-spec =
     Inv-loop
     μ-loop
     loop-holds
-    shared-slice-read-small
+    shared-slice-read-greater
+    greater-requires
     add-j
     loop-less
     loop-again
