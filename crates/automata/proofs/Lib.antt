@@ -59,5 +59,6 @@ pub mod RankSamples
 pub mod SubtreeNodes
 pub mod StatePairs
 pub mod OpenStates
+pub mod Names
 pub mod PairNodes
 pub mod ProductSum

@@ -22,6 +22,7 @@ pub mod Example
 pub mod Others
 pub mod Totals
 pub mod OpenStates
+pub mod Names
 pub mod TotalSamples
 pub mod Ranks
 pub mod RankSamples
