@@ -23,6 +23,8 @@ pub mod Others
 pub mod Totals
 pub mod OpenStates
 pub mod Names
+pub mod Quotient
+pub mod SubtreeNames
 pub mod TotalSamples
 pub mod Ranks
 pub mod RankSamples
