@@ -60,5 +60,9 @@ pub mod SubtreeNodes
 pub mod StatePairs
 pub mod OpenStates
 pub mod Names
+pub mod NameChoices
+pub mod Representatives
+pub mod QuotientNodes
+pub mod Quotient
 pub mod PairNodes
 pub mod ProductSum
