@@ -64,5 +64,6 @@ pub mod NameChoices
 pub mod Representatives
 pub mod QuotientNodes
 pub mod Quotient
+pub mod QuotientNames
 pub mod PairNodes
 pub mod ProductSum

@@ -1,0 +1,124 @@
+-- The listed transitions are those between names: a name that is not 0 has a representative, and the children of a node
+-- may be exchanged for representatives of their names.
+use mathlib.Core.Bool.{Bool, false, true}
+use mathlib.Core.List.{List, [], _∷_}
+use mathlib.Core.Logic.{_⊎_, _≢_, inl, inr}
+use mathlib.Core.Path.{_∙_, _≡_, ap, refl, subst, sym}
+use Prim.Native.Nat.{_≤_, suc, zero, ℕ}
+use native.Mathlib.Omega.{arith}
+use Rattle.automata.specs.Automaton.{Automaton, Transition, run}
+use Rattle.automata.specs.Canonical.{eachTree, transitionOf}
+use Rattle.automata.specs.Change.{subtrees}
+use Rattle.automata.specs.Names.{BetweenNames, Naming, QuotientOf, isSubtree}
+use Rattle.automata.specs.OpenStates.{openState}
+use Rattle.automata.specs.Order.{rising}
+use Rattle.automata.specs.Quotient.{quotientList}
+use Rattle.automata.specs.SubtreeNames.{IsOwnName, Names, nameOf}
+use Rattle.automata.specs.Valid.{statesInRange}
+use Rattle.lists.specs.Tests.{Exactly, _∈_}
+use Rattle.trees.specs.Tree.{AllTrees, Forest, Tree, _⧺_, cons, nil, node}
+use Rattle.automata.proofs.Names.{other-in, subtree-in}
+use Rattle.automata.proofs.Quotient.{Top, in-list, list-in}
+use Rattle.automata.proofs.QuotientNodes.{Reps, fit}
+use Rattle.automata.proofs.Representatives.{Rep, other-name, subtree-name}
+use Rattle.automata.proofs.StatePairs.{open-tree}
+use Rattle.automata.proofs.SubtreeContexts.{subtrees-exact}
+use Rattle.lists.proofs.Tests.{test}
+use Rattle.trees.proofs.Trees.{snoc-append}
+
+positive : (n : ℕ) → n ≢ 0 → 1 ≤ n
+positive zero h = absurd (h refl)
+positive (suc n) h = omega arith
+
+-- ---- names of nodes
+
+module _ (A : Automaton) (t : Tree) (S : Tree → Bool) (N : Tree → ℕ) (M : Naming A t S N) (a : ℕ) where
+  -- a node that has a name has children that have names
+  named-after : (b f : Forest) → N (node a (b ⧺ f)) ≢ 0 → AllTrees (λ u. N u ≢ 0) f
+  named-after b nil h = tt
+  named-after b (cons u f) h = (
+    λ z. h (M .none-filled u z (record { label = a; before = b; after = f })),
+    named-after (b ⧺ cons u nil) f (rw (snoc-append b u f) h),
+  )
+
+  pub named-children : (f : Forest) → N (node a f) ≢ 0 → AllTrees (λ u. N u ≢ 0) f
+  named-children f h = named-after nil f h
+
+  -- the names of the children decide that of the node
+  same-after : (b f g : Forest) → eachTree N f ≡ eachTree N g → N (node a (b ⧺ f)) ≡ N (node a (b ⧺ g))
+  same-after b nil nil e = refl
+  same-after b nil (cons v g) e = let z : _≡_ {A = ℕ} 0 1 = cc in absurd (omega arith)
+  same-after b (cons u f) nil e = let z : _≡_ {A = ℕ} 0 1 = cc in absurd (omega arith)
+  same-after b (cons u f) (cons v g) e =
+      let d : N u ≡ N v = cc in
+      let ds : eachTree N f ≡ eachTree N g = cc in
+      M .filled u v d (record { label = a; before = b; after = f })
+      ∙ rw (snoc-append b v f, snoc-append b v g) at (same-after (b ⧺ cons v nil) f g ds)
+
+  pub same-children : (f g : Forest) → eachTree N f ≡ eachTree N g → N (node a f) ≡ N (node a g)
+  same-children f g e = same-after nil f g e
+
+module _ (A : Automaton) (ranged : statesInRange A ≡ true) (rises : rising (A .transitions) ≡ true) (t : Tree)
+    (ts : List Tree) (listed : Exactly (λ u. u ∈ subtrees t) ts) (ν : Tree → ℕ) (H : Names A t ts ν) where
+  abbrev N : Tree → ℕ
+  N = nameOf A t ν
+
+  abbrev R : Tree → Type 0
+  R u = Rep A (fit A ranged rises t ts listed ν) t ts listed ν u
+
+  -- ---- representatives of names
+
+  outside : (u : Tree) → (u ∈ subtrees t → ⊥) → N u ≡ run A u
+  outside u miss = other-name A (fit A ranged rises t ts listed ν) t ts listed ν u miss
+
+  inside : (u : Tree) → u ∈ subtrees t → N u ≡ ν u
+  inside u i = subtree-name A (fit A ranged rises t ts listed ν) t ts listed ν u i
+
+  rep-of : (u : Tree) → N u ≢ 0 → (v : Tree) × R v × (N v ≡ N u)
+  unfolding Rep
+  rep-of u h = go (test (isSubtree t u))
+    where
+      named : u ∈ subtrees t → (ν u ≡ 0) ⊎ ((openState A t (ν u) ≡ true) ⊎ IsOwnName A t ts ν (ν u)) →
+          (v : Tree) × R v × (N v ≡ N u)
+      named i (inl z) = absurd (h (inside u i ∙ z))
+      named i (inr (inl o)) =
+          let (v, r, miss) = open-tree A (fit A ranged rises t ts listed ν) t (ν u) o in
+          let e : N v ≡ N u = outside v miss ∙ r ∙ sym (inside u i) in
+          (v, inr (miss, positive (run A v) (λ z. h (sym e ∙ outside v miss ∙ z))), e)
+      named i (inr (inr (v, s, o, e))) =
+          let j = subtree-in t v s in (v, inl (j, o), inside v j ∙ o ∙ sym e ∙ sym (inside u i))
+
+      go : (isSubtree t u ≡ true) ⊎ (isSubtree t u ≡ false) → (v : Tree) × R v × (N v ≡ N u)
+      go (inl s) = named (subtree-in t u s) (H .named u s)
+      go (inr s) =
+          let miss = other-in t u s in
+          (u, inr (miss, positive (run A u) (λ z. h (outside u miss ∙ z))), refl)
+
+  reps-of : (f : Forest) → AllTrees (λ u. N u ≢ 0) f → (g : Forest) × AllTrees R g × (eachTree N g ≡ eachTree N f)
+  reps-of nil h = (nil, tt, refl)
+  reps-of (cons u f) h =
+      let (v, p, e) = rep-of u (h .0) in
+      let (g, ps, es) = reps-of f (h .1) in
+      (cons v g, (p, ps), cc (e, es))
+
+  -- ---- the transitions between names
+
+  pub quotient-of : (S : Tree → Bool) → Naming A t S (nameOf A t ν) →
+      QuotientOf (nameOf A t ν) (quotientList A t ts ν)
+  unfolding Top
+  quotient-of S M = record { all = all′; only = λ τ i. only′ τ (list-in A ranged rises t ts listed ν τ i) }
+    where
+      all′ : (a : ℕ) (f : Forest) → N (node a f) ≢ 0 → transitionOf N a f ∈ quotientList A t ts ν
+      all′ a f h =
+          let (g, p, e) = reps-of f (named-children A t S N M a f h) in
+          let d = same-children A t S N M a g f e in
+          subst (λ (τ : Transition). τ ∈ quotientList A t ts ν)
+          (λ i. record { label = a; args = e i; out = d i })
+          (in-list A ranged rises t ts listed ν a g p (λ z. h (sym d ∙ z)))
+
+      only′ : (τ : Transition) → Top A ranged rises t ts listed ν τ → BetweenNames N τ
+      only′ τ (a, g, p, h, e) = (a, g, h, e)
+
+-- the subtrees in the order in which they are defined
+pub subtrees-listed : (t : Tree) → Exactly (λ u. u ∈ subtrees t) (subtrees t)
+subtrees-listed t = record { once = subtrees-exact t .once; members = λ u. (λ i. i, λ i. i) }
