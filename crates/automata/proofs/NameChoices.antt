@@ -1,10 +1,9 @@
 -- Choices of one name for each state: what is among them, how many they are, and that none stands twice.
 use mathlib.Core.List.{List, [], _∷_, map}
-use mathlib.Core.Path.{_∙_, _≡_, ap, refl, subst, sym}
+use mathlib.Core.Path.{_∙_, _≡_, ap, refl, sym}
 use mathlib.Core.Logic.{inl, inr}
 use Prim.Native.Nat.{_*_, ℕ}
 use lib.ListN.{length, length-map}
-use Rattle.automata.specs.Product.{concatMap}
 use Rattle.automata.specs.Quotient.{choices}
 use Rattle.automata.specs.Totals.{productOver}
 use Rattle.lists.specs.Tests.{Distinct, _∈_}

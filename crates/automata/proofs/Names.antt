@@ -7,13 +7,13 @@ use mathlib.Core.Path.{_∙_, _≡_, ap, fun-ext, refl, subst, sym}
 use Prim.Native.Nat.{_+_, _-_, _<_, _≤_, suc, zero, ℕ}
 use native.Mathlib.Omega.{arith}
 use Rattle.automata.specs.Automaton.{Automaton, Transition, run}
-use Rattle.automata.specs.Canonical.{Canonical, Equivalent, Occurs, Subtree, transitionOf}
+use Rattle.automata.specs.Canonical.{Canonical, Equivalent, Occurs, Subtree}
 use Rattle.automata.specs.Change.{deleteTree, insertTree, subtrees}
 use Rattle.automata.specs.Names.{BetweenNames, Naming, QuotientOf, isSubtree}
 use Rattle.automata.specs.Renumber.{renumbered}
 use Rattle.lists.specs.Tests.{_∈_}
 use Rattle.trees.specs.Context.{Context, Frame, fill, plug}
-use Rattle.trees.specs.Tree.{Forest, Tree, _⧺_, cons, depth, eqTree, node}
+use Rattle.trees.specs.Tree.{Tree, _⧺_, cons, depth, eqTree, node}
 use Rattle.automata.proofs.CanonicalChange.{delete-kept, insert-kept}
 use Rattle.automata.proofs.CanonicalRun.{run-group, run-or-subtree}
 use Rattle.automata.proofs.Change.{subtrees-closed}

@@ -1,10 +1,10 @@
 -- The listed transitions are those between names: a name that is not 0 has a representative, and the children of a node
 -- may be exchanged for representatives of their names.
 use mathlib.Core.Bool.{Bool, false, true}
-use mathlib.Core.List.{List, [], _∷_}
+use mathlib.Core.List.{List, _∷_}
 use mathlib.Core.Logic.{_⊎_, _≢_, inl, inr}
-use mathlib.Core.Path.{_∙_, _≡_, ap, refl, subst, sym}
-use Prim.Native.Nat.{_≤_, suc, zero, ℕ}
+use mathlib.Core.Path.{_∙_, _≡_, refl, subst, sym}
+use Prim.Native.Nat.{ℕ}
 use native.Mathlib.Omega.{arith}
 use Rattle.automata.specs.Automaton.{Automaton, Transition, run}
 use Rattle.automata.specs.Canonical.{eachTree, transitionOf}
@@ -18,17 +18,13 @@ use Rattle.automata.specs.Valid.{statesInRange}
 use Rattle.lists.specs.Tests.{Exactly, _∈_}
 use Rattle.trees.specs.Tree.{AllTrees, Forest, Tree, _⧺_, cons, nil, node}
 use Rattle.automata.proofs.Names.{other-in, subtree-in}
-use Rattle.automata.proofs.Quotient.{Top, in-list, list-in}
-use Rattle.automata.proofs.QuotientNodes.{Reps, fit}
+use Rattle.automata.proofs.Quotient.{Top, in-list, list-in, positive}
 use Rattle.automata.proofs.Representatives.{Rep, other-name, subtree-name}
 use Rattle.automata.proofs.StatePairs.{open-tree}
 use Rattle.automata.proofs.SubtreeContexts.{subtrees-exact}
+use Rattle.automata.proofs.Valid.{ranged-fits}
 use Rattle.lists.proofs.Tests.{test}
 use Rattle.trees.proofs.Trees.{snoc-append}
-
-positive : (n : ℕ) → n ≢ 0 → 1 ≤ n
-positive zero h = absurd (h refl)
-positive (suc n) h = omega arith
 
 -- ---- names of nodes
 
@@ -58,21 +54,15 @@ module _ (A : Automaton) (t : Tree) (S : Tree → Bool) (N : Tree → ℕ) (M : 
   pub same-children : (f g : Forest) → eachTree N f ≡ eachTree N g → N (node a f) ≡ N (node a g)
   same-children f g e = same-after nil f g e
 
-module _ (A : Automaton) (ranged : statesInRange A ≡ true) (rises : rising (A .transitions) ≡ true) (t : Tree)
-    (ts : List Tree) (listed : Exactly (λ u. u ∈ subtrees t) ts) (ν : Tree → ℕ) (H : Names A t ts ν) where
+module _ (A : Automaton) (t : Tree) (ts : List Tree) (ν : Tree → ℕ) (ranged : statesInRange A ≡ true)
+    (rises : rising (A .transitions) ≡ true) (listed : Exactly (λ u. u ∈ subtrees t) ts) (H : Names A t ts ν) where
   abbrev N : Tree → ℕ
   N = nameOf A t ν
 
   abbrev R : Tree → Type 0
-  R u = Rep A (fit A ranged rises t ts listed ν) t ts listed ν u
+  R u = Rep A t ts ν u
 
   -- ---- representatives of names
-
-  outside : (u : Tree) → (u ∈ subtrees t → ⊥) → N u ≡ run A u
-  outside u miss = other-name A (fit A ranged rises t ts listed ν) t ts listed ν u miss
-
-  inside : (u : Tree) → u ∈ subtrees t → N u ≡ ν u
-  inside u i = subtree-name A (fit A ranged rises t ts listed ν) t ts listed ν u i
 
   rep-of : (u : Tree) → N u ≢ 0 → (v : Tree) × R v × (N v ≡ N u)
   unfolding Rep
@@ -80,19 +70,19 @@ module _ (A : Automaton) (ranged : statesInRange A ≡ true) (rises : rising (A 
     where
       named : u ∈ subtrees t → (ν u ≡ 0) ⊎ ((openState A t (ν u) ≡ true) ⊎ IsOwnName A t ts ν (ν u)) →
           (v : Tree) × R v × (N v ≡ N u)
-      named i (inl z) = absurd (h (inside u i ∙ z))
+      named i (inl z) = absurd (h (subtree-name A t ts ν u i ∙ z))
       named i (inr (inl o)) =
-          let (v, r, miss) = open-tree A (fit A ranged rises t ts listed ν) t (ν u) o in
-          let e : N v ≡ N u = outside v miss ∙ r ∙ sym (inside u i) in
-          (v, inr (miss, positive (run A v) (λ z. h (sym e ∙ outside v miss ∙ z))), e)
+          let (v, r, miss) = open-tree A (ranged-fits A ranged) t (ν u) o in
+          let e : N v ≡ N u = other-name A t ts ν v miss ∙ r ∙ sym (subtree-name A t ts ν u i) in
+          (v, inr (miss, positive (run A v) (λ z. h (sym e ∙ other-name A t ts ν v miss ∙ z))), e)
       named i (inr (inr (v, s, o, e))) =
-          let j = subtree-in t v s in (v, inl (j, o), inside v j ∙ o ∙ sym e ∙ sym (inside u i))
+          let j = subtree-in t v s in (v, inl (j, o), subtree-name A t ts ν v j ∙ o ∙ sym e ∙ sym (subtree-name A t ts ν u i))
 
       go : (isSubtree t u ≡ true) ⊎ (isSubtree t u ≡ false) → (v : Tree) × R v × (N v ≡ N u)
       go (inl s) = named (subtree-in t u s) (H .named u s)
       go (inr s) =
           let miss = other-in t u s in
-          (u, inr (miss, positive (run A u) (λ z. h (outside u miss ∙ z))), refl)
+          (u, inr (miss, positive (run A u) (λ z. h (other-name A t ts ν u miss ∙ z))), refl)
 
   reps-of : (f : Forest) → AllTrees (λ u. N u ≢ 0) f → (g : Forest) × AllTrees R g × (eachTree N g ≡ eachTree N f)
   reps-of nil h = (nil, tt, refl)
@@ -106,7 +96,7 @@ module _ (A : Automaton) (ranged : statesInRange A ≡ true) (rises : rising (A 
   pub quotient-of : (S : Tree → Bool) → Naming A t S (nameOf A t ν) →
       QuotientOf (nameOf A t ν) (quotientList A t ts ν)
   unfolding Top
-  quotient-of S M = record { all = all′; only = λ τ i. only′ τ (list-in A ranged rises t ts listed ν τ i) }
+  quotient-of S M = record { all = all′; only = λ τ i. only′ τ (list-in A t ts ν ranged rises listed τ i) }
     where
       all′ : (a : ℕ) (f : Forest) → N (node a f) ≢ 0 → transitionOf N a f ∈ quotientList A t ts ν
       all′ a f h =
@@ -114,9 +104,9 @@ module _ (A : Automaton) (ranged : statesInRange A ≡ true) (rises : rising (A 
           let d = same-children A t S N M a g f e in
           subst (λ (τ : Transition). τ ∈ quotientList A t ts ν)
           (λ i. record { label = a; args = e i; out = d i })
-          (in-list A ranged rises t ts listed ν a g p (λ z. h (sym d ∙ z)))
+          (in-list A t ts ν ranged rises listed a g p (λ z. h (sym d ∙ z)))
 
-      only′ : (τ : Transition) → Top A ranged rises t ts listed ν τ → BetweenNames N τ
+      only′ : (τ : Transition) → Top A t ts ν τ → BetweenNames N τ
       only′ τ (a, g, p, h, e) = (a, g, h, e)
 
 -- the subtrees in the order in which they are defined
