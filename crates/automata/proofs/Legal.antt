@@ -17,7 +17,7 @@ use Rattle.automata.proofs.Steps.{Taken, step-view}
 use Rattle.lists.proofs.Tests.{or-none-left, or-none-right}
 use Rattle.trees.proofs.Legal.{subtree-legal}
 
-runs-count : (A : Automaton) (f : Forest) → length (runs A f) ≡ count f
+pub runs-count : (A : Automaton) (f : Forest) → length (runs A f) ≡ count f
 runs-count A nil = refl
 runs-count A (cons t f) = ap suc (runs-count A f)
 

@@ -67,3 +67,8 @@ pub mod Quotient
 pub mod QuotientNames
 pub mod PairNodes
 pub mod ProductSum
+pub mod Frames
+pub mod PairForests
+pub mod Liftings
+pub mod Uses
+pub mod Alike

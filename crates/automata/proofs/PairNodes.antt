@@ -24,7 +24,7 @@ module _ (R : List Pair) (side : Pair → ℕ) where
   abbrev pub sided : ℕ → ℕ
   sided q = length (filter (λ k. eqb q (side k)) R)
 
-  lists-length : (qs : List ℕ) → length (lists R side qs) ≡ productOver sided qs
+  pub lists-length : (qs : List ℕ) → length (lists R side qs) ≡ productOver sided qs
   lists-length [] = refl
   lists-length (q ∷ qs) =
       concatMap-length (λ k. map (λ ks. k ∷ ks) (lists R side qs)) (length (lists R side qs))
@@ -44,7 +44,7 @@ module _ (R : List Pair) (side : Pair → ℕ) where
       )
 
   module _ (distinct : Distinct R) where
-    lists-distinct : (qs : List ℕ) → Distinct (lists R side qs)
+    pub lists-distinct : (qs : List ℕ) → Distinct (lists R side qs)
     lists-distinct [] = (λ i. i, tt)
     lists-distinct (q ∷ qs) =
         concatMap-distinct (λ k. map (λ ks. k ∷ ks) (lists R side qs)) (filter (λ k. eqb q (side k)) R)

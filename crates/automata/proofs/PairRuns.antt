@@ -25,7 +25,7 @@ module _ (A B : Automaton) where
   both nil = []
   both (cons t f) = (run A t, run B t) ∷ both f
 
-  both-fst : (f : Forest) → map fst (both f) ≡ runs A f
+  pub both-fst : (f : Forest) → map fst (both f) ≡ runs A f
   both-fst nil = refl
   both-fst (cons t f) = rw (both-fst f)
 

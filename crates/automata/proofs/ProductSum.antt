@@ -1,23 +1,21 @@
 -- 01, refusal 16: the transitions of a product are the choices of pairs for the arguments of the automaton's
 -- transitions, and those at the top of the subtrees that run to no state.
-use mathlib.Core.Bool.{Bool, true, true≢false}
+use mathlib.Core.Bool.{true, true≢false}
 use mathlib.Core.List.{List, [], _++_, _∷_, map}
 use mathlib.Core.Logic.{_⊎_, inl, inr}
 use mathlib.Core.Path.{_∙_, _≡_, ap, refl, subst, sym}
 use Prim.Native.Nat.{_+_, _≤_, suc, zero, ℕ}
 use native.Mathlib.Omega.{arith}
-use lib.Dec.{eqb}
 use lib.ListN.{length, length-append, length-map}
-use Rattle.automata.specs.Automaton.{Automaton, Fits, Transition, run, runs, step}
+use Rattle.automata.specs.Automaton.{Automaton, Fits, Transition, run, step}
 use Rattle.automata.specs.Change.{productTransitions, productWith, subtreeAutomaton, subtreeNumber, subtrees}
 use Rattle.automata.specs.Order.{rising}
 use Rattle.automata.specs.Product.{Node, fst, live, nodesOf, outPair, productTransition, snd}
 use Rattle.automata.specs.ProductView.{AllIn, NumberedTransition, pairsWith}
-use Rattle.automata.specs.Totals.{productOver}
 use Rattle.automata.specs.Valid.{statesInRange}
 use Rattle.lists.specs.Positions.{Pair}
 use Rattle.lists.specs.Tests.{Distinct, _∈_}
-use Rattle.trees.specs.Tree.{Forest, Tree, cons, eqTree, nil, node}
+use Rattle.trees.specs.Tree.{Forest, Tree, eqTree, node}
 use Rattle.automata.proofs.Change.{subtrees-closed}
 use Rattle.automata.proofs.Nodes.{in-nodes, nodes-in}
 use Rattle.automata.proofs.Order.{lookup-transition}
@@ -26,7 +24,7 @@ use Rattle.automata.proofs.ProductBound.{pairs-distinct}
 use Rattle.automata.proofs.ProductLaws.{pairs-exact, product-count, product-distinct, product-exact}
 use Rattle.automata.proofs.ProductLaws.{productTransition-inj}
 use Rattle.automata.proofs.Steps.{Taken, step-view}
-use Rattle.automata.proofs.Subtrees.{numbered-subtree, run-subtree}
+use Rattle.automata.proofs.Subtrees.{numbered-subtree}
 use Rattle.automata.proofs.TotalsSums.{product-same}
 use Rattle.automata.proofs.Valid.{ranged-fits, ranged-transition}
 use Rattle.lists.proofs.Distinct.{append-distinct, distinct-length, map-distinct}
@@ -34,7 +32,8 @@ use Rattle.lists.proofs.Positions.{position-inj}
 use Rattle.lists.proofs.Tests.{append-in, in-append-left, in-append-right, in-map, map-in, none-zero}
 use Rattle.trees.proofs.Trees.{eqTree-same, eqTree-true}
 use Rattle.automata.specs.OpenStates.{atState, pairsOf, subtreesAt, sumOver}
-use Rattle.automata.proofs.SubtreeNodes.{InTree, at-distinct, at-in, in-at}
+use Rattle.automata.proofs.SubtreeNodes.{at-distinct, at-in, in-at}
+use Rattle.automata.proofs.PairForests.{pair-trees, run-pair, tree-pairs}
 use Rattle.automata.proofs.PairNodes.{nodes-distinct, nodes-length, sided}
 use Rattle.automata.proofs.StatePairs.{live-first, state-pairs, tree-pair}
 
@@ -58,10 +57,6 @@ module _ (A : Automaton) (ranged : statesInRange A ≡ true) (rises : rising (A 
   abbrev T : List Transition
   T = productWith (λ k. true) A t .transitions
 
-  -- the pair of a tree as its two runs
-  run-pair : (u : Tree) → _≡_ {A = Pair} (run A u, run B u) (run A u, subtreeNumber (subtrees t) u)
-  run-pair u = let e = run-subtree (subtrees t) (subtrees-closed t) u in λ i. (run A u, e i)
-
   -- ---- nodes
 
   abbrev nodeOf : Tree → Node
@@ -77,29 +72,17 @@ module _ (A : Automaton) (ranged : statesInRange A ≡ true) (rises : rising (A 
   abbrev lost : List Node
   lost = map nodeOf (subtreesAt A t 0)
 
-  trees-of : (ks : List Pair) → AllIn R ks → (f : Forest) × (both A B f ≡ ks)
-  trees-of [] h = (nil, refl)
-  trees-of (k ∷ ks) h =
-      let (_, (u, e)) = pairs-exact A fit t k .0 (h .0) in
-      let (f, d) = trees-of ks (h .1) in
-      (cons u f, cc (run-pair u ∙ e, d))
-
-  all-of : (f : Forest) → InTree A t f → AllIn R (both A B f)
-  all-of nil h = tt
-  all-of (cons u f) h =
-      (subst (λ (k : Pair). k ∈ R) (sym (run-pair u)) (tree-pair A fit t u (h .0)), all-of f (h .1))
-
   -- a node over pairs with an output that is not both none
   made : (c : Node) → AllIn R (c .1) → live (outPair A B c) ≡ true → productTransition A B R c ∈ T
   made c h l =
-      let (f, d) = trees-of (c .1) h in
+      let (f, d) = pair-trees A t fit (c .1) h in
       let e : _≡_ {A = Pair} (run A (node (c .0) f), run B (node (c .0) f)) (outPair A B c) =
       sym (out-run A B (c .0) f) ∙ ap (λ (ks : List Pair). outPair A B (c .0, ks)) d in
       product-exact A fit t (λ k. true) (productTransition A B R c) .1 (
         c .0,
         c .1,
         h,
-        pairs-exact A fit t (outPair A B c) .1 (l, (node (c .0) f, sym (run-pair (node (c .0) f)) ∙ e)),
+        pairs-exact A fit t (outPair A B c) .1 (l, (node (c .0) f, sym (run-pair A t (node (c .0) f)) ∙ e)),
         refl,
       )
 
@@ -127,13 +110,13 @@ module _ (A : Automaton) (ranged : statesInRange A ≡ true) (rises : rising (A 
       subst (λ (c : Node). AllIn R (c .1)) (sym e) (go u (at-in A t 0 u j .0))
     where
       go : (u : Tree) → u ∈ subtrees t → AllIn R (nodeOf u .1)
-      go (node a f) j = all-of f (subtrees-closed t a f j)
+      go (node a f) j = tree-pairs A t fit f (subtrees-closed t a f j)
 
   lost-live : (c : Node) → c ∈ lost → live (outPair A B c) ≡ true
   lost-live c i =
       let (u, j, e) = map-in nodeOf (subtreesAt A t 0) c i in
       let o : outPair A B c ≡ (run A u, subtreeNumber (subtrees t) u) =
-      ap (outPair A B) e ∙ node-out u ∙ run-pair u in
+      ap (outPair A B) e ∙ node-out u ∙ run-pair A t u in
       subst (λ (k : Pair). live k ≡ true) (sym o)
       (pairs-exact A fit t (run A u, subtreeNumber (subtrees t) u) .0 (tree-pair A fit t u (at-in A t 0 u j .0)) .0)
 
@@ -163,10 +146,10 @@ module _ (A : Automaton) (ranged : statesInRange A ≡ true) (rises : rising (A 
           in-append-left taken lost c
           (subst (λ (x : ℕ). _∈_ {A = Node} (x, c .1) taken) a (in-nodes R fst (A .transitions) τ (c .1) i h b))
       go (inl z) =
-          let (f, d) = trees-of (c .1) h in
+          let (f, d) = pair-trees A t fit (c .1) h in
           let e : _≡_ {A = Pair} (outPair A B c) (run A (node (c .0) f), subtreeNumber (subtrees t) (node (c .0) f)) =
           ap (λ (ks : List Pair). outPair A B (c .0, ks)) (sym d) ∙ out-run A B (c .0) f
-          ∙ run-pair (node (c .0) f) in
+          ∙ run-pair A t (node (c .0) f) in
           in-append-right taken lost c
           (subst (λ (ks : List Pair). _∈_ {A = Node} (c .0, ks) lost) d
           (in-map nodeOf (subtreesAt A t 0) (node (c .0) f)
@@ -196,7 +179,7 @@ module _ (A : Automaton) (ranged : statesInRange A ≡ true) (rises : rising (A 
       one u v i j e =
           position-inj eqTree eqTree-true eqTree-same (subtrees t) u v (at-in A t 0 u i .0)
           (ap (λ (k : Pair). k .1)
-          (sym (run-pair u) ∙ sym (node-out u) ∙ ap (outPair A B) e ∙ node-out v ∙ run-pair v))
+          (sym (run-pair A t u) ∙ sym (node-out u) ∙ ap (outPair A B) e ∙ node-out v ∙ run-pair A t v))
 
   nodes-counted : length (taken ++ lost) ≡ productTransitions A t
   nodes-counted =

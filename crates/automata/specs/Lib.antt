@@ -28,3 +28,5 @@ pub mod SubtreeNames
 pub mod TotalSamples
 pub mod Ranks
 pub mod RankSamples
+pub mod Names
+pub mod Alike
