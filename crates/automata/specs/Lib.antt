@@ -30,3 +30,4 @@ pub mod Ranks
 pub mod RankSamples
 pub mod Names
 pub mod Alike
+pub mod Searched
