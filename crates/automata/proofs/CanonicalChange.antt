@@ -80,7 +80,7 @@ module _ (S : Tree → Bool) (A : Automaton) (X : Canonical S A) where
           (sym (accepts-plug A c t e) ∙ canonical-accepts S A X (plug c t) ∙ h)
 
   -- states that no context separates have equivalent subtrees
-  alike : (p q : ℕ) (t u : Tree) → run A t ≡ p → run A u ≡ q →
+  pub alike : (p q : ℕ) (t u : Tree) → run A t ≡ p → run A u ≡ q →
       ((c : Context) → accepting A (runContext A c p) ≡ accepting A (runContext A c q)) → Equivalent S t u
   alike p q t u e d h c =
       sym (canonical-accepts S A X (plug c t)) ∙ accepts-plug A c t e ∙ h c ∙ sym (accepts-plug A c u d)

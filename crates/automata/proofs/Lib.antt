@@ -72,3 +72,4 @@ pub mod PairForests
 pub mod Liftings
 pub mod Uses
 pub mod Alike
+pub mod Searched
