@@ -72,4 +72,6 @@ pub mod PairForests
 pub mod Liftings
 pub mod Uses
 pub mod Alike
+pub mod FreeStates
 pub mod Searched
+pub mod AlikeSamples

@@ -1,5 +1,5 @@
--- The choices of pairs for a slot's arguments are counted by frames: a slot that is covered has no frame outside a list, and
--- one that is not has one.
+-- The choices of pairs for a slot's arguments, counted by frames: a slot has a frame outside a list exactly if the list
+-- does not cover it.
 use mathlib.Core.Bool.{Bool, false, true, true≢false}
 use mathlib.Core.List.{List, [], _++_, _∷_, map}
 use mathlib.Core.Logic.{_⊎_, inl, inr}

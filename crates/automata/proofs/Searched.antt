@@ -3,7 +3,7 @@ use mathlib.Core.Bool.{Bool, cond, false, true, true≢false}
 use mathlib.Core.List.{List, [], _∷_}
 use mathlib.Core.Logic.{_≢_, _⊎_, inl, inr}
 use mathlib.Core.Path.{_∙_, _≡_, ap, refl, subst, sym}
-use Prim.Native.Nat.{_+_, _<_, _≤_, suc, zero, ℕ}
+use Prim.Native.Nat.{_+_, _<_, suc, zero, ℕ}
 use native.Mathlib.Omega.{arith}
 use lib.Dec.{ltb}
 use borrow.Author.Tests.{ltb-false, ltb-true}
@@ -14,16 +14,16 @@ use Rattle.automata.specs.ContextRun.{runContext, stepFrame}
 use Rattle.automata.specs.Names.{Naming, isSubtree}
 use Rattle.automata.specs.Searched.{Free, Numbering, OwnName, Searched, SharedName, StateName, nameOf}
 use Rattle.lists.specs.Tests.{_∈_}
-use Rattle.trees.specs.Context.{Context, Frame, fill, plug}
+use Rattle.trees.specs.Context.{Context, Frame, fill}
 use Rattle.trees.specs.Tree.{Tree, _⧺_, cons, eqTree}
 use Rattle.automata.proofs.Alike.{like-state, like-subtree, unlike-state}
-use Rattle.automata.proofs.CanonicalChange.{alike, canonical-fits}
-use Rattle.automata.proofs.CanonicalRun.{canonical-accepts, run-group, run-or-subtree}
+use Rattle.automata.proofs.CanonicalChange.{canonical-fits}
+use Rattle.automata.proofs.CanonicalRun.{canonical-accepts}
 use Rattle.automata.proofs.Change.{own-subtree, subtrees-closed}
-use Rattle.automata.proofs.Distinguishable.{run-fits}
 use Rattle.automata.proofs.Frames.{no-subtree, not-subtree, subtree-in}
-use Rattle.automata.proofs.StatePairs.{open-tree, tree-open}
-use Rattle.automata.proofs.Steps.{accepts-plug, run-fill, runContext-zero, step-zero}
+use Rattle.automata.proofs.FreeStates.{accepted, free-fits, same-state, used}
+use Rattle.automata.proofs.StatePairs.{tree-open}
+use Rattle.automata.proofs.Steps.{run-fill, runContext-zero, step-zero}
 use Rattle.lists.proofs.Positions.{position-inj, position-pos}
 use Rattle.trees.proofs.Trees.{all-here, eqTree-same, eqTree-true}
 
@@ -34,54 +34,6 @@ position-numbering t ts all = record {
   positive = λ u e. position-pos eqTree eqTree-true eqTree-same ts u (all u (subtree-in t u e));
   injective = λ u v e d. position-inj eqTree eqTree-true eqTree-same ts u v (all u (subtree-in t u e));
 }
-
--- ---- free states of a canonical automaton
-
-module _ (S : Tree → Bool) (A : Automaton) (X : Canonical S A) (t : Tree) where
-  -- a free state is 0 or that of a subtree of the set
-  used : (q : ℕ) → Free A t q → (q ≡ 0) ⊎ ((w : Tree) × (run A w ≡ q) × Subtree S w)
-  used q (inl e) = inl e
-  used q (inr o) = let (w, e, miss) = open-tree A (canonical-fits S A X) t q o in go w e (run-or-subtree S A X w)
-    where
-      go : (w : Tree) → run A w ≡ q → (run A w ≡ 0) ⊎ Subtree S w →
-          (q ≡ 0) ⊎ ((w : Tree) × (run A w ≡ q) × Subtree S w)
-      go w e (inl z) = inl (sym e ∙ z)
-      go w e (inr p) = inr (w, e, p)
-
-  free-fits : (q : ℕ) → Free A t q → q ≤ states A
-  free-fits q (inl e) = omega arith
-  free-fits q (inr o) =
-      let (w, e, miss) = open-tree A (canonical-fits S A X) t q o in
-      omega (arith, e, run-fits A (canonical-fits S A X) w)
-
-  -- the context of a used state does not accept 0
-  accepted : (q : ℕ) (w : Tree) → run A w ≡ q → (s : Subtree S w) → accepting A (runContext A (s .0) q) ≡ true
-  accepted q w e (c, h) = sym (accepts-plug A c w e) ∙ canonical-accepts S A X (plug c w) ∙ h
-
-  -- free states that agree in class and in every frame are equal
-  same-state : (p q : ℕ) → Free A t p → Free A t q → accepting A p ≡ accepting A q →
-      ((f : Frame) → stepFrame A f p ≡ stepFrame A f q) → p ≡ q
-  same-state p q x y class frames = go (used p x) (used q y)
-    where
-      contexts : (c : Context) → accepting A (runContext A c p) ≡ accepting A (runContext A c q)
-      contexts [] = class
-      contexts (f ∷ c) = ap (λ (n : ℕ). accepting A (runContext A c n)) (frames f)
-
-      zero-not : (c : Context) (n : ℕ) → n ≡ 0 → accepting A (runContext A c n) ≡ true → ⊥
-      zero-not c n z h =
-          true≢false (sym h ∙ ap (λ (m : ℕ). accepting A (runContext A c m)) z
-          ∙ ap (accepting A) (runContext-zero A c))
-
-      go : (p ≡ 0) ⊎ ((w : Tree) × (run A w ≡ p) × Subtree S w) →
-          (q ≡ 0) ⊎ ((w : Tree) × (run A w ≡ q) × Subtree S w) → p ≡ q
-      go (inl y) (inl z) = y ∙ sym z
-      go (inl z) (inr (w, e, s)) = absurd (zero-not (s .0) p z (contexts (s .0) ∙ accepted q w e s))
-      go (inr (w, e, s)) (inl z) = absurd (zero-not (s .0) q z (sym (contexts (s .0)) ∙ accepted p w e s))
-      go (inr (v, d, r)) (inr (w, e, s)) =
-          sym d ∙ run-group S A X v r ∙ X .joins v w r s (alike S A X p q v w d e contexts)
-          ∙ sym (run-group S A X w s) ∙ e
-
--- ---- names found by search
 
 module _ (S₀ : Tree → Bool) (A : Automaton) (X : Canonical S₀ A) (t : Tree) (S : Tree → Bool)
     (agree : (v : Tree) → eqTree v t ≡ false → S v ≡ S₀ v) (number ν : Tree → ℕ) (numbers : Numbering t number)
@@ -117,7 +69,8 @@ module _ (S₀ : Tree → Bool) (A : Automaton) (X : Canonical S₀ A) (t : Tree
   -- a tree that is no subtree agrees with its state
   outside-like : (u : Tree) → isSubtree t u ≡ false → LikeState u (run A u)
   outside-like u e =
-      (agree u (other (eqTree u t) refl) ∙ sym (canonical-accepts S₀ A X u), λ f. others (fill f u) (above f) ∙ run-fill A f u)
+      let c = agree u (other (eqTree u t) refl) ∙ sym (canonical-accepts S₀ A X u) in
+      (c, λ f. others (fill f u) (above f) ∙ run-fill A f u)
     where
       other : (b : Bool) → eqTree u t ≡ b → eqTree u t ≡ false
       other true d =
@@ -169,7 +122,8 @@ module _ (S₀ : Tree → Bool) (A : Automaton) (X : Canonical S₀ A) (t : Tree
           absurd (m .other (own-one (m .model) (s .model) (m .there) (s .there)
           (sym (m .own) ∙ sym (m .same) ∙ s .own)))
       shared e s (inr (inr o)) =
-          (s .model, s .there, o, named u e ∙ s .same ∙ s .own, like-subtree A fit t S N others u (s .model) .0 (s .like))
+          let l = like-subtree A fit t S N others u (s .model) .0 (s .like) in
+          (s .model, s .there, o, named u e ∙ s .same ∙ s .own, l)
 
       from : isSubtree t u ≡ true →
           StateName A t S ν u ⊎ (SharedName A t S number ν u ⊎ OwnName A t S number ν u) → ByState u ⊎ ByRoot u

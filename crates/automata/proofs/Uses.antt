@@ -22,8 +22,8 @@ use Rattle.automata.proofs.PairForests.{run-pairs}
 use Rattle.automata.proofs.Steps.{Taken, runs-append, step-view}
 use Rattle.automata.proofs.SubtreeNodes.{InTree}
 use Rattle.lists.proofs.Closure.{elem-in, in-elem}
-use Rattle.lists.proofs.Tests.{and-left, and-right, append-in, every-in, in-any, in-append-left, in-append-right, or-cases}
-use Rattle.lists.proofs.Tests.{or-none-left, or-none-right}
+use Rattle.lists.proofs.Tests.{and-left, and-right, append-in, every-in, in-any, in-append-left, in-append-right}
+use Rattle.lists.proofs.Tests.{or-cases, or-none-left, or-none-right}
 
 -- a test that not every element passes
 every-misses : {X : Type 0} (p : X → Bool) (xs : List X) → every p xs ≡ false → (x : X) × (x ∈ xs) × (p x ≡ false)

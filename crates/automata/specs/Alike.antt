@@ -1,5 +1,5 @@
--- The local criterion: whether a subtree of t can stand for a state or for another subtree after a change of the set by t. It
--- reads the edges of t and the slots of the automaton's transitions; N names the trees that are larger.
+-- The local criterion: whether a subtree of t can stand for a state or for another subtree after a change of the set
+-- by t. It reads the edges of t and the slots of the automaton's transitions. N names the trees.
 use mathlib.Core.Bool.{Bool, Bool·beq, _&&_, _||_, cond}
 use mathlib.Core.List.{List, [], _++_, _∷_, map}
 use Prim.Native.Nat.{ℕ}

@@ -31,3 +31,4 @@ pub mod RankSamples
 pub mod Names
 pub mod Alike
 pub mod Searched
+pub mod AlikeSamples

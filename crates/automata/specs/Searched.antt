@@ -1,5 +1,5 @@
--- Names of subtrees found by search: a subtree takes the name of a state that it can stand for, else that of another subtree, else
--- its own. `number` numbers the subtrees from 1, and a subtree is compared only with those that have a greater number.
+-- Names of subtrees found by search: a subtree takes the name of a state that it can stand for, else that of another
+-- subtree, else its own. It is compared only with subtrees of a greater number.
 use mathlib.Core.Bool.{Bool, cond, false, true}
 use mathlib.Core.Logic.{_≢_, _⊎_}
 use mathlib.Core.Path.{_≡_}
