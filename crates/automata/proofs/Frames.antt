@@ -16,6 +16,7 @@ use Rattle.lists.specs.Closure.{elem}
 use Rattle.lists.specs.Tests.{Distinct, _∈_, sameList}
 use Rattle.trees.specs.Context.{Frame, fill}
 use Rattle.trees.specs.Tree.{AllTrees, Forest, Tree, _⧺_, cons, eqForest, eqTree, nil, node}
+use Rattle.automata.proofs.Names.{in-subtree, other-in, subtree-in}
 use Rattle.automata.proofs.Change.{subtrees-closed}
 use Rattle.automata.proofs.Nodes.{concatMap-in, in-concatMap}
 use Rattle.automata.proofs.Steps.{run-fill}
@@ -25,21 +26,12 @@ use Rattle.trees.proofs.Trees.{eqForest-true, eqTree-same, eqTree-true}
 
 -- ---- subtrees
 
-pub subtree-in : (t u : Tree) → isSubtree t u ≡ true → u ∈ subtrees t
-subtree-in t u e = elem-in eqTree eqTree-true eqTree-same u (subtrees t) e
-
-pub in-subtree : (t u : Tree) → u ∈ subtrees t → isSubtree t u ≡ true
-in-subtree t u i = in-elem eqTree eqTree-true eqTree-same u (subtrees t) i
-
 pub not-subtree : (t u : Tree) → (u ∈ subtrees t → ⊥) → isSubtree t u ≡ false
 not-subtree t u h = go (isSubtree t u) refl
   where
     go : (b : Bool) → isSubtree t u ≡ b → isSubtree t u ≡ false
     go true e = absurd (h (subtree-in t u e))
     go false e = e
-
-pub no-subtree : (t u : Tree) → isSubtree t u ≡ false → u ∈ subtrees t → ⊥
-no-subtree t u e i = true≢false (sym (in-subtree t u i) ∙ e)
 
 -- ---- the frames of a node
 

@@ -5,14 +5,15 @@ use mathlib.Core.Logic.{_≢_, _⊎_, inl, inr}
 use mathlib.Core.Path.{_∙_, _≡_, ap, refl, subst, sym}
 use Prim.Native.Nat.{_+_, _<_, suc, zero, ℕ}
 use native.Mathlib.Omega.{arith}
-use lib.Dec.{ltb}
-use borrow.Author.Tests.{ltb-false, ltb-true}
+use lib.Dec.{eqb, ltb}
+use borrow.Author.Tests.{eqb-false, eqb-true, ltb-false, ltb-true}
 use Rattle.automata.specs.Automaton.{Automaton, Fits, accepting, run, runs, states}
 use Rattle.automata.specs.Canonical.{Canonical, Subtree}
 use Rattle.automata.specs.Change.{subtreeNumber, subtrees}
 use Rattle.automata.specs.ContextRun.{runContext, stepFrame}
 use Rattle.automata.specs.Names.{Naming, isSubtree}
-use Rattle.automata.specs.Searched.{Free, Numbering, OwnName, Searched, SharedName, StateName, nameOf}
+use Rattle.automata.specs.Searched.{Free, Numbering, OwnName, Searched, SharedName, StateName}
+use Rattle.automata.specs.SubtreeNames.{nameOf}
 use Rattle.lists.specs.Tests.{_∈_}
 use Rattle.trees.specs.Context.{Context, Frame, fill}
 use Rattle.trees.specs.Tree.{Tree, _⧺_, cons, eqTree}
@@ -20,7 +21,8 @@ use Rattle.automata.proofs.Alike.{like-state, like-subtree, unlike-stat
 use Rattle.automata.proofs.CanonicalChange.{canonical-fits}
 use Rattle.automata.proofs.CanonicalRun.{canonical-accepts}
 use Rattle.automata.proofs.Change.{own-subtree, subtrees-closed}
-use Rattle.automata.proofs.Frames.{no-subtree, not-subtree, subtree-in}
+use Rattle.automata.proofs.Frames.{not-subtree}
+use Rattle.automata.proofs.Names.{other-in, subtree-in}
 use Rattle.automata.proofs.FreeStates.{accepted, free-fits, same-state, used}
 use Rattle.automata.proofs.StatePairs.{tree-open}
 use Rattle.automata.proofs.Steps.{run-fill, runContext-zero, step-zero}
@@ -74,14 +76,14 @@ module _ (S₀ : Tree → Bool) (A : Automaton) (X : Canonical S₀ A) (t : Tree
     where
       other : (b : Bool) → eqTree u t ≡ b → eqTree u t ≡ false
       other true d =
-          absurd (no-subtree t u e
+          absurd (other-in t u e
           (subst (λ (v : Tree). v ∈ subtrees t) (sym (eqTree-true u t d)) (own-subtree t)))
       other false d = d
 
       above : (f : Frame) → isSubtree t (fill f u) ≡ false
       above f =
           not-subtree t (fill f u)
-          (λ i. no-subtree t u e
+          (λ i. other-in t u e
           (all-here (λ v. v ∈ subtrees t) (f .before) u (f .after)
           (subtrees-closed t (f .label) (f .before ⧺ cons u (f .after)) i)))
 
@@ -90,7 +92,7 @@ module _ (S₀ : Tree → Bool) (A : Automaton) (X : Canonical S₀ A) (t : Tree
     where
       go : (q : ℕ) → run A u ≡ q → Free A t q
       go zero z = inl refl
-      go (suc q) z = inr (tree-open A fit t (suc q) (omega arith) u z (no-subtree t u e))
+      go (suc q) z = inr (tree-open A fit t (suc q) (omega arith) u z (other-in t u e))
 
   -- the name of a tree is a free state, or the own name of a subtree; the tree agrees with it
   abbrev ByState : Tree → Type 0
@@ -232,6 +234,17 @@ module _ (S₀ : Tree → Bool) (A : Automaton) (X : Canonical S₀ A) (t : Tree
           free (inr (w, e, s)) = state (N u) l (s .0) (accepted S₀ A X t (N u) w e s)
       go (inr (r, i, o, w, k)) = root r k (unlike-state A fit t S N others r 0 (o .no-state 0 (inl refl)))
 
+  unused : (u : Tree) → S u ≡ false → ((f : Frame) → N (fill f u) ≡ 0) → N u ≡ 0
+  unused u c h = go (eqb (N u) 0) refl
+    where
+      go : (b : Bool) → eqb (N u) 0 ≡ b → N u ≡ 0
+      go true e = eqb-true (N u) 0 e
+      go false e = absurd (used-not (some-used u (eqb-false (N u) 0 e)))
+        where
+          used-not : (S u ≡ true) ⊎ ((f : Frame) × (N (fill f u) ≢ 0)) → ⊥
+          used-not (inl d) = true≢false (sym d ∙ c)
+          used-not (inr (f, n)) = n (h f)
+
   -- what the search found names the trees of the changed set
   pub searched-naming : Naming A t S (nameOf A t ν)
   searched-naming = record {
@@ -241,5 +254,5 @@ module _ (S₀ : Tree → Bool) (A : Automaton) (X : Canonical S₀ A) (t : Tree
     told = λ u v i c h. like-same u v (c, h);
     none-classed = λ u e. none-like u e .0;
     none-filled = λ u e f. none-like u e .1 f ∙ frame-zero f;
-    occurs = λ u i. some-used u;
+    none-told = λ u i c h. unused u c h;
   }

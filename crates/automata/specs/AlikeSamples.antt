@@ -8,7 +8,7 @@ use Rattle.automata.specs.Automaton.{Automaton, accepts}
 use Rattle.automata.specs.Change.{subtreeNumber, subtrees}
 use Rattle.automata.specs.Distinguishable.{Slot}
 use Rattle.automata.specs.Example.{example, fork, leaf, transition}
-use Rattle.automata.specs.Searched.{nameOf}
+use Rattle.automata.specs.SubtreeNames.{nameOf}
 use Rattle.lists.specs.Tests.{every}
 use Rattle.trees.specs.Tree.{Tree, cons, eqTree, nil, node}
 

@@ -22,13 +22,12 @@ pub mod Example
 pub mod Others
 pub mod Totals
 pub mod OpenStates
-pub mod Names
-pub mod Quotient
-pub mod SubtreeNames
 pub mod TotalSamples
 pub mod Ranks
 pub mod RankSamples
 pub mod Names
+pub mod Quotient
+pub mod SubtreeNames
 pub mod Alike
-pub mod Searched
 pub mod AlikeSamples
+pub mod Searched

@@ -1,18 +1,15 @@
 -- Names of subtrees found by search: a subtree takes the name of a state that it can stand for, else that of another
 -- subtree, else its own. It is compared only with subtrees of a greater number.
-use mathlib.Core.Bool.{Bool, cond, false, true}
+use mathlib.Core.Bool.{Bool, false, true}
 use mathlib.Core.Logic.{_≢_, _⊎_}
 use mathlib.Core.Path.{_≡_}
 use Prim.Native.Nat.{_+_, _<_, _≤_, ℕ}
 use Rattle.automata.specs.Alike.{likeState, likeSubtree}
-use Rattle.automata.specs.Automaton.{Automaton, run, states}
+use Rattle.automata.specs.Automaton.{Automaton, states}
 use Rattle.automata.specs.Names.{isSubtree}
 use Rattle.automata.specs.OpenStates.{openState}
+use Rattle.automata.specs.SubtreeNames.{nameOf}
 use Rattle.trees.specs.Tree.{Tree}
-
--- the name of a tree, from names of the subtrees of t
-abbrev pub nameOf : Automaton → Tree → (Tree → ℕ) → Tree → ℕ
-nameOf A t ν u = cond (isSubtree t u) (ν u) (run A u)
 
 -- the subtrees of t are numbered from 1, each with its own number
 pub record Numbering (t : Tree) (number : Tree → ℕ) : Type 0 where
