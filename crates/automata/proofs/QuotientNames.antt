@@ -76,7 +76,8 @@ module _ (A : Automaton) (t : Tree) (ts : List Tree) (ν : Tree → ℕ) (ranged
           let e : N v ≡ N u = other-name A t ts ν v miss ∙ r ∙ sym (subtree-name A t ts ν u i) in
           (v, inr (miss, positive (run A v) (λ z. h (sym e ∙ other-name A t ts ν v miss ∙ z))), e)
       named i (inr (inr (v, s, o, e))) =
-          let j = subtree-in t v s in (v, inl (j, o), subtree-name A t ts ν v j ∙ o ∙ sym e ∙ sym (subtree-name A t ts ν u i))
+          let j = subtree-in t v s in
+          (v, inl (j, o), subtree-name A t ts ν v j ∙ o ∙ sym e ∙ sym (subtree-name A t ts ν u i))
 
       go : (isSubtree t u ≡ true) ⊎ (isSubtree t u ≡ false) → (v : Tree) × R v × (N v ≡ N u)
       go (inl s) = named (subtree-in t u s) (H .named u s)

@@ -16,8 +16,8 @@ use Rattle.trees.specs.Tree.{Forest, Tree, eqTree, node}
 abbrev pub isSubtree : Tree → Tree → Bool
 isSubtree t u = elem eqTree u (subtrees t)
 
--- names of trees after a change of the set by t: a tree that is no subtree of t has its state as its name, and two trees
--- have one name exactly if class and every frame agree; the name 0 is that of a tree that occurs in no tree of the set
+-- names of trees after a change of the set by t: a tree that is no subtree of t has its state as its name, and two
+-- trees have one name exactly if class and every frame agree; the name 0 is that of a tree in no tree of the set
 pub record Naming (A : Automaton) (t : Tree) (S : Tree → Bool) (N : Tree → ℕ) : Type 0 where
   pub others : (u : Tree) → isSubtree t u ≡ false → N u ≡ run A u
   pub classed : (u v : Tree) → N u ≡ N v → S u ≡ S v
