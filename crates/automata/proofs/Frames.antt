@@ -102,13 +102,16 @@ module _ (t u : Tree) where
 eqForest-same : (f : Forest) → eqForest f f ≡ true
 eqForest-same f = eqTree-same (node 0 f)
 
+and-three : (a b c : Bool) → (a && b && c) ≡ true → (a ≡ true) × (b ≡ true) × (c ≡ true)
+and-three a b c e =
+    let r = and-left (a && b) c e in (and-left a b r, and-right a b r, and-right (a && b) c e)
+
 pub eqFrame-true : (f g : Frame) → eqFrame f g ≡ true → f ≡ g
 eqFrame-true f g e =
-    let r = and-left (eqb (f .label) (g .label) && eqForest (f .before) (g .before)) _ e in
-    let l = eqb-true (f .label) (g .label) (and-left _ _ r) in
-    let b = eqForest-true (f .before) (g .before) (and-right (eqb (f .label) (g .label)) _ r) in
-    let c = eqForest-true (f .after) (g .after)
-    (and-right (eqb (f .label) (g .label) && eqForest (f .before) (g .before)) _ e) in
+    let (p, q, r) = and-three (eqb (f .label) (g .label)) (eqForest (f .before) (g .before)) _ e in
+    let l = eqb-true (f .label) (g .label) p in
+    let b = eqForest-true (f .before) (g .before) q in
+    let c = eqForest-true (f .after) (g .after) r in
     λ i. record { label = l i; before = b i; after = c i }
 
 pub eqFrame-same : (f : Frame) → eqFrame f f ≡ true
@@ -116,11 +119,10 @@ eqFrame-same f = and-both (and-both (eqb-same (f .label)) (eqForest-same (f .bef
 
 pub eqSlot-true : (π ρ : Slot) → eqSlot π ρ ≡ true → π ≡ ρ
 eqSlot-true π ρ e =
-    let r = and-left (eqb (π .label) (ρ .label) && sameList (π .before) (ρ .before)) _ e in
-    let l = eqb-true (π .label) (ρ .label) (and-left _ _ r) in
-    let b = sameList-true (π .before) (ρ .before) (and-right (eqb (π .label) (ρ .label)) _ r) in
-    let c = sameList-true (π .after) (ρ .after)
-    (and-right (eqb (π .label) (ρ .label) && sameList (π .before) (ρ .before)) _ e) in
+    let (p, q, r) = and-three (eqb (π .label) (ρ .label)) (sameList (π .before) (ρ .before)) _ e in
+    let l = eqb-true (π .label) (ρ .label) p in
+    let b = sameList-true (π .before) (ρ .before) q in
+    let c = sameList-true (π .after) (ρ .after) r in
     λ i. record { label = l i; before = b i; after = c i }
 
 pub eqSlot-same : (π : Slot) → eqSlot π π ≡ true
