@@ -21,7 +21,7 @@ pub runs-count : (A : Automaton) (f : Forest) → length (runs A f) ≡ count f
 runs-count A nil = refl
 runs-count A (cons t f) = ap suc (runs-count A f)
 
-each-count : (g : Tree → ℕ) (f : Forest) → length (eachTree g f) ≡ count f
+pub each-count : (g : Tree → ℕ) (f : Forest) → length (eachTree g f) ≡ count f
 each-count g nil = refl
 each-count g (cons t f) = ap suc (each-count g f)
 

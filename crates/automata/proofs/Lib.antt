@@ -75,3 +75,5 @@ pub mod Alike
 pub mod FreeStates
 pub mod Searched
 pub mod AlikeSamples
+pub mod GroupingCounts
+pub mod NamesInUse

@@ -64,7 +64,7 @@ module _ (A : Automaton) (t : Tree) (ts : List Tree) (ν : Tree → ℕ) (ranged
 
   -- ---- representatives of names
 
-  rep-of : (u : Tree) → N u ≢ 0 → (v : Tree) × R v × (N v ≡ N u)
+  pub rep-of : (u : Tree) → nameOf A t ν u ≢ 0 → (v : Tree) × Rep A t ts ν v × (nameOf A t ν v ≡ nameOf A t ν u)
   unfolding Rep
   rep-of u h = go (test (isSubtree t u))
     where

@@ -31,3 +31,4 @@ pub mod SubtreeNames
 pub mod Alike
 pub mod AlikeSamples
 pub mod Searched
+pub mod NamedChange
