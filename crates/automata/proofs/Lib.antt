@@ -77,3 +77,4 @@ pub mod Searched
 pub mod AlikeSamples
 pub mod GroupingCounts
 pub mod NamesInUse
+pub mod NamedChange
