@@ -4,6 +4,7 @@ use mathlib.Core.Path.{_≡_, refl}
 use Rattle.automata.specs.Alike.{covered, framesAt, framesOf, likeState, likeSubtree, usesAgree}
 use Rattle.automata.specs.AlikeSamples.{alikeAll, coveredAll}
 use Rattle.automata.specs.Change.{subtreeAutomaton}
+use Rattle.automata.specs.NamedChange.{changedSet}
 use Rattle.automata.specs.OpenStates.{openState, pairsOf, subtreesAt}
 use Rattle.automata.specs.Product.{accessiblePairs, livePairs, nodes, nodesOf, pairRule}
 use Rattle.lists.specs.Closure.{closure}
@@ -13,5 +14,5 @@ unfolding covered framesAt framesOf openState pairsOf subtreesAt subtreeAutomato
 covered-all = refl
 
 pub alike-all : alikeAll ≡ true
-unfolding likeState likeSubtree usesAgree covered framesAt framesOf openState pairsOf subtreesAt subtreeAutomaton accessiblePairs livePairs nodes nodesOf pairRule closure
+unfolding changedSet likeState likeSubtree usesAgree covered framesAt framesOf openState pairsOf subtreesAt subtreeAutomaton accessiblePairs livePairs nodes nodesOf pairRule closure
 alike-all = refl

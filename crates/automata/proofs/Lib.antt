@@ -78,3 +78,4 @@ pub mod AlikeSamples
 pub mod GroupingCounts
 pub mod NamesInUse
 pub mod NamedChange
+pub mod NamedSamples

@@ -1,8 +1,8 @@
 -- Names found by search give the changed automaton: its transitions are those between names, and its states and
 -- transitions are counted before they are made (01, refusal 17). Nothing here says that the set is finite.
 use mathlib.Core.Bool.{Bool, _&&_, _||_, and-true, cond, false, not, or-false, true}
-use mathlib.Core.List.{List, _∷_}
-use mathlib.Core.Logic.{_⊎_, _≢_, inl, inr}
+use mathlib.Core.List.{List, []}
+use mathlib.Core.Logic.{_⊎_, inl, inr}
 use mathlib.Core.Path.{_∙_, _≡_, ap, refl, subst, sym}
 use Prim.Native.Nat.{_+_, _-_, _≤_, suc, zero, ℕ}
 use native.Mathlib.Omega.{arith}
@@ -10,7 +10,7 @@ use lib.Dec.{eqb, leb}
 use lib.ListN.{getD, length}
 use borrow.Author.Tests.{eqb-false, eqb-true, le-leb, lt-leb}
 use Rattle.automata.specs.Automaton.{Automaton, Fits, Transition, accepting, accepts, run, states}
-use Rattle.automata.specs.Canonical.{Canonical, Subtree}
+use Rattle.automata.specs.Canonical.{Canonical}
 use Rattle.automata.specs.Change.{subtreeNumber, subtrees}
 use Rattle.automata.specs.NamedChange.{OverNames, ShapeOf, changedAutomaton, changedSet, nameClass, namesInUse}
 use Rattle.automata.specs.Names.{Naming, QuotientOf, isSubtree}
@@ -19,16 +19,16 @@ use Rattle.automata.specs.Quotient.{goneCount, keptNames, newCount, ownN
 use Rattle.automata.specs.Renumber.{renumbered}
 use Rattle.automata.specs.Searched.{OwnName, Searched, SharedName, StateName}
 use Rattle.automata.specs.SubtreeNames.{IsOwnName, Names, nameOf}
-use Rattle.automata.specs.Valid.{LegalTransitions}
+use Rattle.automata.specs.Valid.{LegalTransitions, statesInRange}
 use Rattle.lists.specs.Positions.{upFrom}
 use Rattle.lists.specs.Tests.{Exactly, _∈_}
 use Rattle.trees.specs.Legal.{Legal, LegalNode}
 use Rattle.trees.specs.Tree.{Forest, Tree, count, eqTree, noTree, node}
 use Rattle.automata.proofs.CanonicalChange.{canonical-fits, canonical-ranged, delete-kept, insert-kept}
-use Rattle.automata.proofs.Change.{own-subtree}
 use Rattle.automata.proofs.Distinguishable.{run-fits}
+use Rattle.automata.proofs.Frames.{not-subtree}
 use Rattle.automata.proofs.GroupingCounts.{GroupOf, canonical-grouping, groups-length, transitions-length}
-use Rattle.automata.proofs.Names.{named-somewhere, names-canonical, names-grouping, unnamed-nowhere}
+use Rattle.automata.proofs.Names.{named-somewhere, names-canonical, names-grouping, plug-other, unnamed-nowhere}
 use Rattle.automata.proofs.NamesInUse.{list-shape, rep-used, used-args, used-distinct, used-out, used-positive}
 use Rattle.automata.proofs.NamesInUse.{used-rep}
 use Rattle.automata.proofs.ProductLaws.{rising-distinct}
@@ -113,6 +113,15 @@ module _ (inserting : Bool) (A : Automaton) (X : Canonical (accepts A) A) (t : T
   abbrev B : Automaton
   B = changedAutomaton inserting t A
 
+  ranged : statesInRange A ≡ true
+  ranged = canonical-ranged (accepts A) A X
+
+  fit : Fits A
+  fit = canonical-fits (accepts A) A X
+
+  agree : (v : Tree) → eqTree v t ≡ false → changedSet inserting A t v ≡ accepts A v
+  agree = changed-agree inserting A t
+
   Y : Canonical (changedSet inserting A t) (changedAutomaton inserting t A)
   Y = changed-kept inserting A X t
 
@@ -121,12 +130,12 @@ module _ (inserting : Bool) (A : Automaton) (X : Canonical (accepts A) A) (t : T
 
   M : Naming A t (changedSet inserting A t) (nameOf A t ν)
   M =
-      searched-naming (accepts A) A X t S (changed-agree inserting A t) (subtreeNumber ts) ν
+      searched-naming (accepts A) A X t S agree (subtreeNumber ts) ν
       (position-numbering t ts (λ u i. listed .members u .1 i)) searched
 
   -- the listed transitions are those between names
   pub searched-quotient : QuotientOf (nameOf A t ν) (quotientList A t ts ν)
-  searched-quotient = quotient-of A t ts ν (canonical-ranged (accepts A) A X) (X .sorted) listed H S M
+  searched-quotient = quotient-of A t ts ν ranged (X .sorted) listed H S M
 
   -- ---- the class of a name is that of its trees
 
@@ -136,13 +145,8 @@ module _ (inserting : Bool) (A : Automaton) (X : Canonical (accepts A) A) (t : T
       ap (nameClass A ts S) (subtree-name A t ts ν v i ∙ e) ∙ class-own A ts S v (listed .members v .1 i)
   class-rep v (inr (miss, s)) =
       ap (nameClass A ts S) (other-name A t ts ν v miss)
-      ∙ class-state A ts S (run A v) (run-fits A (canonical-fits (accepts A) A X) v)
-      ∙ sym (changed-agree inserting A t v (other (eqTree v t) refl))
-    where
-      other : (b : Bool) → eqTree v t ≡ b → eqTree v t ≡ false
-      other true d =
-          absurd (miss (subst (λ (u : Tree). u ∈ subtrees t) (sym (eqTree-true v t d)) (own-subtree t)))
-      other false d = d
+      ∙ class-state A ts S (run A v) (run-fits A fit v)
+      ∙ sym (agree v (plug-other t [] v (not-subtree t v miss)))
 
   pub searched-class : (u : Tree) → nameClass A ts (changedSet inserting A t) (nameOf A t ν u) ≡
       changedSet inserting A t u
@@ -153,8 +157,7 @@ module _ (inserting : Bool) (A : Automaton) (X : Canonical (accepts A) A) (t : T
           let z = eqb-true (N u) 0 e in
           ap (nameClass A ts S) z ∙ class-state A ts S 0 (omega arith) ∙ sym (M .none-classed u z)
       go false e =
-          let (v, p, d) =
-          rep-of A t ts ν (canonical-ranged (accepts A) A X) (X .sorted) listed H u (eqb-false (N u) 0 e) in
+          let (v, p, d) = rep-of A t ts ν ranged (X .sorted) listed H u (eqb-false (N u) 0 e) in
           ap (nameClass A ts S) (sym d) ∙ class-rep v p ∙ M .classed v u d
 
   -- ---- the changed automaton
@@ -164,37 +167,39 @@ module _ (inserting : Bool) (A : Automaton) (X : Canonical (accepts A) A) (t : T
       renumbered (nameClass A ts (changedSet inserting A t)) (quotientList A t ts ν) ≡ changedAutomaton inserting t A
   searched-changed =
       unique S (renumbered (nameClass A ts S) W) B
-      (names-canonical (accepts A) A X t S (changed-agree inserting A t) N M W searched-quotient (nameClass A ts S)
+      (names-canonical (accepts A) A X t S agree N M W searched-quotient (nameClass A ts S)
       (λ u p. searched-class u))
       Y
 
-  G : Grouping (changedSet inserting A t) (nameOf A t ν) (quotientList A t ts ν)
-  G = names-grouping (accepts A) A X t S (changed-agree inserting A t) N M W searched-quotient
+  -- the names group the subtrees of the changed set
+  pub searched-grouping : Grouping (changedSet inserting A t) (nameOf A t ν) (quotientList A t ts ν)
+  searched-grouping = names-grouping (accepts A) A X t S agree N M W searched-quotient
 
   -- ---- its states
 
-  names-exactly : Exactly (GroupOf S N) (namesInUse A t ts ν)
-  names-exactly = record {
-    once = used-distinct A t ts ν (canonical-fits (accepts A) A X) listed;
+  -- the names of subtrees of the changed set are those in use
+  pub searched-in-use : Exactly (GroupOf (changedSet inserting A t) (nameOf A t ν)) (namesInUse A t ts ν)
+  searched-in-use = record {
+    once = used-distinct A t ts ν fit listed;
     members = λ x. (λ i. named x i, λ p. used x p);
   }
     where
       named : (x : ℕ) → x ∈ namesInUse A t ts ν → GroupOf S N x
       named x i =
-          let (u, p, e) = used-rep A t ts ν (canonical-fits (accepts A) A X) listed x i in
-          let h = used-positive A t ts ν (canonical-fits (accepts A) A X) listed x i in (
+          let (u, p, e) = used-rep A t ts ν fit listed x i in
+          let h = used-positive A t ts ν fit listed x i in (
             u,
-            named-somewhere (accepts A) A X t S (changed-agree inserting A t) N M u (λ z. omega (arith, z, e, h)),
+            named-somewhere (accepts A) A X t S agree N M u (λ z. omega (arith, z, e, h)),
             e,
           )
 
       used : (x : ℕ) → GroupOf S N x → x ∈ namesInUse A t ts ν
       used x (u, p, e) =
           let (v, r, d) =
-          rep-of A t ts ν (canonical-ranged (accepts A) A X) (X .sorted) listed H u
-          (λ z. unnamed-nowhere (accepts A) A X t S (changed-agree inserting A t) N M u z p) in
+          rep-of A t ts ν ranged (X .sorted) listed H u
+          (λ z. unnamed-nowhere (accepts A) A X t S agree N M u z p) in
           subst (λ (y : ℕ). y ∈ namesInUse A t ts ν) (d ∙ e)
-          (rep-used A t ts ν (canonical-fits (accepts A) A X) listed v r)
+          (rep-used A t ts ν fit listed v r)
 
   states-exactly : Exactly (GroupOf S (Y .group)) (upFrom 1 (states B))
   states-exactly = record {
@@ -213,34 +218,34 @@ module _ (inserting : Bool) (A : Automaton) (X : Canonical (accepts A) A) (t : T
   pub searched-states : states (changedAutomaton inserting t A) ≡ length (namesInUse A t ts ν)
   searched-states =
       sym (upFrom-length 1 (states B))
-      ∙ groups-length S (Y .group) N (B .transitions) W (canonical-grouping S B Y) G (upFrom 1 (states B))
-      (namesInUse A t ts ν) states-exactly names-exactly
+      ∙ groups-length S (Y .group) N (B .transitions) W (canonical-grouping S B Y) searched-grouping
+      (upFrom 1 (states B)) (namesInUse A t ts ν) states-exactly searched-in-use
 
   -- ---- its transitions
 
   -- the changed automaton has as many transitions as there are between names
   pub searched-length : length (changedAutomaton inserting t A .transitions) ≡ length (quotientList A t ts ν)
   searched-length =
-      transitions-length S (Y .group) N (B .transitions) W (canonical-grouping S B Y) G
+      transitions-length S (Y .group) N (B .transitions) W (canonical-grouping S B Y) searched-grouping
       (rising-distinct (B .transitions) (Y .sorted))
-      (quotient-distinct A t ts ν (canonical-ranged (accepts A) A X) (X .sorted) listed)
+      (quotient-distinct A t ts ν ranged (X .sorted) listed)
 
   pub searched-transitions : length (changedAutomaton inserting t A .transitions) + goneCount A ts ν ≡
       sumOver (λ q. length (keptNames A t ts ν q)) (A .transitions) + newCount A ts ν
   searched-transitions =
       ap (λ (n : ℕ). n + goneCount A ts ν) searched-length
-      ∙ quotient-counted A t ts ν (canonical-ranged (accepts A) A X) (X .sorted) listed
+      ∙ quotient-counted A t ts ν ranged (X .sorted) listed
 
   -- ---- what the transitions between names stand over
 
   pub names-bounded : (σ : Transition) → σ ∈ quotientList A t ts ν → OverNames A t ts ν σ
   names-bounded σ i =
-      let o = used-out A t ts ν (canonical-ranged (accepts A) A X) (X .sorted) listed H σ i in
+      let o = used-out A t ts ν ranged (X .sorted) listed H σ i in
       record {
-        args = used-args A t ts ν (canonical-ranged (accepts A) A X) (X .sorted) listed σ i;
+        args = used-args A t ts ν ranged (X .sorted) listed σ i;
         out = o;
-        positive = used-positive A t ts ν (canonical-fits (accepts A) A X) listed (σ .out) o;
-        shape = list-shape A t ts ν (canonical-ranged (accepts A) A X) (X .sorted) listed (ShapeOf A t)
+        positive = used-positive A t ts ν fit listed (σ .out) o;
+        shape = list-shape A t ts ν ranged (X .sorted) listed (ShapeOf A t)
             (λ τ j. inl (τ, j, refl, refl)) (λ a f j. inr (f, j, refl)) σ i;
       }
 
@@ -248,7 +253,7 @@ module _ (inserting : Bool) (A : Automaton) (X : Canonical (accepts A) A) (t : T
   pub names-legal : LegalTransitions A → Legal t → (σ : Transition) → σ ∈ quotientList A t ts ν →
       LegalNode (σ .label) (length (σ .args))
   names-legal old new =
-      list-shape A t ts ν (canonical-ranged (accepts A) A X) (X .sorted) listed LegalNode old inside
+      list-shape A t ts ν ranged (X .sorted) listed LegalNode old inside
     where
       inside : (a : ℕ) (f : Forest) → node a f ∈ subtrees t → LegalNode a (count f)
       inside a f i =

@@ -1,6 +1,6 @@
 -- The names in use are those of representatives, each once; the transitions between names stand over them.
 use mathlib.Core.Bool.{false, true}
-use mathlib.Core.List.{List, _∷_, map}
+use mathlib.Core.List.{List, map}
 use mathlib.Core.Logic.{_⊎_, _≢_, inl, inr}
 use mathlib.Core.Path.{_∙_, _≡_, ap, refl, subst, subst₂, sym}
 use Prim.Native.Nat.{_≤_, ℕ}

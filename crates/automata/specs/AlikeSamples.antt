@@ -1,16 +1,17 @@
 -- Samples of the local criterion, as rows of two tables: which slots are covered, and what a subtree can stand for.
-use mathlib.Core.Bool.{Bool, Bool·beq, _&&_, _||_, cond, false, not, true}
+use mathlib.Core.Bool.{Bool, Bool·beq, false, true}
 use mathlib.Core.List.{List, [], _∷_}
 use Prim.Native.Nat.{_-_, ℕ}
 use lib.ListN.{getD}
 use Rattle.automata.specs.Alike.{covered, framesOf, likeState, likeSubtree}
-use Rattle.automata.specs.Automaton.{Automaton, accepts}
+use Rattle.automata.specs.Automaton.{Automaton}
 use Rattle.automata.specs.Change.{subtreeNumber, subtrees}
 use Rattle.automata.specs.Distinguishable.{Slot}
 use Rattle.automata.specs.Example.{example, fork, leaf, transition}
+use Rattle.automata.specs.NamedChange.{changedSet}
 use Rattle.automata.specs.SubtreeNames.{nameOf}
 use Rattle.lists.specs.Tests.{every}
-use Rattle.trees.specs.Tree.{Tree, cons, eqTree, nil, node}
+use Rattle.trees.specs.Tree.{Tree, cons, nil, node}
 
 -- a tree is put into an automaton's set or taken out; the names of its distinct subtrees, in the order of `subtrees`
 pub record SampleChange : Type 0 where
@@ -20,14 +21,16 @@ pub record SampleChange : Type 0 where
   pub names : List ℕ
 
 -- the changed set
-abbrev pub changedSet : SampleChange → Tree → Bool
-changedSet c u =
-    let A = c .automaton in cond (c .put) (accepts A u || eqTree u (c .tree)) (accepts A u && not (eqTree u (c .tree)))
+abbrev pub sampleSet : SampleChange → Tree → Bool
+sampleSet c = changedSet (c .put) (c .automaton) (c .tree)
+
+-- the names of the subtrees
+abbrev pub givenNames : SampleChange → Tree → ℕ
+givenNames c u = getD (c .names) (subtreeNumber (subtrees (c .tree)) u - 1) 0
 
 -- the names of all trees
 abbrev pub sampleNames : SampleChange → Tree → ℕ
-sampleNames c =
-    nameOf (c .automaton) (c .tree) (λ u. getD (c .names) (subtreeNumber (subtrees (c .tree)) u - 1) 0)
+sampleNames c = nameOf (c .automaton) (c .tree) (givenNames c)
 
 -- what a subtree is compared with
 pub data Candidate : Type 0 where
@@ -47,8 +50,8 @@ compared c u k b = record { change = c; subtree = u; candidate = k; answer = b }
 
 -- the criterion of a subtree and a candidate
 abbrev pub criterion : SampleChange → Tree → Candidate → Bool
-criterion c u (state q) = likeState (c .automaton) (c .tree) (changedSet c) (sampleNames c) u q
-criterion c u (other v) = likeSubtree (c .automaton) (c .tree) (changedSet c) (sampleNames c) u v
+criterion c u (state q) = likeState (c .automaton) (c .tree) (sampleSet c) (sampleNames c) u q
+criterion c u (other v) = likeSubtree (c .automaton) (c .tree) (sampleSet c) (sampleNames c) u v
 
 -- a slot is covered by the frames of a subtree, or it is not
 pub record CoveredSample : Type 0 where

@@ -29,6 +29,7 @@ pub mod Names
 pub mod Quotient
 pub mod SubtreeNames
 pub mod Alike
+pub mod NamedChange
 pub mod AlikeSamples
 pub mod Searched
-pub mod NamedChange
+pub mod NamedSamples
