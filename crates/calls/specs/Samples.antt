@@ -68,8 +68,11 @@ sampleSet = insert (fork 1 1 1) ∷ []
 abbrev pub samples : List Sample
 samples =
     -- P1 to P4
-    listed (1 ∷ 1 ∷ []) 4 ∷ listed (1 ∷ 0 ∷ 1 ∷ 0 ∷ []) 4 ∷ listed (0 ∷ 9 ∷ []) 2 ∷ listed (1 ∷ 9 ∷ []) 3 ∷
-    listed (1 ∷ 1 ∷ 1 ∷ []) 1 ∷ listed (listing (chain 47)) 0 ∷ listed (listing (chain 48)) 1 ∷
+    listed (0 ∷ 1 ∷ 1 ∷ []) 4 ∷ listed (0 ∷ 1 ∷ 0 ∷ 0 ∷ 1 ∷ 0 ∷ []) 4 ∷ listed (0 ∷ 0 ∷ 9 ∷ []) 2 ∷
+    listed (0 ∷ 1 ∷ 9 ∷ []) 3 ∷ listed (0 ∷ 1 ∷ 1 ∷ 1 ∷ []) 1 ∷ listed (listing (chain 47)) 0 ∷
+    listed (listing (chain 48)) 1 ∷
+    -- of order 5: the code 256, whose low byte is 0, and the largest
+    listed (1 ∷ 0 ∷ 0 ∷ []) 0 ∷ listed (255 ∷ 255 ∷ 0 ∷ []) 0 ∷
     -- P5 and P6
     sized (insert (leaf 1) ∷ []) 1 1 ∷ classed (insert (leaf 1) ∷ []) ∷ sized p6 2 3 ∷
     -- P7 and P8

@@ -1,11 +1,11 @@
--- The listing of a line's tree is bytes: its labels are at most 255, and a node in a line of 512 bytes has at most 125
+-- The listing of a line's tree is bytes: its labels have two bytes, and a node in a line of 512 bytes has at most 125
 -- children.
 use mathlib.Core.List.{List, [], _++_, _∷_}
 use mathlib.Core.Path.{_∙_, _≡_, ap, subst, sym}
-use Prim.Native.Nat.{_<_, _≤_, suc, zero, ℕ}
+use Prim.Native.Nat.{_%_, _/_, _<_, _≤_, suc, zero, ℕ}
 use native.Mathlib.Omega.{arith}
 use lib.ListN.{getD, length, length-append, replicate}
-use Rattle.format.specs.Format.{AllBytes, maxLine}
+use Rattle.format.specs.Format.{AllBytes, byteValues, labelWritten, maxLine}
 use Rattle.text.proofs.LineMeaning.{line-formed}
 use Rattle.text.proofs.Sizes.{forest-size}
 use Rattle.text.specs.Grammar.{AllLabelled, Command, Labelled, childrenText, closeBracket, head, labelText, treeText}
@@ -31,8 +31,10 @@ mutual
       let e = length-append (labelText a) (childrenText f ++ (closeBracket ∷ [])) in
       let d = length-append (childrenText f) (closeBracket ∷ []) in
       let z = forest-size f in
-      bytes-cons a (count f ∷ listings f) (omega arith) (bytes-cons (count f) (listings f)
-      (omega (arith, z .trees, z .text)) (bytes-forest f k (omega arith)))
+      bytes-append (labelWritten a) (count f ∷ listings f)
+      (bytes-cons (a / byteValues) (a % byteValues ∷ []) (omega arith)
+      (bytes-cons (a % byteValues) [] (omega arith) (bytes-zeros 0)))
+      (bytes-cons (count f) (listings f) (omega (arith, z .trees, z .text)) (bytes-forest f k (omega arith)))
 
   bytes-forest : (f : Forest) → AllLabelled f → length (childrenText f) ≤ maxLine → AllBytes (listings f)
   bytes-forest nil h l = λ i. omega arith

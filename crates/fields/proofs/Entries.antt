@@ -1,19 +1,21 @@
 -- The fields of an entry: each field put alone, the transition that they make, and an entry copied byte by byte.
 use mathlib.Core.Bool.{Bool, cond, false, true}
-use mathlib.Core.List.{List, map}
-use mathlib.Core.Path.{_∙_, _≡_, ap, refl, sym}
-use Prim.Native.Nat.{_+_, _-_, _<_, _≤_, suc, zero, ℕ}
+use mathlib.Core.List.{List, [], _∷_, map}
+use mathlib.Core.Path.{_∙_, _≡_, ap, ap₂, refl, sym}
+use Prim.Native.Nat.{_%_, _+_, _-_, _/_, _<_, _≤_, suc, zero, ℕ}
 use native.Mathlib.Nat.{zero-add}
 use native.Mathlib.Omega.{arith}
 use lib.Dec.{eqb}
-use lib.ListN.{getD, getD-replicate, length, length-set, replicate, set}
+use lib.ListN.{getD, getD-replicate, length, length-set, replicate, set, take}
 use lib.Seq.{getD-set-other, getD-set-same}
 use borrow.Author.Tests.{eq-eqb, eqb-false, eqb-true, ne-eqb}
 use Rattle.automata.specs.Automaton.{Transition}
 use Rattle.fields.specs.Entries.{HasFields, noArg, putAt}
-use Rattle.format.specs.Format.{argsAt, arityAt, maxArity, outAt, transitionBytes}
+use Rattle.format.specs.Format.{argsAt, arityAt, byteValues, labelBytes, labelFrom, labelWritten, maxArity}
+use Rattle.format.specs.Format.{outAt, transitionBytes}
 use Rattle.lists.specs.Positions.{byteFrom, upFrom}
 use Rattle.table.specs.Layout.{argOf, arityOf, labelOf, outOf, transitionAt}
+use Rattle.format.proofs.Labels.{from-written}
 use Rattle.lists.proofs.Filling.{FilledTo}
 
 pub map-upFrom : (f g : ℕ → ℕ) (k n : ℕ) → ((i : ℕ) → k ≤ i → i < k + n → f i ≡ g i) →
@@ -37,20 +39,42 @@ blank-fields = record {
 
 -- ---- one field put
 
-module _ (e : List ℕ) (v : ℕ) (size : length e ≡ transitionBytes) where
-  pub label-put : HasFields (set e 0 v) v (arityOf e 0) (argOf e 0) (outOf e 0)
+-- the bytes of a label put
+module _ (e : List ℕ) (size : length e ≡ transitionBytes) (a : ℕ) {h l : ℕ} (high : h ≡ a / byteValues)
+    (low : l ≡ a % byteValues) where
+  other : (j : ℕ) → labelBytes ≤ j → getD (set (set e 0 h) 1 l) j 0 ≡ getD e j 0
+  other j m =
+      getD-set-other (set e 0 h) 1 j l 0 (λ d. omega arith) ∙ getD-set-other e 0 j h 0 (λ d. omega arith)
+
+  pub label-put : HasFields (set (set e 0 h) 1 l) a (arityOf e 0) (argOf e 0) (outOf e 0)
   label-put = record {
-    size = length-set e 0 v ∙ size;
-    label = getD-set-same e 0 v 0 (omega arith);
-    arity = getD-set-other e 0 arityAt v 0 (λ d. omega arith);
-    arg = λ k h. getD-set-other e 0 (argsAt + k) v 0 (λ d. omega arith);
-    out = getD-set-other e 0 outAt v 0 (λ d. omega arith);
+    size = length-set (set e 0 h) 1 l ∙ length-set e 0 h ∙ size;
+    label = ap₂ labelFrom (getD-set-other (set e 0 h) 1 0 l 0 (λ d. omega arith)
+        ∙ getD-set-same e 0 h 0 (omega arith) ∙ high)
+        (getD-set-same (set e 0 h) 1 l 0 (omega (arith, length-set e 0 h)) ∙ low) ∙ from-written a;
+    arity = other arityAt (omega arith);
+    arg = λ k m. other (argsAt + k) (omega arith);
+    out = other outAt (omega arith);
   }
+
+  pub label-bytes : take labelBytes (set (set e 0 h) 1 l) ≡ labelWritten a
+  label-bytes = first e (omega arith)
+    where
+      first : (s : List ℕ) → labelBytes ≤ length s → take labelBytes (set (set s 0 h) 1 l) ≡ labelWritten a
+      first [] m = absurd (omega arith)
+      first (x ∷ []) m = absurd (omega arith)
+      first (x ∷ y ∷ s) m = λ i. high i ∷ low i ∷ []
+
+module _ (e : List ℕ) (v : ℕ) (size : length e ≡ transitionBytes) where
+  -- a field after the label is put
+  label-kept : (j : ℕ) → labelBytes ≤ j → labelOf (set e j v) 0 ≡ labelOf e 0
+  label-kept j m =
+      ap₂ labelFrom (getD-set-other e j 0 v 0 (λ d. omega arith)) (getD-set-other e j 1 v 0 (λ d. omega arith))
 
   pub arity-put : HasFields (set e arityAt v) (labelOf e 0) v (argOf e 0) (outOf e 0)
   arity-put = record {
     size = length-set e arityAt v ∙ size;
-    label = getD-set-other e arityAt 0 v 0 (λ d. omega arith);
+    label = label-kept arityAt (omega arith);
     arity = getD-set-same e arityAt v 0 (omega arith);
     arg = λ k h. getD-set-other e arityAt (argsAt + k) v 0 (λ d. omega arith);
     out = getD-set-other e arityAt outAt v 0 (λ d. omega arith);
@@ -59,7 +83,7 @@ module _ (e : List ℕ) (v : ℕ) (size : length e ≡ transitionBytes) where
   pub out-put : HasFields (set e outAt v) (labelOf e 0) (arityOf e 0) (argOf e 0) v
   out-put = record {
     size = length-set e outAt v ∙ size;
-    label = getD-set-other e outAt 0 v 0 (λ d. omega arith);
+    label = label-kept outAt (omega arith);
     arity = getD-set-other e outAt arityAt v 0 (λ d. omega arith);
     arg = λ k h. getD-set-other e outAt (argsAt + k) v 0 (λ d. omega arith);
     out = getD-set-same e outAt v 0 (omega arith);
@@ -70,7 +94,7 @@ module _ (e : List ℕ) (v : ℕ) (size : length e ≡ transitionBytes) where
   unfolding putAt
   arg-put j l = record {
     size = length-set e (argsAt + j) v ∙ size;
-    label = getD-set-other e (argsAt + j) 0 v 0 (λ d. omega arith);
+    label = label-kept (argsAt + j) (omega arith);
     arity = getD-set-other e (argsAt + j) arityAt v 0 (λ d. omega arith);
     arg = λ k h. go k h (eqb k j) refl;
     out = getD-set-other e (argsAt + j) outAt v 0 (λ d. omega arith);
@@ -158,7 +182,8 @@ module _ (s : List ℕ) (at : ℕ) {e : List ℕ} {k : ℕ} (inv : FilledTo tran
   pub fields-copied : HasFields e (labelOf s at) (arityOf s at) (argOf s at) (outOf s at)
   fields-copied = record {
     size = inv .size;
-    label = copied 0 (omega arith) ∙ ap (λ i. getD s i 0) (let z : at + 0 ≡ at = omega arith in z);
+    label = ap₂ labelFrom (copied 0 (omega arith) ∙ ap (λ i. getD s i 0) (let z : at + 0 ≡ at = omega arith in z))
+        (copied 1 (omega arith));
     arity = copied arityAt (omega arith);
     arg = λ k h. copied (argsAt + k) (omega arith) ∙
         ap (λ i. getD s i 0) (let z : at + (argsAt + k) ≡ at + argsAt + k = omega arith in z);

@@ -1,5 +1,5 @@
 -- What reading transitions from bytes needs, and what a search answers. A run of transitions is a list of
--- bytes in which transition i starts at byte 11 i: the body of a table, or a scratch.
+-- bytes in which transition i starts at byte 12 i: the body of a table, or a scratch.
 use mathlib.Core.Bool.{Bool, false, true}
 use mathlib.Core.List.{List, map}
 use mathlib.Core.Path.{_≡_}

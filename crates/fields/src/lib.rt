@@ -1,4 +1,4 @@
-// Fields of a table and of its transitions. `transitions` has transition i at byte 11 i: the part `&table[203..]` of a
+// Fields of a table and of its transitions. `transitions` has transition i at byte 12 i: the part `&table[203..]` of a
 // table, or a scratch.
 mod transition; // fields of one transition
 

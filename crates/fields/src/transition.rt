@@ -2,15 +2,17 @@
 // they stand. An entry is the bytes of one transition.
 ghost use mathlib.Core.Path.{_≡_};
 ghost use Prim.Native.Nat.{_+_, _<_, _≤_};
-ghost use lib.ListN.{length};
-ghost use Rattle.format.specs.Format.{maxArity, maxLabel, transitionBytes};
+ghost use lib.ListN.{length, take};
+ghost use Rattle.format.specs.Format.{labelBytes, labelWritten, maxArity, maxLabel, transitionBytes};
 ghost use Rattle.table.specs.Layout.{argOf, arityOf, labelOf, outOf};
 ghost use Rattle.fields.specs.Entries.{HasFields, noArg, putAt};
 use format::ARGS_AT;
 use format::ARITY_AT;
 use format::OUT_AT;
 use format::TRANSITION_BYTES;
-use format::label_byte;
+use format::label_from;
+use format::label_high;
+use format::label_low;
 use format::wide;
 
 pub fn label_of(transitions: &[u8], at: usize) -> u16
@@ -18,7 +20,7 @@ pub fn label_of(transitions: &[u8], at: usize) -> u16
     ensures { λ r. ⌜ r ≡ labelOf (now (transitions .entry)) at ⌝ }
     ensures { λ r. ⌜ r ≤ maxLabel ⌝ }
 {
-    label_byte(transitions[at])
+    label_from(transitions[at], transitions[at + 1])
 }
 
 pub fn arity_of(transitions: &[u8], at: usize) -> usize
@@ -72,8 +74,10 @@ pub fn put_label(entry: &mut [u8; TRANSITION_BYTES], label: u16)
     requires { ⌜ label ≤ maxLabel ⌝ }
     ensures { λ _. ⌜ HasFields (now (entry .exit)) label (arityOf (now (entry .entry)) 0) (argOf (now (entry .entry)) 0)
         (outOf (now (entry .entry)) 0) ⌝ }
+    ensures { λ _. ⌜ take labelBytes (now (entry .exit)) ≡ labelWritten label ⌝ }
 {
-    entry[0] = label as u8;
+    entry[0] = label_high(label);
+    entry[1] = label_low(label);
 }
 
 pub fn put_arity(entry: &mut [u8; TRANSITION_BYTES], arity: usize)

@@ -1,20 +1,40 @@
 -- The widths and limits of document 01, each stated once. The constants of src/lib.rt are the same numbers.
-use Prim.Native.Nat.{_*_, _+_, _<_, _^_, ℕ}
-use mathlib.Core.List.{List}
+use Prim.Native.Nat.{_%_, _*_, _+_, _-_, _/_, _<_, _^_, ℕ}
+use mathlib.Core.List.{List, [], _∷_}
 use lib.ListN.{getD}
 
--- a label is 1 to 255
+-- the values of a byte: a list with an entry for each has every byte, and so every state, as a position
+abbrev pub byteValues : ℕ
+byteValues = 256
+
+-- the same for two bytes
+abbrev pub bytePairs : ℕ
+bytePairs = byteValues * byteValues
+
+-- a label has two bytes, high byte first; it is 1 to 65,535
+abbrev pub labelBytes : ℕ
+labelBytes = 2
+
 abbrev pub maxLabel : ℕ
-maxLabel = 255
+maxLabel = bytePairs - 1
+
+-- the label that two bytes make
+abbrev pub labelFrom : ℕ → ℕ → ℕ
+labelFrom high low = byteValues * high + low
+
+-- the label that starts at a byte
+abbrev pub labelIn : List ℕ → ℕ → ℕ
+labelIn s at = labelFrom (getD s at 0) (getD s (at + 1) 0)
+
+-- the bytes of a label
+abbrev pub labelWritten : ℕ → List ℕ
+labelWritten a = a / byteValues ∷ a % byteValues ∷ []
 
 -- the children of a node, and the arguments of a transition
 abbrev pub maxArity : ℕ
 maxArity = 8
 
--- a listing has one byte of label and one of child count a node, for at most 48 nodes
-abbrev pub labelBytes : ℕ
-labelBytes = 1
-
+-- a listing has the label and one byte of child count a node, for at most 48 nodes
 abbrev pub nodeBytes : ℕ
 nodeBytes = labelBytes + 1
 
@@ -71,14 +91,6 @@ maxLineNodes = 126
 -- the bytes lent for the listing of a line's tree
 abbrev pub listingBytes : ℕ
 listingBytes = nodeBytes * maxLineNodes
-
--- the values of a byte: a list with an entry for each has every byte, and so every state, as a position
-abbrev pub byteValues : ℕ
-byteValues = 256
-
--- the same for two bytes
-abbrev pub bytePairs : ℕ
-bytePairs = byteValues * byteValues
 
 -- the least number that does not fit 64 bits
 abbrev pub numberLimit : ℕ

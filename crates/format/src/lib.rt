@@ -1,11 +1,17 @@
 // The widths and limits of document 01 for code. specs/Format.antt has the same numbers, and says what each is.
 ghost use mathlib.Core.Path.{_≡_};
+ghost use Prim.Native.Nat.{_%_, _/_, _≤_};
+ghost use Rattle.format.specs.Format.{byteValues, labelFrom, maxLabel};
 
-pub const MAX_LABEL: usize = 255;
+pub const BYTE_VALUES: usize = 256;
+
+pub const BYTE_PAIRS: usize = BYTE_VALUES * BYTE_VALUES;
+
+pub const LABEL_BYTES: usize = 2;
+
+pub const MAX_LABEL: usize = BYTE_PAIRS - 1;
 
 pub const MAX_ARITY: usize = 8;
-
-pub const LABEL_BYTES: usize = 1;
 
 pub const NODE_BYTES: usize = LABEL_BYTES + 1;
 
@@ -41,15 +47,25 @@ pub const MAX_LINE_NODES: usize = 126;
 
 pub const LISTING_BYTES: usize = NODE_BYTES * MAX_LINE_NODES;
 
-pub const BYTE_VALUES: usize = 256;
-
-pub const BYTE_PAIRS: usize = BYTE_VALUES * BYTE_VALUES;
-
-// A byte of a label as a number.
-pub fn label_byte(x: u8) -> u16
-    ensures { λ r. ⌜ r ≡ x ⌝ }
+// The label that two bytes make, high byte first.
+pub fn label_from(high: u8, low: u8) -> u16
+    ensures { λ r. ⌜ r ≡ labelFrom high low ⌝ }
+    ensures { λ r. ⌜ r ≤ maxLabel ⌝ }
 {
-    x as u16
+    256 * (high as u16) + low as u16
+}
+
+// The two bytes of a label.
+pub fn label_high(label: u16) -> u8
+    ensures { λ r. ⌜ r ≡ label / byteValues ⌝ }
+{
+    (label / 256) as u8
+}
+
+pub fn label_low(label: u16) -> u8
+    ensures { λ r. ⌜ r ≡ label % byteValues ⌝ }
+{
+    (label % 256) as u8
 }
 
 // A number of 16 bits as an index or a count.

@@ -24,21 +24,22 @@ plus-plus a b Bad = refl
 measured-none : (s : List ℕ) → measured s 0 ≡ Node 0
 unfolding measured
 measured-none [] = refl
-measured-none (a ∷ []) = refl
-measured-none (a ∷ c ∷ s) = refl
+measured-none (h ∷ []) = refl
+measured-none (h ∷ l ∷ []) = refl
+measured-none (h ∷ l ∷ c ∷ s) = refl
 
 -- k trees more, after what was read of s
 abbrev onward : Read → List ℕ → ℕ → Read
 onward (Node n) s k = plus n (measured (drop n s) k)
 onward Bad s k = Bad
 
-past-node : (r : Read) (a c : ℕ) (s : List ℕ) (k : ℕ) →
-    plus nodeBytes (onward r s k) ≡ onward (plus nodeBytes r) (a ∷ c ∷ s) k
+past-node : (r : Read) (h l c : ℕ) (s : List ℕ) (k : ℕ) →
+    plus nodeBytes (onward r s k) ≡ onward (plus nodeBytes r) (h ∷ l ∷ c ∷ s) k
 unfolding plus
-past-node (Node m) a c s k =
-    let e : nodeBytes + m ≡ suc (suc m) = omega arith in
+past-node (Node m) h l c s k =
+    let e : nodeBytes + m ≡ suc (suc (suc m)) = omega arith in
     plus-plus nodeBytes m (measured (drop m s) k) ∙ rw e
-past-node Bad a c s k = refl
+past-node Bad h l c s k = refl
 
 onward-none : (s : List ℕ) (k : ℕ) → measured s (0 + k) ≡ onward (measured s 0) s k
 onward-none s k = rw (measured-none s, zero-add) (sym (plus-zero _))
@@ -48,19 +49,21 @@ measured-add : (s : List ℕ) (j k : ℕ) → measured s (j + k) ≡ onward (mea
 unfolding measured
 measured-add [] zero k = onward-none [] k
 measured-add [] (suc j) k = rw (suc-add j k)
-measured-add (a ∷ []) zero k = onward-none (a ∷ []) k
-measured-add (a ∷ []) (suc j) k = rw (suc-add j k)
-measured-add (a ∷ c ∷ s) zero k = onward-none (a ∷ c ∷ s) k
-measured-add (a ∷ c ∷ s) (suc j) k =
+measured-add (h ∷ []) zero k = onward-none (h ∷ []) k
+measured-add (h ∷ []) (suc j) k = rw (suc-add j k)
+measured-add (h ∷ l ∷ []) zero k = onward-none (h ∷ l ∷ []) k
+measured-add (h ∷ l ∷ []) (suc j) k = rw (suc-add j k)
+measured-add (h ∷ l ∷ c ∷ s) zero k = onward-none (h ∷ l ∷ c ∷ s) k
+measured-add (h ∷ l ∷ c ∷ s) (suc j) k =
     let e : c + (j + k) ≡ c + j + k = omega arith in
-    rw (suc-add j k, e, measured-add s (c + j) k) (past-node (measured s (c + j)) a c s k)
+    rw (suc-add j k, e, measured-add s (c + j) k) (past-node (measured s (c + j)) h l c s k)
 
 -- a length that was read is at most that of the slice
 AtMost : Read → ℕ → Type 0
 AtMost (Node n) m = n ≤ m
 AtMost Bad m = Unit {0}
 
-more-at-most : (r : Read) (m : ℕ) → AtMost r m → AtMost (plus nodeBytes r) (suc (suc m))
+more-at-most : (r : Read) (m : ℕ) → AtMost r m → AtMost (plus nodeBytes r) (suc (suc (suc m)))
 unfolding plus AtMost
 more-at-most (Node n) m h = omega arith
 more-at-most Bad m h = tt
@@ -69,10 +72,12 @@ measured-at-most : (s : List ℕ) (k : ℕ) → AtMost (measured s k) (length s)
 unfolding measured AtMost
 measured-at-most [] zero = omega arith
 measured-at-most [] (suc k) = tt
-measured-at-most (a ∷ []) zero = omega arith
-measured-at-most (a ∷ []) (suc k) = tt
-measured-at-most (a ∷ c ∷ s) zero = omega arith
-measured-at-most (a ∷ c ∷ s) (suc k) = more-at-most (measured s (c + k)) (length s) (measured-at-most s (c + k))
+measured-at-most (h ∷ []) zero = omega arith
+measured-at-most (h ∷ []) (suc k) = tt
+measured-at-most (h ∷ l ∷ []) zero = omega arith
+measured-at-most (h ∷ l ∷ []) (suc k) = tt
+measured-at-most (h ∷ l ∷ c ∷ s) zero = omega arith
+measured-at-most (h ∷ l ∷ c ∷ s) (suc k) = more-at-most (measured s (c + k)) (length s) (measured-at-most s (c + k))
 
 pub measured-within : (s : List ℕ) (k n : ℕ) → measured s k ≡ Node n → n ≤ length s
 unfolding AtMost
@@ -81,15 +86,17 @@ measured-within s k n e = rw e at (measured-at-most s k)
 pub tree-short : (s : List ℕ) → length s < nodeBytes → Bad ≡ measured s 1
 unfolding measured
 tree-short [] h = refl
-tree-short (a ∷ []) h = refl
-tree-short (a ∷ c ∷ s) h = absurd (omega arith)
+tree-short (x ∷ []) h = refl
+tree-short (x ∷ y ∷ []) h = refl
+tree-short (x ∷ y ∷ c ∷ s) h = absurd (omega arith)
 
 tree-node : (s : List ℕ) → nodeBytes ≤ length s →
     measured s 1 ≡ plus nodeBytes (measured (drop nodeBytes s) (getD s labelBytes 0))
 unfolding measured
 tree-node [] h = absurd (omega arith)
-tree-node (a ∷ []) h = absurd (omega arith)
-tree-node (a ∷ c ∷ s) h = rw add-zero
+tree-node (x ∷ []) h = absurd (omega arith)
+tree-node (x ∷ y ∷ []) h = absurd (omega arith)
+tree-node (x ∷ y ∷ c ∷ s) h = rw add-zero
 
 tree-read : (s : List ℕ) (k : ℕ) (r : Read) → nodeBytes ≤ length s → k ≡ getD s labelBytes 0 →
     r ≡ measured (part s nodeBytes) k → plus nodeBytes r ≡ measured s 1
@@ -142,8 +149,9 @@ plus-some Bad n e = let z : _≡_ {A = ℕ} 0 1 = cc in absurd (omega arith)
 measured-some : (s : List ℕ) (n : ℕ) → measured s 1 ≡ Node n → nodeBytes ≤ n
 unfolding measured
 measured-some [] n e = let z : _≡_ {A = ℕ} 0 1 = cc in absurd (omega arith)
-measured-some (a ∷ []) n e = let z : _≡_ {A = ℕ} 0 1 = cc in absurd (omega arith)
-measured-some (a ∷ c ∷ s) n e = plus-some (measured s (c + 0)) n e
+measured-some (x ∷ []) n e = let z : _≡_ {A = ℕ} 0 1 = cc in absurd (omega arith)
+measured-some (x ∷ y ∷ []) n e = let z : _≡_ {A = ℕ} 0 1 = cc in absurd (omega arith)
+measured-some (x ∷ y ∷ c ∷ s) n e = plus-some (measured s (c + 0)) n e
 
 -- the first tree has a node at least and lies within the slice, and so do the trees of the part after it
 module _ (s : List ℕ) {r : Read} {n : ℕ} (q : r ≡ measured s 1) (z : r ≡ Node n) where

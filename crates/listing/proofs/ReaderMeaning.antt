@@ -4,17 +4,18 @@ use mathlib.Core.Bool.{Bool, false, false≢true, true}
 use mathlib.Core.List.{List, [], _++_, _∷_, append-nil}
 use mathlib.Core.Logic.{_↔_}
 use mathlib.Core.Path.{_∙_, _≡_, ap, refl, subst, sym}
-use Prim.Native.Nat.{_+_, _-_, _≤_, suc, zero, ℕ}
+use Prim.Native.Nat.{_+_, _-_, _<_, _≤_, suc, zero, ℕ}
 use native.Mathlib.Omega.{arith}
 use lib.Dec.{eqb, eqb·suc-suc, eqb·zero-suc}
 use lib.ListN.{drop, length}
 use borrow.Author.Tests.{eqb-true}
-use Rattle.format.specs.Format.{nodeBytes}
+use Rattle.format.specs.Format.{AllBytes, byteValues, labelFrom, nodeBytes}
 use Rattle.listing.specs.Measure.{measured, plus}
 use Rattle.listing.specs.declared.Read.{Read}
 use Rattle.listing.specs.declared.Read.the-variants.{Bad, Node}
 use Rattle.trees.specs.Listing.{firstTrees, laterTrees, listing, listings, listsTrees, oneTree, readTrees}
 use Rattle.trees.specs.Tree.{Forest, Tree, _⧺_, cons, count, nil, node}
+use Rattle.format.proofs.Labels.{written-from}
 use Rattle.lists.proofs.Tests.{eqb-same}
 use Rattle.trees.proofs.Forests.{first-append, first-count, later-append, later-count, listings-split}
 
@@ -23,21 +24,23 @@ abbrev pub wholly : Read → ℕ → Bool
 wholly (Node m) n = eqb m n
 wholly Bad n = false
 
-wholly-plus : (r : Read) (n : ℕ) → wholly r n ≡ wholly (plus nodeBytes r) (suc (suc n))
+wholly-plus : (r : Read) (n : ℕ) → wholly r n ≡ wholly (plus nodeBytes r) (suc (suc (suc n)))
 unfolding plus
 wholly-plus (Node m) n =
-    let e : nodeBytes + m ≡ suc (suc m) = omega arith in
-    rw (e, eqb·suc-suc, eqb·suc-suc)
+    let e : nodeBytes + m ≡ suc (suc (suc m)) = omega arith in
+    rw (e, eqb·suc-suc, eqb·suc-suc, eqb·suc-suc)
 wholly-plus Bad n = refl
 
 lists-measured : (s : List ℕ) (k : ℕ) → listsTrees s k ≡ wholly (measured s k) (length s)
 unfolding measured
 lists-measured [] zero = refl
 lists-measured [] (suc k) = refl
-lists-measured (a ∷ []) zero = refl
-lists-measured (a ∷ []) (suc k) = refl
-lists-measured (a ∷ c ∷ s) zero = rw eqb·zero-suc
-lists-measured (a ∷ c ∷ s) (suc k) =
+lists-measured (h ∷ []) zero = refl
+lists-measured (h ∷ []) (suc k) = refl
+lists-measured (h ∷ l ∷ []) zero = refl
+lists-measured (h ∷ l ∷ []) (suc k) = refl
+lists-measured (h ∷ l ∷ c ∷ s) zero = rw eqb·zero-suc
+lists-measured (h ∷ l ∷ c ∷ s) (suc k) =
     lists-measured s (c + k) ∙ wholly-plus (measured s (c + k)) (length s)
 
 pub one-tree-measured : (s : List ℕ) → oneTree s ≡ wholly (measured s 1) (length s)
@@ -78,39 +81,43 @@ zero-trees s m e =
     subst (TreesAhead s 0) z (record { trees = nil; many = refl; size = refl; bytes = refl; reads = refl })
 
 -- a node before trees takes the first of them as its children
-node-ahead : (a c k m : ℕ) (s : List ℕ) → TreesAhead s (c + k) m → TreesAhead (a ∷ c ∷ s) (suc k) (suc (suc m))
-node-ahead a c k m s v =
+node-ahead : (x y c k m : ℕ) (s : List ℕ) → y < byteValues → TreesAhead s (c + k) m →
+    TreesAhead (x ∷ y ∷ c ∷ s) (suc k) (suc (suc (suc m)))
+node-ahead x y c k m s b v =
     let f = v .trees in
     let h : c ≤ count f = omega (arith, v .many) in
     let l = listings-split c f in
     record {
-      trees = cons (node a (firstTrees c f)) (laterTrees c f);
+      trees = cons (node (labelFrom x y) (firstTrees c f)) (laterTrees c f);
       many = omega (arith, later-count c f, v .many);
-      size = rw l (ap (λ n. suc (suc n)) (v .size));
-      bytes = rw (first-count c f h, l) (ap (λ x. a ∷ c ∷ x) (v .bytes));
+      size = rw l (ap (λ n. suc (suc (suc n))) (v .size));
+      bytes = rw (first-count c f h, l) (ap (λ r. x ∷ y ∷ c ∷ r) (v .bytes) ∙
+          ap (λ w. w ++ (c ∷ (listings f ++ drop m s))) (sym (written-from x y b)));
       reads = rw (v .reads, first-append c f (readTrees (drop m s)) h, later-append c f (readTrees (drop m s)) h);
     }
 
-pub reader-splits-trees : (s : List ℕ) (k m : ℕ) → measured s k ≡ Node m → TreesAhead s k m
+pub reader-splits-trees : (s : List ℕ) (k m : ℕ) → AllBytes s → measured s k ≡ Node m → TreesAhead s k m
 unfolding measured plus
-reader-splits-trees [] zero m e = zero-trees [] m e
-reader-splits-trees [] (suc k) m e = no-trees [] (suc k) m e
-reader-splits-trees (a ∷ []) zero m e = zero-trees (a ∷ []) m e
-reader-splits-trees (a ∷ []) (suc k) m e = no-trees (a ∷ []) (suc k) m e
-reader-splits-trees (a ∷ c ∷ s) zero m e = zero-trees (a ∷ c ∷ s) m e
-reader-splits-trees (a ∷ c ∷ s) (suc k) m e =
-    go (λ n q. reader-splits-trees s (c + k) n q) (measured s (c + k)) refl e
+reader-splits-trees [] zero m b e = zero-trees [] m e
+reader-splits-trees [] (suc k) m b e = no-trees [] (suc k) m e
+reader-splits-trees (x ∷ []) zero m b e = zero-trees (x ∷ []) m e
+reader-splits-trees (x ∷ []) (suc k) m b e = no-trees (x ∷ []) (suc k) m e
+reader-splits-trees (x ∷ y ∷ []) zero m b e = zero-trees (x ∷ y ∷ []) m e
+reader-splits-trees (x ∷ y ∷ []) (suc k) m b e = no-trees (x ∷ y ∷ []) (suc k) m e
+reader-splits-trees (x ∷ y ∷ c ∷ s) zero m b e = zero-trees (x ∷ y ∷ c ∷ s) m e
+reader-splits-trees (x ∷ y ∷ c ∷ s) (suc k) m b e =
+    go (λ n q. reader-splits-trees s (c + k) n (λ i. b (suc (suc (suc i)))) q) (measured s (c + k)) refl e
   where
     go : ((n : ℕ) → measured s (c + k) ≡ Node n → TreesAhead s (c + k) n) → (r : Read) →
-        measured s (c + k) ≡ r → plus nodeBytes r ≡ Node m → TreesAhead (a ∷ c ∷ s) (suc k) m
+        measured s (c + k) ≡ r → plus nodeBytes r ≡ Node m → TreesAhead (x ∷ y ∷ c ∷ s) (suc k) m
     go ih (Node n) q e =
         let d : nodeBytes + n ≡ m = cc in
-        let d' : suc (suc n) ≡ m = omega arith in
-        subst (TreesAhead (a ∷ c ∷ s) (suc k)) d' (node-ahead a c k n s (ih n q))
-    go ih Bad q e = no-trees (a ∷ c ∷ s) (suc k) m e
+        let d' : suc (suc (suc n)) ≡ m = omega arith in
+        subst (TreesAhead (x ∷ y ∷ c ∷ s) (suc k)) d' (node-ahead x y c k n s (b 1) (ih n q))
+    go ih Bad q e = no-trees (x ∷ y ∷ c ∷ s) (suc k) m e
 
-pub reader-splits : (s : List ℕ) (m : ℕ) → measured s 1 ≡ Node m → TreeAhead s m
-reader-splits s m e = only (reader-splits-trees s 1 m e) (reader-splits-trees s 1 m e .trees) refl
+pub reader-splits : (s : List ℕ) (m : ℕ) → AllBytes s → measured s 1 ≡ Node m → TreeAhead s m
+reader-splits s m b e = only (reader-splits-trees s 1 m b e) (reader-splits-trees s 1 m b e .trees) refl
   where
     only : (v : TreesAhead s 1 m) (f : Forest) → v .trees ≡ f → TreeAhead s m
     only v nil q = absurd (omega (arith, ap count q, v .many))

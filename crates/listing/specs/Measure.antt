@@ -14,7 +14,9 @@ plus n Bad = Bad
 unfoldable pub measured : List ℕ → ℕ → Read
 measured [] zero = Node 0
 measured [] (suc k) = Bad
-measured (a ∷ []) zero = Node 0
-measured (a ∷ []) (suc k) = Bad
-measured (a ∷ c ∷ s) zero = Node 0
-measured (a ∷ c ∷ s) (suc k) = plus nodeBytes (measured s (c + k))
+measured (h ∷ []) zero = Node 0
+measured (h ∷ []) (suc k) = Bad
+measured (h ∷ l ∷ []) zero = Node 0
+measured (h ∷ l ∷ []) (suc k) = Bad
+measured (h ∷ l ∷ c ∷ s) zero = Node 0
+measured (h ∷ l ∷ c ∷ s) (suc k) = plus nodeBytes (measured s (c + k))

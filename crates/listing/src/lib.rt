@@ -10,7 +10,7 @@ use format::LABEL_BYTES;
 use format::MAX_ARITY;
 use format::MAX_LISTING;
 use format::NODE_BYTES;
-use format::label_byte;
+use format::label_from;
 use format::wide;
 
 // The label of node i, and the number of its children.
@@ -19,7 +19,7 @@ pub fn label_at(s: &[u8], i: usize) -> u16
     ensures { λ r. ⌜ r ≡ labelAt (now (s .entry)) i ⌝ }
     ensures { λ r. ⌜ r ≤ maxLabel ⌝ }
 {
-    label_byte(s[NODE_BYTES * i])
+    label_from(s[NODE_BYTES * i], s[NODE_BYTES * i + 1])
 }
 
 pub fn children_at(s: &[u8], i: usize) -> u8

@@ -59,7 +59,7 @@ pub fn representatives(marks: &[u8; BYTE_PAIRS], n: usize, names: &mut [u8; BYTE
     }
 }
 
-// The bytes of a transition whose states have other names.
+// The bytes of a transition whose states have other names. The label goes in last, so its bytes are those written.
 pub fn renamed(transitions: &[u8], at: usize, names: &[u8; BYTE_VALUES]) -> [u8; TRANSITION_BYTES]
     requires { ⌜ Readable (now transitions) at ⌝ }
     ensures { λ r. ⌜ r ≡ entryOf (renumberBy (nameIn (now (names .entry))) (transitionAt (now
@@ -68,7 +68,6 @@ pub fn renamed(transitions: &[u8], at: usize, names: &[u8; BYTE_VALUES]) -> [u8;
     let n = arity_of(transitions, at);
     let out = out_of(transitions, at);
     let mut entry = blank_entry();
-    put_label(&mut entry, label_of(transitions, at));
     put_arity(&mut entry, n);
     put_out(&mut entry, names[out]);
     let mut k = 0;
@@ -77,6 +76,7 @@ pub fn renamed(transitions: &[u8], at: usize, names: &[u8; BYTE_VALUES]) -> [u8;
         put_arg(&mut entry, k, names[q]);
         k += 1;
     }
+    put_label(&mut entry, label_of(transitions, at));
     entry
 }
 

@@ -10,13 +10,14 @@ use lib.Seq.{ext-getD}
 use borrow.Author.Tests.{eq-eqb, eqb-false, eqb-true, le-ltb, lt-ltb, ltb-false, ltb-true, ne-eqb}
 use Rattle.automata.specs.Order.{lex, precedes}
 use Rattle.fields.specs.Fields.{firstArgs}
-use Rattle.format.specs.Format.{AllBytes, argsAt, byteValues, labelBytes, maxArity, transitionBytes}
+use Rattle.format.specs.Format.{AllBytes, argsAt, byteValues, labelBytes, maxArity, maxLabel, transitionBytes}
 use Rattle.lists.specs.Positions.{upFrom}
 use Rattle.lists.specs.Tests.{every}
 use Rattle.packed.specs.Packed.{HoldsPadded, Padded, before, metaAt, packed, packedAt, padded}
 use Rattle.table.specs.Layout.{argOf, arityOf, labelOf, transitionAt}
 use Rattle.fields.proofs.Searching.{precedes-args, precedes-arity, precedes-label, precedesNext}
 use Rattle.fields.proofs.Transitions.{arg-at, args-length}
+use Rattle.format.proofs.Labels.{from-most}
 use Rattle.lists.proofs.Loops.{EveryFrom}
 use Rattle.packed.proofs.Digits.{digits-equal, digits-lex, digits-same}
 
@@ -49,11 +50,11 @@ module _ (s : List ℕ) (bytes : AllBytes s) (a b : ℕ) (first : Padded s a) (s
       before (metaAt s a) (packedAt s a) (metaAt s b) (packedAt s b)
   precedes-packed = by-arity (eqb (arityOf s a) (arityOf s b)) refl
     where
-      small : labelOf s a < byteValues
-      small = bytes a
+      small : labelOf s a ≤ maxLabel
+      small = from-most _ _ (bytes a) (bytes (a + 1))
 
-      small′ : labelOf s b < byteValues
-      small′ = bytes b
+      small′ : labelOf s b ≤ maxLabel
+      small′ = from-most _ _ (bytes b) (bytes (b + 1))
 
       by-label : arityOf s a ≡ arityOf s b → (c : Bool) → eqb (labelOf s a) (labelOf s b) ≡ c →
           precedes (transitionAt s a) (transitionAt s b) ≡

@@ -12,7 +12,7 @@ use Rattle.automata.specs.Ranks.{childrenOf}
 use Rattle.automata.specs.Totals.{sumInto}
 use Rattle.fields.specs.Fields.{HoldsTransitionsOver}
 use Rattle.fields.proofs.Transitions.{args-length}
-use Rattle.format.specs.Format.{labelBytes, maxListing, maxNodes, nodeBytes, transitionBytes}
+use Rattle.format.specs.Format.{labelBytes, labelWritten, maxListing, maxNodes, nodeBytes, transitionBytes}
 use Rattle.running.proofs.NodeBytes.{sets-append}
 use Rattle.table.specs.Layout.{arityOf, labelOf, transitionAt, transitionsIn}
 use Rattle.trees.specs.Listing.{listing, listings}
@@ -138,6 +138,13 @@ module _ {w : ℕ → ℕ} {s : List ℕ} {c n q k : ℕ} where
         abbrev at : ℕ
         at = transitionBytes * choice .place
 
+        -- the bytes of its top, with so many children
+        abbrev node-bytes : ℕ → List ℕ
+        node-bytes m = labelWritten (labelOf s at) ++ (m ∷ [])
+
+        abbrev own : List ℕ
+        own = node-bytes (arityOf s at)
+
         -- the next tree is the one at the transition chosen
         abbrev children : (ℕ → ℕ → Tree) → Forest
         children T = childrenOf T w (transitionAt s at .args) (choice .left)
@@ -149,12 +156,12 @@ module _ {w : ℕ → ℕ} {s : List ℕ} {c n q k : ℕ} where
         arity-count T = children-count T w (transitionAt s at .args) (choice .left) ∙ args-length s at
 
         next-lists : (T : ℕ → ℕ → Tree) → Grows w s c n T → listing (T q k) ≡
-            x .written ++ (labelOf s at ∷ arityOf s at ∷ (listings (children T) ++ listings (later T)))
+            x .written ++ (own ++ (listings (children T) ++ listings (later T)))
         next-lists T G =
             let z : maxNodes - top ≡ suc (maxNodes - (top + 1)) = omega arith in
             x .lists T G ∙ ap (λ (m : ℕ). x .written ++ listings (treesFrom T qs ks top m)) z
             ∙ ap (λ (t : Tree). x .written ++ (listing t ++ listings (later T))) grown
-            ∙ ap (λ (m : ℕ). x .written ++ (labelOf s at ∷ m ∷ (listings (children T) ++ listings (later T))))
+            ∙ ap (λ (m : ℕ). x .written ++ (node-bytes m ++ (listings (children T) ++ listings (later T))))
             (arity-count T)
           where
             grown : T (getD qs top 0) (getD ks top 0) ≡ node (labelOf s at) (children T)
@@ -170,7 +177,7 @@ module _ {w : ℕ → ℕ} {s : List ℕ} {c n q k : ℕ} where
             arith,
             ap length (next-lists T G),
             length-append (x .written)
-                (labelOf s at ∷ arityOf s at ∷ (listings (children T) ++ listings (later T))),
+                (own ++ (listings (children T) ++ listings (later T))),
             length-append (listings (children T)) (listings (later T)),
             listings-least (children T),
             listings-least (later T),
@@ -184,8 +191,8 @@ module _ {w : ℕ → ℕ} {s : List ℕ} {c n q k : ℕ} where
         module _ (over : HoldsTransitionsOver s c n) (room : nodes + arityOf s at ≤ top) {top' : ℕ}
             (e : top' ≡ top + 1 - arityOf s at) {qs' ks' bytes' : List ℕ}
             (put : ChildrenPut w s at (choice .left) top' qs ks qs' ks')
-            (b : bytes' ≡ set (set bytes (nodeBytes * nodes) (labelOf s at)) (nodeBytes * nodes + labelBytes)
-            (arityOf s at)) where
+            (b : bytes' ≡ set (sets bytes (nodeBytes * nodes) (labelWritten (labelOf s at))) (nodeBytes * nodes +
+            labelBytes) (arityOf s at)) where
           -- where the trees after the children start
           seam : top' + arityOf s at ≡ suc top
           seam = omega arith
@@ -217,37 +224,35 @@ module _ {w : ℕ → ℕ} {s : List ℕ} {c n q k : ℕ} where
             within = omega (arith, seam);
             few = omega (arith, seam);
             trees = trees-next;
-            written = x .written ++ (labelOf s at ∷ arityOf s at ∷ []);
+            written = x .written ++ own;
             written-size =
-                let l = length-append (x .written) (labelOf s at ∷ arityOf s at ∷ []) in omega
+                let l = length-append (x .written) own in omega
                 (arith, x .written-size);
             stored = stored-next;
             lists = lists-next;
           }
             where
-              stored-next : bytes' ≡ sets (replicate maxListing 0) 0
-                  (x .written ++ (labelOf s at ∷ arityOf s at ∷ []))
+              stored-next : bytes' ≡ sets (replicate maxListing 0) 0 (x .written ++ own)
               stored-next =
+                  let label = labelWritten (labelOf s at) in
                   let i : 0 + length (x .written) ≡ nodeBytes * nodes = omega (arith, x .written-size) in
-                  let z : suc (nodeBytes * nodes) ≡ nodeBytes * nodes + labelBytes = omega arith in
+                  let z : suc (suc (nodeBytes * nodes)) ≡ nodeBytes * nodes + labelBytes = omega arith in
                   b
-                  ∙ ap (λ (l : List ℕ). set (set l (nodeBytes * nodes) (labelOf s at))
-                  (nodeBytes * nodes + labelBytes)
+                  ∙ ap (λ (l : List ℕ). set (sets l (nodeBytes * nodes) label) (nodeBytes * nodes + labelBytes)
                   (arityOf s at)) (x .stored)
-                  ∙ sym (sets-append (x .written) (labelOf s at ∷ arityOf s at ∷ []) (replicate maxListing 0) 0
-                  ∙ ap (λ (j : ℕ). sets (sets (replicate maxListing 0) 0 (x .written)) j
-                  (labelOf s at ∷ arityOf s at ∷ [])) i
-                  ∙ ap (λ (j : ℕ). set (set (sets (replicate maxListing 0) 0 (x .written)) (nodeBytes * nodes)
-                  (labelOf s at)) j (arityOf s at)) z)
+                  ∙ sym (sets-append (x .written) own (replicate maxListing 0) 0
+                  ∙ ap (λ (j : ℕ). sets (sets (replicate maxListing 0) 0 (x .written)) j own) i
+                  ∙ ap (λ (j : ℕ). set (sets (sets (replicate maxListing 0) 0 (x .written)) (nodeBytes * nodes) label) j
+                  (arityOf s at)) z)
 
               lists-next : (T : ℕ → ℕ → Tree) → Grows w s c n T → listing (T q k) ≡
-                  (x .written ++ (labelOf s at ∷ arityOf s at ∷ [])) ++
+                  (x .written ++ own) ++
                   listings (treesFrom T qs' ks' top' (maxNodes - top'))
               lists-next T G =
                   next-lists T G
-                  ∙ sym (append-assoc (x .written) (labelOf s at ∷ arityOf s at ∷ [])
+                  ∙ sym (append-assoc (x .written) own
                   (listings (children T) ++ listings (later T)))
-                  ∙ ap (λ (l : List ℕ). (x .written ++ (labelOf s at ∷ arityOf s at ∷ [])) ++ l)
+                  ∙ ap (λ (l : List ℕ). (x .written ++ own) ++ l)
                   (sym (ap listings together ∙ listings-both (children T) (later T)))
                 where
                   together : treesFrom T qs' ks' top' (maxNodes - top') ≡ children T ⧺ later T

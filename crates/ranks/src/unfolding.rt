@@ -4,9 +4,11 @@
 ghost use mathlib.Core.Path.{_≡_};
 ghost use Prim.Native.Nat.{_*_, _+_, _<_, _≤_, ℕ};
 ghost use lib.ListN.{length, replicate, set};
+ghost use lib.Seq.{sets};
 ghost use Rattle.automata.specs.Totals.{productOver};
 ghost use Rattle.fields.specs.Fields.{HoldsTransitionsOver, Readable};
-ghost use Rattle.format.specs.Format.{byteValues, labelBytes, maxArity, maxLabel, maxListing, maxNodes, nodeBytes};
+ghost use Rattle.format.specs.Format.{byteValues, labelBytes, labelWritten, maxArity, maxLabel, maxListing};
+ghost use Rattle.format.specs.Format.{maxNodes, nodeBytes};
 ghost use Rattle.table.specs.Layout.{arityOf, transitionAt};
 ghost use Rattle.totals.specs.Numbers.{numberIn};
 ghost use Rattle.trees.specs.Tree.{Tree};
@@ -23,6 +25,8 @@ use format::MAX_LISTING;
 use format::MAX_NODES;
 use format::NODE_BYTES;
 use format::TRANSITION_BYTES;
+use format::label_high;
+use format::label_low;
 use format::wide;
 use totals::SLOTS;
 
@@ -32,10 +36,11 @@ fn put_node(bytes: &mut [u8; MAX_LISTING], node: usize, label: u16, arity: usize
     requires { ⌜ node < maxNodes ⌝ }
     requires { ⌜ label ≤ maxLabel ⌝ }
     requires { ⌜ arity ≤ maxArity ⌝ }
-    ensures { λ _. ⌜ now (bytes .exit) ≡
-        set (set (now (bytes .entry)) (nodeBytes * node) label) (nodeBytes * node + labelBytes) arity ⌝ }
+    ensures { λ _. ⌜ now (bytes .exit) ≡ set (sets (now (bytes .entry)) (nodeBytes * node) (labelWritten label))
+        (nodeBytes * node + labelBytes) arity ⌝ }
 {
-    bytes[NODE_BYTES * node] = label as u8;
+    bytes[NODE_BYTES * node] = label_high(label);
+    bytes[NODE_BYTES * node + 1] = label_low(label);
     bytes[NODE_BYTES * node + LABEL_BYTES] = arity as u8;
 }
 

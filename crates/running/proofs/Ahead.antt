@@ -5,12 +5,13 @@ use Prim.Native.Nat.{_*_, _+_, _-_, _<_, _≤_, suc, ℕ}
 use native.Mathlib.Omega.{arith}
 use lib.ListN.{drop, getD, length, length-append}
 use lib.Seq.{drop-at}
-use Rattle.format.specs.Format.{labelBytes, maxArity, maxNodes, nodeBytes}
+use Rattle.format.specs.Format.{labelBytes, labelWritten, maxArity, maxNodes, nodeBytes}
 use Rattle.running.specs.Running.{Ahead}
 use Rattle.trees.specs.Legal.{AllLegal, Legal, LegalNode}
-use Rattle.trees.specs.Listing.{firstTree, firstTrees, listing, listings, readTree, readTrees}
+use Rattle.trees.specs.Listing.{firstTree, firstTrees, labelAt, listing, listings, readTree, readTrees}
 use Rattle.trees.specs.Preorder.{preorder, preorders}
 use Rattle.trees.specs.Tree.{Forest, Tree, cons, count, nil, node}
+use Rattle.format.proofs.Labels.{from-written}
 use Rattle.lists.proofs.Parts.{part, part-drop, part-length}
 use Rattle.trees.proofs.Forests.{first-whole}
 use Rattle.trees.proofs.Listing.{read-trees}
@@ -117,10 +118,10 @@ module _ {s : List ℕ} {at : ℕ} (v : Ahead s 1 at) where
   pub record Root : Type 0 where
     pub children : Forest
     pub rest : List ℕ
-    pub label : LegalNode (getD s 0 0) (count children)
+    pub label : LegalNode (labelAt s 0) (count children)
     pub below : AllLegal children
-    pub bytes : s ≡ getD s 0 0 ∷ count children ∷ (listings children ++ rest)
-    pub reads : readTree s ≡ node (getD s 0 0) children
+    pub bytes : s ≡ labelWritten (labelAt s 0) ++ (count children ∷ (listings children ++ rest))
+    pub reads : readTree s ≡ node (labelAt s 0) children
 
   root : Root
   root = go (split v) (split v .tree) (split v .legal) (split v .bytes) (split v .reads)
@@ -128,18 +129,19 @@ module _ {s : List ℕ} {at : ℕ} (v : Ahead s 1 at) where
       go : (w : Split s 0) (t : Tree) → Legal t → s ≡ listing t ++ (listings (w .others) ++ w .rest) →
           readTree s ≡ t → Root
       go w (node a f) l e r =
-          let d : getD s 0 0 ≡ a = ap (λ b. getD b 0 0) e in
+          let d : labelAt s 0 ≡ a = ap (λ b. labelAt b 0) e ∙ from-written a in
           record {
             children = f;
             rest = listings (w .others) ++ w .rest;
             label = subst (λ b. LegalNode b (count f)) (sym d) (l .0);
             below = l .1;
-            bytes = e ∙ ap (λ b. b ∷ count f ∷ (listings f ++ (listings (w .others) ++ w .rest))) (sym d);
+            bytes = e ∙ ap (λ b. labelWritten b ++ (count f ∷ (listings f ++ (listings (w .others) ++ w .rest)))) (sym
+                d);
             reads = r ∙ ap (λ b. node b f) (sym d);
           }
 
   arity-count : getD s labelBytes 0 ≡ count (root .children)
-  arity-count = ap (λ b. getD b 1 0) (root .bytes)
+  arity-count = ap (λ b. getD b labelBytes 0) (root .bytes)
 
   pub root-size : nodeBytes ≤ length s
   root-size = omega (arith, ap length (root .bytes))
@@ -162,9 +164,9 @@ module _ {s : List ℕ} {at : ℕ} (v : Ahead s 1 at) where
       room = omega (arith, part-length s nodeBytes, root-size, v .room);
     }
 
-    pub root-reads : readTree s ≡ node (getD s 0 0) (firstTrees k (readTrees (part s nodeBytes)))
+    pub root-reads : readTree s ≡ node (labelAt s 0) (firstTrees k (readTrees (part s nodeBytes)))
     unfolding children-ahead
-    root-reads = root .reads ∙ ap (node (getD s 0 0)) (sym (ahead-first children-ahead))
+    root-reads = root .reads ∙ ap (node (labelAt s 0)) (sym (ahead-first children-ahead))
 
 -- the nodes of a tree ahead have their rows and bytes
 pub few-nodes : {s : List ℕ} → Ahead s 1 0 → length (preorder (readTree s)) ≤ maxNodes

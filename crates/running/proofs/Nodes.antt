@@ -18,7 +18,7 @@ use Rattle.lists.specs.Tests.{_∈_, any}
 use Rattle.running.specs.Running.{Ahead, Steps, childStates, over, ranTo}
 use Rattle.running.specs.declared.Ran.the-variants.{Nothing, State}
 use Rattle.table.specs.Layout.{transitionsIn}
-use Rattle.trees.specs.Listing.{firstTrees, readTree, readTrees}
+use Rattle.trees.specs.Listing.{firstTrees, labelAt, readTree, readTrees}
 use Rattle.trees.specs.Preorder.{preorder, preorders}
 use Rattle.trees.specs.Tree.{Tree, node}
 use Rattle.automata.proofs.NodeStates.{node-states-length, states-cons, states-nil, states-node}
@@ -85,7 +85,7 @@ module _ {s : List ℕ} {at : ℕ} (v : Ahead s 1 at) (k : ℕ) (e : k ≡ getD 
   root-nodes d = rw (root-reads v k e) (omega (arith, d))
 
   module _ (τs : List ℕ) (n : ℕ) where
-    pub root-run : {q a : ℕ} {qs : List ℕ} → q ≡ step (over τs n) a qs → a ≡ getD s 0 0 →
+    pub root-run : {q a : ℕ} {qs : List ℕ} → q ≡ step (over τs n) a qs → a ≡ labelAt s 0 →
         qs ≡ childStates τs n (part s nodeBytes) k → q ≡ run (over τs n) (readTree s)
     root-run h label row = h ∙ ap₂ (step (over τs n)) label row ∙ ap (run (over τs n)) (sym (root-reads v k e))
 

@@ -9,10 +9,12 @@ use lib.Seq.{getD-drop}
 use borrow.Author.Tests.{le-ltb, lt-ltb, ne-eqb}
 use Rattle.lists.specs.Tests.{bit}
 use Rattle.automata.specs.Automaton.{Automaton, Transition, accepting, states}
-use Rattle.format.specs.Format.{argsAt, countAt, headBytes, labelBytes, maxArity, maxStates, maxTransitions, outAt}
+use Rattle.format.specs.Format.{argsAt, countAt, headBytes, labelBytes, labelFrom, maxArity, maxStates, maxTransitions}
+use Rattle.format.specs.Format.{outAt}
 use Rattle.format.specs.Format.{tableBytes, transitionBytes}
 use Rattle.table.specs.Layout.{argOf, arityOf, blank, body, bodyByte, byteAt, encode, labelOf, outOf}
 use Rattle.table.specs.Layout.{stateCount, transitionByte, transitionCount}
+use Rattle.format.proofs.Labels.{from-written}
 use Rattle.lists.proofs.Intervals.{getD-tabulated, length-tabulated}
 
 -- what holds of each branch of a choice, if it is taken, holds of the choice
@@ -91,7 +93,8 @@ module _ (A : Automaton) (i : ℕ) (h : i < maxTransitions) where
   pub encode-label : labelOf (body (encode A)) (transitionBytes * i) ≡ getD (A .transitions) i blank .label
   encode-label =
       let e : transitionBytes * i ≡ transitionBytes * i + 0 = omega arith in
-      ap (λ (j : ℕ). getD (body (encode A)) j 0) e ∙ encode-field A i 0 h (omega arith)
+      ap₂ labelFrom (ap (λ (j : ℕ). getD (body (encode A)) j 0) e ∙ encode-field A i 0 h (omega arith))
+      (encode-field A i 1 h (omega arith)) ∙ from-written (getD (A .transitions) i blank .label)
 
   pub encode-arity : arityOf (body (encode A)) (transitionBytes * i) ≡ length (getD (A .transitions) i blank .args)
   encode-arity = encode-field A i labelBytes h (omega arith)

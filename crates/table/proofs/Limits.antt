@@ -7,18 +7,19 @@ use Prim.Native.Nat.{_%_, _*_, _+_, _-_, _/_, _<_, _≤_, suc, zero, ℕ}
 use native.Mathlib.Omega.{arith}
 use lib.Dec.{eqb, ltb}
 use lib.ListN.{List·getD-eq-default, getD, length}
-use lib.Seq.{getD-drop}
 use borrow.Author.Tests.{ltb-false, ltb-true}
 use Rattle.automata.specs.Automaton.{Automaton, Transition, accepting, states}
 use Rattle.automata.specs.Valid.{inRange, statesInRange}
-use Rattle.format.specs.Format.{AllBytes, argsAt, countAt, headBytes, labelBytes, maxTransitions, outAt, tableBytes}
-use Rattle.format.specs.Format.{transitionBytes}
+use Rattle.format.specs.Format.{AllBytes, argsAt, countAt, headBytes, labelBytes, labelWritten, maxLabel}
+use Rattle.format.specs.Format.{maxTransitions, outAt, tableBytes, transitionBytes}
 use Rattle.lists.specs.Positions.{upFrom}
 use Rattle.lists.specs.Tests.{_∈_, bit, every}
 use Rattle.table.specs.Intake.{WithinLimits}
 use Rattle.table.specs.Layout.{argOf, arityOf, blank, body, byteAt, decode, encode, layoutFits}
 use Rattle.table.specs.Layout.{nthTransition, outOf, stateCount, transitionAt, transitionByte, transitionCount}
 use Rattle.trees.specs.Legal.{LegalNode}
+use Rattle.format.proofs.Bytes.{drop-bytes}
+use Rattle.format.proofs.Labels.{from-most}
 use Rattle.automata.proofs.Valid.{InRange, range-in, ranged-transition}
 use Rattle.lists.proofs.Intervals.{getD-in, length-tabulated, tabulated-in}
 use Rattle.lists.proofs.Tests.{and-both, in-every}
@@ -29,9 +30,6 @@ use Rattle.table.proofs.Laid.{Laid, LaidTransition, laid-layout, layout
 use Rattle.table.proofs.RoundTrip.{blank-byte, nth-legal}
 
 -- ---- what a table in the layout holds
-
-pub body-bytes : (b : List ℕ) → AllBytes b → AllBytes (body b)
-body-bytes b h i = rw (getD-drop headBytes b i 0) (h (headBytes + i))
 
 -- arguments and output of a transition are states, n being their number
 abbrev StatesBelow : ℕ → Transition → Type 0
@@ -72,9 +70,10 @@ module _ (b : List ℕ) (laid : Laid b) where
       legal τ (i, h, e) =
           let l = laid .transitions i h in
           let at = transitionBytes * i in
+          let bytes′ = drop-bytes headBytes b bytes in
           subst (λ (υ : Transition). LegalNode (υ .label) (length (υ .args))) (sym e)
           record {
-            label = (l .label, omega (arith, body-bytes b bytes at));
+            label = (l .label, from-most _ _ (bytes′ at) (bytes′ (at + 1)));
             arity = omega (arith, length-tabulated (argOf (body b) at) 0 (arityOf (body b) at), l .arity);
           }
 
@@ -85,6 +84,11 @@ pub layout-in-range : (b : List ℕ) → layoutFits b ≡ true → statesInRange
 layout-in-range b fits = laid-in-range b (layout-laid b fits)
 
 -- ---- the table of an automaton
+
+label-byte : (a r : ℕ) → a ≤ maxLabel → getD (labelWritten a) r 0 < 256
+label-byte a zero h = omega arith
+label-byte a (suc zero) h = omega arith
+label-byte a (suc (suc r)) h = omega arith
 
 bit-bound : (t : Bool) → bit t ≤ 1
 bit-bound true = omega arith
@@ -161,7 +165,7 @@ module _ (A : Automaton) (within : WithinLimits A) (ranged : statesInRange A ≡
       go true e =
           let h = ltb-true i (length (A .transitions)) e in
           let legal = nth-legal A within i h in
-          cond-all (λ x. x < 256) (ltb r labelBytes) (λ _. omega (arith, legal .label))
+          cond-all (λ x. x < 256) (ltb r labelBytes) (λ _. label-byte (nth i .label) r (legal .label .1))
           (λ _. cond-all (λ x. x < 256) (ltb r argsAt) (λ _. omega (arith, legal .arity))
           (λ _. cond-all (λ x. x < 256) (ltb r outAt) (λ _. arg-byte i (r - argsAt) h)
           (λ _. omega (arith, nth-range i h .out, within .states))))

@@ -1,7 +1,7 @@
 -- An automaton within the limits is what its table holds, and a table in the layout is that of the automaton it
 -- holds.
 use mathlib.Core.Bool.{Bool, false, true}
-use mathlib.Core.List.{List, map}
+use mathlib.Core.List.{List, [], _∷_, map}
 use mathlib.Core.Path.{_∙_, _≡_, ap, refl, sym}
 use Prim.Native.Nat.{_%_, _*_, _+_, _-_, _/_, _<_, _≤_, suc, zero, ℕ}
 use native.Mathlib.Omega.{arith}
@@ -11,14 +11,16 @@ use lib.Seq.{ext-getD, getD-drop}
 use borrow.Author.Tests.{eqb-false, eqb-true, leb-false, leb-true, ltb-false, ltb-true}
 use Rattle.lists.specs.Tests.{bit}
 use Rattle.automata.specs.Automaton.{Automaton, Transition, accepting, states}
-use Rattle.format.specs.Format.{AllBytes, argsAt, countAt, headBytes, labelBytes, maxArity, maxStates}
-use Rattle.format.specs.Format.{maxTransitions, outAt, tableBytes, transitionBytes}
+use Rattle.format.specs.Format.{AllBytes, argsAt, countAt, headBytes, labelBytes, labelWritten, maxArity}
+use Rattle.format.specs.Format.{maxStates, maxTransitions, outAt, tableBytes, transitionBytes}
 use Rattle.lists.specs.Positions.{upFrom}
 use Rattle.table.specs.Intake.{WithinLimits}
 use Rattle.table.specs.Layout.{argOf, arityOf, blank, body, bodyByte, byteAt, classAt, decode, encode}
 use Rattle.table.specs.Layout.{layoutFits, nthTransition, stateCount, transitionAt, transitionByte}
 use Rattle.table.specs.Layout.{transitionCount, transitionsIn}
 use Rattle.trees.specs.Legal.{LegalNode}
+use Rattle.format.proofs.Bytes.{drop-bytes}
+use Rattle.format.proofs.Labels.{written-from}
 use Rattle.lists.proofs.Intervals.{getD-in, getD-tabulated, getD-tabulated-beyond, length-tabulated, tabulated}
 use Rattle.table.proofs.Bytes.{cond-is, encode-arg, encode-arity, encode-byte, encode-class, encode-count}
 use Rattle.table.proofs.Bytes.{encode-label, encode-length, encode-out, encode-states}
@@ -83,16 +85,23 @@ bit-byte zero h = refl
 bit-byte (suc zero) h = refl
 bit-byte (suc (suc x)) h = absurd (omega arith)
 
+blank-label : (r : ℕ) → getD (labelWritten (blank .label)) r 0 ≡ 0
+blank-label zero = refl
+blank-label (suc zero) = refl
+blank-label (suc (suc r)) = refl
+
 pub blank-byte : (r : ℕ) → transitionByte blank r ≡ 0
 blank-byte r =
-    cond-is (ltb r labelBytes) (λ _. refl) (λ _. cond-is (ltb r argsAt) (λ _. refl)
+    cond-is (ltb r labelBytes) (λ _. blank-label r) (λ _. cond-is (ltb r argsAt) (λ _. refl)
     (λ _. cond-is (ltb r outAt) (λ _. refl) (λ _. refl)))
 
 -- byte r of a transition is the byte that it was read from
-pub transition-byte : (s : List ℕ) (n at : ℕ) → LaidTransition s n at → (r : ℕ) → r < transitionBytes →
+pub transition-byte : (s : List ℕ) (n at : ℕ) → AllBytes s → LaidTransition s n at → (r : ℕ) → r < transitionBytes →
     transitionByte (transitionAt s at) r ≡ getD s (at + r) 0
-transition-byte s n at l r h =
-    cond-is (ltb r labelBytes) (λ e. same at (omega (arith, ltb-true r labelBytes e)))
+transition-byte s n at bytes l r h =
+    cond-is (ltb r labelBytes) (λ e.
+    ap (λ w. getD w r 0) (written-from (getD s at 0) (getD s (at + 1) 0) (bytes (at + 1)))
+    ∙ label r (ltb-true r labelBytes e))
     (λ e. cond-is (ltb r argsAt)
     (λ f. length-tabulated (argOf s at) 0 (arityOf s at)
     ∙ same (at + labelBytes) (omega (arith, ltb-false r labelBytes e, ltb-true r argsAt f)))
@@ -103,6 +112,11 @@ transition-byte s n at l r h =
   where
     same : (x : ℕ) → x ≡ at + r → getD s x 0 ≡ getD s (at + r) 0
     same x e = ap (λ (y : ℕ). getD s y 0) e
+
+    label : (j : ℕ) → j < labelBytes → getD (getD s at 0 ∷ getD s (at + 1) 0 ∷ []) j 0 ≡ getD s (at + j) 0
+    label zero m = let z : at + 0 ≡ at = omega arith in rw z
+    label (suc zero) m = refl
+    label (suc (suc j)) m = absurd (omega arith)
 
     arg : (k : ℕ) (t : Bool) → ltb k (arityOf s at) ≡ t → k < maxArity →
         getD (map (argOf s at) (upFrom 0 (arityOf s at))) k 0 ≡ argOf s at k
@@ -136,7 +150,7 @@ module _ (b : List ℕ) (bytes : AllBytes b) (long : length b ≡ tableBytes) (l
           ap (λ (τ : Transition). transitionByte τ (j % transitionBytes))
           (decoded-nth b (j / transitionBytes) blank k)
           ∙ transition-byte (body b) (stateCount b) (transitionBytes * (j / transitionBytes))
-          (laid .transitions (j / transitionBytes) k) (j % transitionBytes) (omega arith)
+          (drop-bytes headBytes b bytes) (laid .transitions (j / transitionBytes) k) (j % transitionBytes) (omega arith)
           ∙ ap (λ (x : ℕ). getD (body b) x 0) d
       go false e =
           let k = ltb-false (j / transitionBytes) (transitionCount b) e in

@@ -4,15 +4,14 @@ use mathlib.Core.List.{List, [], _++_, _∷_, append-assoc}
 use mathlib.Core.Logic.{_⊎_, inl, inr}
 use mathlib.Core.Path.{_∙_, _≡_, ap, refl, subst, sym}
 use Prim.Native.Nat.{_*_, _+_, _-_, _<_, _≤_, suc, ℕ}
-use native.Mathlib.Numerals.{add-one}
 use native.Mathlib.Omega.{arith}
 use lib.Dec.{ltb}
-use lib.ListN.{drop, getD, length, length-append, length-drop, length-set, set, take-append-drop}
+use lib.ListN.{drop, getD, length, length-append, length-drop, set, take-append-drop}
 use lib.Seq.{drop-cons, drop-drop, getD-drop, length-sets, length-take-le, sets}
 use mir.Syntax.{w64}
 use mir.Val.{Fits}
 use borrow.Author.Tests.{eq-eqb, ltb-false, ltb-true, ne-eqb}
-use Rattle.format.specs.Format.{labelBytes, listingBytes, maxLabel, nodeBytes}
+use Rattle.format.specs.Format.{labelBytes, labelWritten, listingBytes, maxLabel, maxLine, nodeBytes}
 use Rattle.text.specs.Contracts.{ChildrenRead, ChildrenText, LabelRead, LabelTo, NoChildren, ReaderAt, TreeRead}
 use Rattle.text.specs.Contracts.{readFrom}
 use Rattle.text.specs.Columns.{Ahead, OnLine, advanced}
@@ -35,14 +34,18 @@ pub label-small : (s : List ℕ) (r : Label) → LabelRead s r → (a i : ℕ) �
 unfolding LabelRead
 label-small s r x a i z = (rw z at x) .0 .fits
 
+pub label-place : (s : List ℕ) (c : Cursor) (l : List ℕ) (at : ℕ) → ReaderAt s c l at → at ≤ nodeBytes * maxLine
+label-place s c l at x = omega (arith, x .room, x .line .within, x .line .short)
+
 -- the table keeps its size
 pub tree-size-kept : (s : List ℕ) (c : Cursor) (l : List ℕ) (at : ℕ) → ReaderAt s c l at → (a : ℕ) (m : List ℕ) →
-    m ≡ set l at a → (d : Cursor) (i : ℕ) (n : List ℕ) (r : TreesRead) → ChildrenRead s d m i n r →
+    m ≡ sets l at (labelWritten a) → (d : Cursor) (i : ℕ) (n : List ℕ) (r : TreesRead) → ChildrenRead s d m i n r →
     (k : ℕ) (e : Cursor) (u : ℕ) → r ≡ Trees k e u → length n ≡ listingBytes
 unfolding ChildrenRead
 tree-size-kept s c l at x a m w d i n r y k e u z =
     let v : ChildrenText s d m i n k e u = rw z at y in
-    ap length (v .written) ∙ length-sets m i (listings (v .trees)) ∙ ap length w ∙ length-set l at a ∙ x .size
+    ap length (v .written) ∙ length-sets m i (listings (v .trees)) ∙ ap length w ∙ length-sets l at (labelWritten a) ∙
+    x .size
 
 -- after a label that does not go on children are read as after a child
 naming-among : (r : List ℕ) (k n a : ℕ) (os : List Open) → extends a (getD r 0 0) ≡ false →
@@ -141,9 +144,9 @@ module _ (s : List ℕ) (c : Cursor) (l : List ℕ) (at : ℕ) (x : ReaderAt s c
                 (λ n. scan-label os a (label .0 .fits) (drop (e .place) s) n) ∙
                 naming-among (drop (e .place) s) (suc (length s)) (e .column) a os v
 
-            module _ (m : List ℕ) (w : m ≡ set l at a) where
+            module _ (m : List ℕ) (w : m ≡ sets l at (labelWritten a)) where
               size-set : length m ≡ length l
-              size-set = ap length w ∙ length-set l at a
+              size-set = ap length w ∙ length-sets l at (labelWritten a)
 
               pub children-ready : (t : ℕ) → length s - c .place ≡ t →
                   (length s - e .place < t) × ReaderAt s e m (at + nodeBytes)
@@ -178,7 +181,8 @@ module _ (s : List ℕ) (c : Cursor) (l : List ℕ) (at : ℕ) (x : ReaderAt s c
                       let y' = closeBracket ∷ [] in
                       let p' = append-assoc (labelText a) (t ++ y') (drop (f .place) s) in
                       let q' = append-assoc t y' (drop (f .place) s) in
-                      let k' : at + nodeBytes ≡ suc (suc at) = omega arith in
+                      let j' : at + labelBytes ≡ suc (suc at) = omega arith in
+                      let k' : at + nodeBytes ≡ suc (suc (suc at)) = omega arith in
                       let l1 = length-append (labelText a) (t ++ y') in
                       let l2 = length-append t y' in
                       let a' = rest .after in
@@ -197,5 +201,5 @@ module _ (s : List ℕ) (c : Cursor) (l : List ℕ) (at : ℕ) (x : ReaderAt s c
                             i' ∙ ap (λ r. set r (at + labelBytes) b) (rest .written) ∙
                             set-sets m (at + labelBytes) b (at + nodeBytes) (listings fs) (omega arith) ∙
                             (λ v. sets (set (w v) (at + labelBytes) (rest .number v)) (at + nodeBytes) (listings fs)) ∙
-                            rw (add-one at, k');
+                            rw (j', k');
                       }

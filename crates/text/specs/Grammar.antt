@@ -48,7 +48,7 @@ commandText c t = head c ++ (treeText t ++ (closeBracket ∷ []))
 abbrev pub totalText : List ℕ
 totalText = openBracket ∷ 116 ∷ 111 ∷ 116 ∷ 97 ∷ 108 ∷ closeBracket ∷ []
 
--- no label of a tree is above the largest, which is 255
+-- no label of a tree is above the largest, which is 65,535
 abbrev mutual
   pub Labelled : Tree → Type 0
   Labelled (node a f) = (a ≤ maxLabel) × AllLabelled f

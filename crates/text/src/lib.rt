@@ -1,9 +1,10 @@
 // Lines of the bench program: a line of text to a command and the listing of its tree. The readers hold a text cursor
 // and step it over every byte that they accept; the column of a malformed line is what the cursor then says.
 ghost use mathlib.Core.Path.{_≡_};
-ghost use Prim.Native.Nat.{_-_, _≤_};
+ghost use Prim.Native.Nat.{_*_, _-_, _≤_};
 ghost use lib.ListN.{length, set};
-ghost use Rattle.format.specs.Format.{listingBytes, maxLabel, maxLine};
+ghost use lib.Seq.{sets};
+ghost use Rattle.format.specs.Format.{labelWritten, listingBytes, maxLabel, maxLine, nodeBytes};
 ghost use Rattle.lists.specs.Decimal.{digit};
 ghost use Rattle.text.specs.Contracts.{ChildrenRead, FormRead, LabelRead, LineEnd, ReaderAt, TotalRead, TreeRead};
 ghost use Rattle.text.specs.Contracts.{shortestHead};
@@ -19,6 +20,8 @@ use format::LISTING_BYTES;
 use format::MAX_LABEL;
 use format::MAX_LINE;
 use format::NODE_BYTES;
+use format::label_high;
+use format::label_low;
 
 mod cursor; // cursor.rt: a place in a line and its column
 
@@ -126,10 +129,12 @@ fn put(listing: &mut [u8; LISTING_BYTES], i: usize, value: u8)
 // Stores the label of a node whose listing starts at byte `at`.
 fn put_label(listing: &mut [u8; LISTING_BYTES], at: usize, value: u16)
     requires { ⌜ length (now listing) ≡ listingBytes ⌝ }
+    requires { ⌜ at ≤ nodeBytes * maxLine ⌝ }
     requires { ⌜ value ≤ maxLabel ⌝ }
-    ensures { λ _. ⌜ now (listing .exit) ≡ set (now (listing .entry)) at value ⌝ }
+    ensures { λ _. ⌜ now (listing .exit) ≡ sets (now (listing .entry)) at (labelWritten value) ⌝ }
 {
-    put(listing, at, value as u8);
+    put(listing, at, label_high(value));
+    put(listing, at + 1, label_low(value));
 }
 
 // Reads the tree at the cursor, and writes its listing from byte `at` on.

@@ -4,7 +4,7 @@ use mathlib.Core.Bool.{_&&_, not, true}
 use mathlib.Core.List.{List, []}
 use mathlib.Core.Logic.{_↔_}
 use mathlib.Core.Path.{_≡_, ap, refl, subst, sym}
-use Prim.Native.Nat.{_%_, _*_, _<_, _≤_, ℕ}
+use Prim.Native.Nat.{_%_, _*_, _+_, _<_, _≤_, ℕ}
 use native.Mathlib.Omega.{arith}
 use lib.Dec.{eqb, leb}
 use lib.ListN.{length, length-append}
@@ -18,11 +18,12 @@ use Rattle.trees.specs.Listing.{allLabelled, allNarrow, childrenAt, firs
 use Rattle.trees.specs.Listing.{listingConditions, listingRefusal, listings, narrow, nodesIn, oneTree}
 use Rattle.trees.specs.Listing.{readTree, readTrees, wholeNodes}
 use Rattle.trees.specs.Tree.{Forest, Tree, cons, count, nil, node}
+use Rattle.format.proofs.Labels.{from-most}
 use Rattle.lists.proofs.Conditions.{AllHold, FromOne, hold-unbroken, unbroken-hold}
 use Rattle.lists.proofs.Positions.{in-upFrom, upFrom-in}
 use Rattle.lists.proofs.Tests.{and-both, and-left, and-right, every-in, in-every}
 use Rattle.trees.proofs.Listing.{LegalAt, LegalNodes, append-none, index-nodes, listing-one, listing-read}
-use Rattle.trees.proofs.Listing.{listings-read, nodes-index, read-legal, tree-nodes}
+use Rattle.trees.proofs.Listing.{nodes-index, read-count, read-legal, tree-nodes}
 
 pub listing-from-one : (s : List ℕ) → FromOne (listingConditions s)
 unfolding listingConditions
@@ -40,14 +41,13 @@ node-legal s b l n i h =
     let p = eqb-false (labelAt s i) 0 (not-true (eqb (labelAt s i) 0) (every-in (labelled s) (upFrom 0 (nodesIn s))
     l i there)) in
     let q = leb-true (childrenAt s i) maxArity (every-in (narrow s) (upFrom 0 (nodesIn s)) n i there) in
-    let small = b (nodeBytes * i) in
-    record { label = (omega arith, omega arith); arity = q }
+    record { label = (omega arith, from-most _ _ (b (nodeBytes * i)) (b (nodeBytes * i + 1))); arity = q }
 
 -- what passes 1 to 4 lists a legal tree, and that tree is the one that is read
 pub passed-legal : (s : List ℕ) → AllBytes s → AllHold (listingConditions s) → Legal (readTree s)
 unfolding listingConditions oneTree
 passed-legal s b (w, (l, (n, (o, u)))) =
-    first-legal-tree (readTrees s) (listings-read s 1 o .1)
+    first-legal-tree (readTrees s) (read-count s 1 o)
     (read-legal s 1 o (index-nodes s (node-legal s b l n)))
 
 legal-nodes : (t : Tree) → Legal t → LegalNodes (listing t)
@@ -92,7 +92,7 @@ listing-iff s b = (to, from)
       where
         go : AllHold (listingConditions s) → ListsLegal s
         go h =
-            let l = listing-read s (h .1 .1 .1 .0) in
+            let l = listing-read s b (h .1 .1 .1 .0) in
             record {
               tree = readTree s;
               legal = passed-legal s b h;

@@ -18,7 +18,7 @@ use Rattle.trees.specs.Tree.{AllTrees, Forest, Tree, _⧺_, cons, nil, n
 use Rattle.lists.proofs.Conditions.{unbroken-hold}
 use Rattle.lists.proofs.Tests.{and-left, and-right, append-in}
 use Rattle.trees.proofs.Forests.{first-later}
-use Rattle.trees.proofs.Listing.{listing-read, read-trees}
+use Rattle.trees.proofs.Listing.{listing-length, read-trees}
 use Rattle.trees.proofs.ListingRefusal.{listing-from-one}
 
 -- ---- how many
@@ -50,13 +50,17 @@ preorders-append (cons t f) g =
 pub preorders-read : (s : List ℕ) (i : ℕ) → getD (preorders (readTrees s)) i noTree ≡ readTree (drop (nodeBytes *
     i) s)
 preorders-read [] i = rw (drop-nil (nodeBytes * i))
-preorders-read (a ∷ []) zero = refl
-preorders-read (a ∷ []) (suc i) =
-    let e : nodeBytes * suc i ≡ suc (suc (nodeBytes * i)) = omega arith in
+preorders-read (h ∷ []) zero = refl
+preorders-read (h ∷ []) (suc i) =
+    let e : nodeBytes * suc i ≡ suc (suc (suc (nodeBytes * i))) = omega arith in
+    rw e (ap readTree (sym (drop-nil (suc (suc (nodeBytes * i))))))
+preorders-read (h ∷ l ∷ []) zero = refl
+preorders-read (h ∷ l ∷ []) (suc i) =
+    let e : nodeBytes * suc i ≡ suc (suc (suc (nodeBytes * i))) = omega arith in
     rw e (ap readTree (sym (drop-nil (suc (nodeBytes * i)))))
-preorders-read (a ∷ c ∷ s) zero = refl
-preorders-read (a ∷ c ∷ s) (suc i) =
-    let e : nodeBytes * suc i ≡ suc (suc (nodeBytes * i)) = omega arith in
+preorders-read (h ∷ l ∷ c ∷ s) zero = refl
+preorders-read (h ∷ l ∷ c ∷ s) (suc i) =
+    let e : nodeBytes * suc i ≡ suc (suc (suc (nodeBytes * i))) = omega arith in
     rw e
     (ap (λ l. getD l i noTree)
     (sym (preorders-append (firstTrees c (readTrees s)) (laterTrees c (readTrees s)))
@@ -71,6 +75,14 @@ preorder-at t i =
     ap (λ l. getD l i noTree) (sym (append-nil (preorder t)) ∙ ap preorders (sym whole))
     ∙ preorders-read (listing t) i
 
+-- the same of bytes that list one tree
+pub preorder-read : (s : List ℕ) → readTrees s ≡ cons (readTree s) nil → (i : ℕ) →
+    readTree (drop (nodeBytes * i) (listing (readTree s))) ≡ readTree (drop (nodeBytes * i) s)
+preorder-read s whole i =
+    sym (preorder-at (readTree s) i)
+    ∙ ap (λ l. getD l i noTree) (sym (append-nil (preorder (readTree s))) ∙ ap preorders (sym whole))
+    ∙ preorders-read s i
+
 -- the subtree at a place, which counts from 1
 pub place-read : (t : Tree) (k : ℕ) → readTree (drop (nodeBytes * (k - 1)) (listing t)) ≡ subtreeAt t k
 place-read t k = sym (preorder-at t (k - 1))
@@ -82,7 +94,7 @@ unfolding listingRefusal listingConditions wholeNodes
 passed-nodes s e =
     let h = unbroken-hold (listingConditions s) (listing-from-one s) e in
     let short = leb-true (length s) maxListing (and-right (leb nodeBytes (length s)) _ (and-left _ _ (h .0))) in
-    omega (arith, preorder-bytes (readTree s), ap length (listing-read s (h .1 .1 .1 .0)))
+    omega (arith, preorder-bytes (readTree s), listing-length s (h .1 .1 .1 .0))
 
 -- ---- what passes to children
 

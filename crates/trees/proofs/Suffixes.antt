@@ -5,7 +5,7 @@ use mathlib.Core.Path.{_∙_, _≡_, ap, refl, sym}
 use Prim.Native.Nat.{_%_, _*_, _+_, _<_, _≤_, suc, zero, ℕ}
 use native.Mathlib.Omega.{arith}
 use lib.Dec.{leb}
-use lib.ListN.{drop, drop-of-length-le, length}
+use lib.ListN.{drop, drop-of-length-le, getD, length}
 use lib.Seq.{drop-cons}
 use borrow.Author.Tests.{eqb-true, leb-true}
 use Rattle.format.specs.Format.{labelBytes, maxArity, maxListing, maxNodes, nodeBytes}
@@ -16,7 +16,7 @@ use Rattle.trees.specs.Tree.{Forest, cons, count, nil, node}
 use Rattle.lists.proofs.Conditions.{AllHold, unbroken-hold}
 use Rattle.lists.proofs.Intervals.{every-at}
 use Rattle.lists.proofs.Tests.{and-left, and-right}
-use Rattle.trees.proofs.Listing.{listings-read}
+use Rattle.trees.proofs.Listing.{read-count}
 use Rattle.trees.proofs.ListingRefusal.{listing-from-one}
 
 -- what 1 to 4 say of a listing, by node
@@ -51,14 +51,18 @@ module _ {s : List ℕ} (ok : Passed s) where
   pub nodes-end : nodesFrom s (nodesIn s) ≡ []
   nodes-end = drop-of-length-le s {i = nodeBytes * nodesIn s} (omega (arith, ok .even))
 
-  nodes-next : (i : ℕ) → i < nodesIn s → nodesFrom s i ≡ labelAt s i ∷ childrenAt s i ∷ nodesFrom s (i + 1)
+  -- a byte, and the bytes after it
+  byte-next : (k n : ℕ) → k < length s → n ≡ suc k → drop k s ≡ getD s k 0 ∷ drop n s
+  byte-next k n h e = drop-cons s k 0 h ∙ ap (λ m. getD s k 0 ∷ drop m s) (sym e)
+
+  nodes-next : (i : ℕ) → i < nodesIn s → nodesFrom s i ≡
+      getD s (nodeBytes * i) 0 ∷ getD s (nodeBytes * i + 1) 0 ∷ childrenAt s i ∷ nodesFrom s (i + 1)
   nodes-next i h =
-      let p : suc (nodeBytes * i) ≡ nodeBytes * i + labelBytes = omega arith in
-      let q : suc (nodeBytes * i + labelBytes) ≡ nodeBytes * (i + 1) = omega arith in
-      drop-cons s (nodeBytes * i) 0 (omega (arith, ok .even)) ∙
-      ap (λ (l : List ℕ). labelAt s i ∷ l)
-      (ap (λ n. drop n s) p ∙ drop-cons s (nodeBytes * i + labelBytes) 0 (omega (arith, ok .even)) ∙
-      ap (λ n. childrenAt s i ∷ drop n s) q)
+      byte-next (nodeBytes * i) (nodeBytes * i + 1) (omega (arith, ok .even)) (omega arith) ∙
+      ap (λ (l : List ℕ). getD s (nodeBytes * i) 0 ∷ l)
+      (byte-next (nodeBytes * i + 1) (nodeBytes * i + labelBytes) (omega (arith, ok .even)) (omega arith) ∙
+      ap (λ (l : List ℕ). getD s (nodeBytes * i + 1) 0 ∷ l)
+      (byte-next (nodeBytes * i + labelBytes) (nodeBytes * (i + 1)) (omega (arith, ok .even)) (omega arith)))
 
   -- a node takes its children off the trees after it
   pub read-next : (i : ℕ) → i < nodesIn s →
@@ -68,10 +72,16 @@ module _ {s : List ℕ} (ok : Passed s) where
   read-next i h = ap readTrees (nodes-next i h)
 
   -- how many trees a node's children leave to come
-  lists-next : (a c : ℕ) (r : List ℕ) (k : ℕ) → listsTrees (a ∷ c ∷ r) k ≡ true →
+  lists-next : (x y c : ℕ) (r : List ℕ) (k : ℕ) → listsTrees (x ∷ y ∷ c ∷ r) k ≡ true →
       (m : ℕ) × (listsTrees r (c + m) ≡ true)
-  lists-next a c r zero e = absurd (false≢true e)
-  lists-next a c r (suc k) e = (k, e)
+  lists-next x y c r zero e = absurd (false≢true e)
+  lists-next x y c r (suc k) e = (k, e)
+
+  lists-after : (i : ℕ) → i < nodesIn s → (k : ℕ) → listsTrees (nodesFrom s i) k ≡ true →
+      (m : ℕ) × (listsTrees (nodesFrom s (i + 1)) (childrenAt s i + m) ≡ true)
+  lists-after i h k e =
+      lists-next (getD s (nodeBytes * i) 0) (getD s (nodeBytes * i + 1) 0) (childrenAt s i) (nodesFrom s (i + 1)) k
+      (ap (λ l. listsTrees l k) (sym (nodes-next i h)) ∙ e)
 
   lists-from : (i : ℕ) → i ≤ nodesIn s → (k : ℕ) × (listsTrees (nodesFrom s i) k ≡ true)
   lists-from zero h = (1, ok .lists)
@@ -80,16 +90,14 @@ module _ {s : List ℕ} (ok : Passed s) where
       go : (k : ℕ) × (listsTrees (nodesFrom s i) k ≡ true) → (k : ℕ) × (listsTrees (nodesFrom s (suc i)) k ≡ true)
       go (k, e) =
           let z : i + 1 ≡ suc i = omega arith in
-          let r = lists-next (labelAt s i) (childrenAt s i) (nodesFrom s (i + 1)) k
-          (ap (λ l. listsTrees l k) (sym (nodes-next i (omega arith))) ∙ e) in
+          let r = lists-after i (omega arith) k e in
           (childrenAt s i + r .0, ap (λ n. listsTrees (nodesFrom s n) (childrenAt s i + r .0)) (sym z) ∙ r .1)
 
   pub children-there : (i : ℕ) → i < nodesIn s → childrenAt s i ≤ count (readTrees (nodesFrom s (i + 1)))
   children-there i h =
       let (k, e) = lists-from i (omega arith) in
-      let r = lists-next (labelAt s i) (childrenAt s i) (nodesFrom s (i + 1)) k
-      (ap (λ l. listsTrees l k) (sym (nodes-next i h)) ∙ e) in
-      omega (arith, listings-read (nodesFrom s (i + 1)) (childrenAt s i + r .0) (r .1) .1)
+      let r = lists-after i h k e in
+      omega (arith, read-count (nodesFrom s (i + 1)) (childrenAt s i + r .0) (r .1))
 
   one-forest : (f : Forest) → count f ≡ 1 → f ≡ cons (firstTree f) nil
   one-forest nil e = absurd (omega arith)
@@ -98,4 +106,4 @@ module _ {s : List ℕ} (ok : Passed s) where
 
   -- at the start there is one tree
   pub read-whole : readTrees (nodesFrom s 0) ≡ cons (readTree s) nil
-  read-whole = one-forest (readTrees s) (listings-read s 1 (ok .lists) .1)
+  read-whole = one-forest (readTrees s) (read-count s 1 (ok .lists))

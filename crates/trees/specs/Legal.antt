@@ -1,4 +1,4 @@
--- The trees that a table can hold: labels 1 to 255, at most eight children a node.
+-- The trees that a table can hold: labels 1 to 65,535, at most eight children a node.
 use mathlib.Core.List.{List}
 use mathlib.Core.Path.{_≡_}
 use Prim.Native.Nat.{_≤_, ℕ}

@@ -4,7 +4,7 @@ use mathlib.Core.List.{List, [], _++_, _∷_}
 use Prim.Native.Nat.{_%_, _*_, _+_, _/_, suc, zero, ℕ}
 use lib.Dec.{eqb, leb}
 use lib.ListN.{getD, length}
-use Rattle.format.specs.Format.{labelBytes, maxArity, maxListing, nodeBytes}
+use Rattle.format.specs.Format.{labelBytes, labelFrom, labelIn, labelWritten, maxArity, maxListing, nodeBytes}
 use Rattle.lists.specs.Conditions.{Condition, condition, firstBroken}
 use Rattle.lists.specs.Positions.{upFrom}
 use Rattle.lists.specs.Tests.{every}
@@ -13,7 +13,7 @@ use Rattle.trees.specs.Tree.{Forest, Tree, cons, count, nil, noTree, nod
 -- the listing of a tree, and the listings of a list of trees
 abbrev mutual
   pub listing : Tree → List ℕ
-  listing (node a f) = a ∷ count f ∷ listings f
+  listing (node a f) = labelWritten a ++ (count f ∷ listings f)
 
   pub listings : Forest → List ℕ
   listings nil = []
@@ -23,10 +23,12 @@ abbrev mutual
 abbrev pub listsTrees : List ℕ → ℕ → Bool
 listsTrees [] zero = true
 listsTrees [] (suc k) = false
-listsTrees (a ∷ []) zero = false
-listsTrees (a ∷ []) (suc k) = false
-listsTrees (a ∷ c ∷ s) zero = false
-listsTrees (a ∷ c ∷ s) (suc k) = listsTrees s (c + k)
+listsTrees (h ∷ []) zero = false
+listsTrees (h ∷ []) (suc k) = false
+listsTrees (h ∷ l ∷ []) zero = false
+listsTrees (h ∷ l ∷ []) (suc k) = false
+listsTrees (h ∷ l ∷ c ∷ s) zero = false
+listsTrees (h ∷ l ∷ c ∷ s) (suc k) = listsTrees s (c + k)
 
 -- the first k trees of a list of trees
 abbrev pub firstTrees : ℕ → Forest → Forest
@@ -43,8 +45,9 @@ laterTrees (suc k) (cons t f) = laterTrees k f
 -- the trees that the bytes list, read from the end: a node takes its children off the trees after it
 abbrev pub readTrees : List ℕ → Forest
 readTrees [] = nil
-readTrees (a ∷ []) = nil
-readTrees (a ∷ c ∷ s) = let f = readTrees s in cons (node a (firstTrees c f)) (laterTrees c f)
+readTrees (h ∷ []) = nil
+readTrees (h ∷ l ∷ []) = nil
+readTrees (h ∷ l ∷ c ∷ s) = let f = readTrees s in cons (node (labelFrom h l) (firstTrees c f)) (laterTrees c f)
 
 -- the first tree of a list of trees; any tree if there is none
 abbrev pub firstTree : Forest → Tree
@@ -57,7 +60,7 @@ readTree s = firstTree (readTrees s)
 
 -- the label of node i
 abbrev pub labelAt : List ℕ → ℕ → ℕ
-labelAt s i = getD s (nodeBytes * i) 0
+labelAt s i = labelIn s (nodeBytes * i)
 
 -- the child count of node i
 abbrev pub childrenAt : List ℕ → ℕ → ℕ

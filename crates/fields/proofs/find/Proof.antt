@@ -66,14 +66,14 @@ search-again-2 c =
     let start = c .before .before .before .before .before .before .before in
     let enough : start .args .arity ≤ length (start .args .t5) = omega arith in
     search-passed (c .before .before .before .before .before .search .inv) (omega arith)
-    (unlike-arity (start .args .transitions .now) (11 * c .before .before .before .before .before .search .i)
-    (start .args .label) (start .args .arity) (start .args .t5) enough
+    (unlike-arity (start .args .transitions .now) (transitionBytes * c .before .before .before .before .before .search
+    .i) (start .args .label) (start .args .arity) (start .args .t5) enough
     (λ e. c .if3 .taken (c .before .arity-of .ensures ∙ e)))
 
 args2-holds : tie.Need-args2-holds Inv-args2 μ-args2 Inv-search μ-search
 args2-holds c =
     let start = c .before .before .before .before .before .before .before in
-    agree-start (start .args .transitions .now) (11 * c .before .before .before .before .before .search .i)
+    agree-start (start .args .transitions .now) (transitionBytes * c .before .before .before .before .before .search .i)
     (start .args .arity) (start .args .t5)
 
 arg-of-requires : tie.Need-arg-of-requires Inv-args2 μ-args2 Inv-search μ-search

@@ -7,7 +7,9 @@ use Prim.Native.Nat.{_-_, _<_, ℕ}
 use lib.ListN.{length}
 use Rattle.text.proofs.ChildrenReader.{child-ready, children-broken, children-broken-later, children-count-fits}
 use Rattle.text.proofs.ChildrenReader.{children-end, children-none, children-other, children-whole, later-ready}
-use Rattle.text.proofs.TreeReader.{children-ready, label-small, name-inside, tree-broken, tree-nameless}
+use native.Mathlib.Omega.{arith}
+use Rattle.text.proofs.TreeReader.{children-ready, label-place, label-small, name-inside, tree-broken}
+use Rattle.text.proofs.TreeReader.{tree-nameless}
 use Rattle.text.proofs.TreeReader.{tree-none, tree-other, tree-size-kept, tree-whole}
 use Rattle.text.proofs.children.Reads as children
 use Rattle.text.proofs.children.Kinds as children-kinds
@@ -174,7 +176,7 @@ module _ (t : ℕ) where
   tree-returns-3 c = search tree-nameless
 
   tree-put-label-requires : InTree tree-lts.Need-put-label-requires
-  tree-put-label-requires c κs = search label-small
+  tree-put-label-requires c κs = search (label-small, label-place)
 
   tree-stepped-requires-2 : InTree tree-lts.Need-stepped-requires-2
   tree-stepped-requires-2 c κs = search needs
@@ -200,7 +202,12 @@ module _ (t : ℕ) where
   tree-enum-known-count c = search needs
 
   tree-add-put : InTree tree-lts.Need-add-put
-  tree-add-put c = search needs
+  tree-add-put c =
+      let after-children = c .before .before .before .before in
+      let after-put-label = after-children .before .before .before in
+      let middle = after-put-label .before .before .before .before in
+      let start = middle .before .before .before .before .before .before .before .before in
+      omega (arith, label-place _ _ _ _ (start .pre .1))
 
   tree-put-requires : InTree tree-lts.Need-put-requires
   tree-put-requires c κs =

@@ -1,4 +1,5 @@
 -- `distinguish::ordering::deepen` meets its contract: every index is a state.
+use Rattle.format.specs.Format.{transitionBytes}
 use Rattle.table.specs.Layout.{arityOf}
 use Rattle.fields.proofs.Transitions.{readable}
 use Prim.Native.Nat.{_*_, _+_, _-_, _≤_, ℕ}
@@ -11,7 +12,7 @@ use Rattle.distinguish.proofs.ordering.deepen.Tie as tie
 
 abbrev Inv-loop : tie.InvT-loop
 Inv-loop run count n i depths₀ arity out changed₀ k₀ depths changed k =
-    (k ≤ arity) × (arity ≡ arityOf run (11 * i)) × (length depths ≡ 256) × (out ≤ 255)
+    (k ≤ arity) × (arity ≡ arityOf run (transitionBytes * i)) × (length depths ≡ 256) × (out ≤ 255)
 
 abbrev μ-loop : tie.MeasureT-loop
 μ-loop run count n i depths₀ arity out changed₀ k₀ depths changed k = arity - k

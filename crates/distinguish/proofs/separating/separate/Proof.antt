@@ -1,4 +1,5 @@
 -- `distinguish::separating::separate` meets its contract: a mark is set if the outputs are separated.
+use Rattle.format.specs.Format.{transitionBytes}
 use Rattle.distinguish.proofs.Marking.{separates-new, separates-not, separates-old}
 use Rattle.fields.proofs.Transitions.{readable}
 use Prim.Native.Nat.{_*_}
@@ -38,9 +39,9 @@ both-marked-requires c κs =
 returns : tie.Need-returns
 returns c =
     let start = c .before .before .before .before .before .before in
-    separates-old (start .args .transitions .now) (start .args .count) (11 * (start .args .i)) (start .args .k)
-    (start .args .q) (start .args .marks .now) (c .before .before .before .before .arg-of .ensures .0) (c .before
-    .before .before .wide .ensures) (c .before .both-marked .ensures) (c .if1 .taken)
+    separates-old (start .args .transitions .now) (start .args .count) (transitionBytes * (start .args .i)) (start
+    .args .k) (start .args .q) (start .args .marks .now) (c .before .before .before .before .arg-of .ensures .0) (c
+    .before .before .before .wide .ensures) (c .before .both-marked .ensures) (c .if1 .taken)
 
 mul-out-of : tie.Need-mul-out-of
 mul-out-of c = search needs
@@ -70,11 +71,11 @@ either-marked-requires c κs =
 returns-2 : tie.Need-returns-2
 returns-2 c =
     let start = c .before .before .before .before .before .before .before .before .before .before .before .before in
-    separates-not (start .args .transitions .now) (start .args .count) (11 * (start .args .i)) (start .args .k)
-    (start .args .q) (start .args .marks .now) (c .before .before .before .before .before .before .before .before
-    .before .before .arg-of .ensures .0) (c .before .before .before .before .before .before .before .before .before
-    .wide .ensures) (c .before .before .before .before .before .out-of .ensures .0) (c .before .before .before .wide2
-    .ensures ∙ c .before .before .before .before .stepped .ensures) (c .before .either-marked .ensures) (c .if2
+    separates-not (start .args .transitions .now) (start .args .count) (transitionBytes * (start .args .i)) (start
+    .args .k) (start .args .q) (start .args .marks .now) (c .before .before .before .before .before .before .before
+    .before .before .before .arg-of .ensures .0) (c .before .before .before .before .before .before .before .before
+    .before .wide .ensures) (c .before .before .before .before .before .out-of .ensures .0) (c .before .before .before
+    .wide2 .ensures ∙ c .before .before .before .before .stepped .ensures) (c .before .either-marked .ensures) (c .if2
     .taken)
 
 mul-mark : tie.Need-mul-mark
@@ -156,14 +157,14 @@ returns-3 : tie.Need-returns-3
 returns-3 c =
     let start = c .before .before .before .before .before .before .before .before .before .before .before .before
     .before .before .before .before in
-    separates-new (start .args .transitions .now) (start .args .count) (11 * (start .args .i)) (start .args .k)
-    (start .args .q) (start .args .marks .now) (c .before .before .before .before .before .before .before .before
-    .before .before .before .before .before .before .arg-of .ensures .0) (c .before .before .before .before .before
-    .before .before .before .before .before .before .before .before .wide .ensures) (c .before .before .before .before
-    .before .before .before .before .before .out-of .ensures .0) (c .before .before .before .before .before .before
-    .before .wide2 .ensures ∙ c .before .before .before .before .before .before .before .before .stepped .ensures) (c
-    .before .before .before .before .before .either-marked .ensures) (c .before .before .before .before .if2 .left) (c
-    .before .before .mark .ensures) (c .mark2 .ensures)
+    separates-new (start .args .transitions .now) (start .args .count) (transitionBytes * (start .args .i)) (start
+    .args .k) (start .args .q) (start .args .marks .now) (c .before .before .before .before .before .before .before
+    .before .before .before .before .before .before .before .arg-of .ensures .0) (c .before .before .before .before
+    .before .before .before .before .before .before .before .before .before .wide .ensures) (c .before .before .before
+    .before .before .before .before .before .before .out-of .ensures .0) (c .before .before .before .before .before
+    .before .before .wide2 .ensures ∙ c .before .before .before .before .before .before .before .before .stepped
+    .ensures) (c .before .before .before .before .before .either-marked .ensures) (c .before .before .before .before
+    .if2 .left) (c .before .before .mark .ensures) (c .mark2 .ensures)
 
 pub separate-spec : {M : Type 1} → statement M
 separate-spec =

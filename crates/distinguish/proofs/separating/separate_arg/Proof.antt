@@ -1,4 +1,5 @@
 -- `distinguish::separating::separate_arg` meets its contract: the states before `q` are tried for argument `k`.
+use Rattle.format.specs.Format.{transitionBytes}
 use native.Mathlib.Omega.{arith}
 use mathlib.Core.Path.{_≡_, _∙_}
 use Prim.Native.Nat.{_%_, _*_, _+_, _-_, _≤_}
@@ -11,7 +12,7 @@ use Rattle.distinguish.proofs.separating.separate_arg.Tie as tie
 
 abbrev Inv-loop : tie.InvT-loop
 Inv-loop run count n i k marks₀ changed₀ q₀ marks changed q =
-    (q ≤ n + 1) × Spread (UpTo (Separate run count (11 * i) k) q) marks₀ marks changed
+    (q ≤ n + 1) × Spread (UpTo (Separate run count (transitionBytes * i) k) q) marks₀ marks changed
 
 abbrev μ-loop : tie.MeasureT-loop
 μ-loop run count n i k marks₀ changed₀ q₀ marks changed q = n + 1 - q
@@ -19,7 +20,7 @@ abbrev μ-loop : tie.MeasureT-loop
 loop-holds : tie.Need-loop-holds Inv-loop μ-loop
 loop-holds c = (
   omega arith,
-  spread-begin (Separate (c .before .args .transitions .now) (c .before .args .count) (11 * (c .before
+  spread-begin (Separate (c .before .args .transitions .now) (c .before .args .count) (transitionBytes * (c .before
       .args) .i) (c .before .args .k)),
 )
 
@@ -62,8 +63,8 @@ loop-again c =
     let start = at-loop .before .before in
     let e : at-loop .loop .q % 256 ≡ at-loop .loop .q = omega arith in (
       omega arith,
-      spread-next (Separate (start .args .transitions .now) (start .args .count) (11 * (start .args) .i) (start
-          .args .k)) (at-loop .loop .q) (at-loop .loop .inv .1) (rw e at (c .separate .ensures)),
+      spread-next (Separate (start .args .transitions .now) (start .args .count) (transitionBytes * (start .args) .i)
+          (start .args .k)) (at-loop .loop .q) (at-loop .loop .inv .1) (rw e at (c .separate .ensures)),
     )
 
 returns : tie.Need-returns Inv-loop μ-loop

@@ -1,4 +1,5 @@
 -- `distinguish::separating::separate_at` meets its contract: the places passed are closed under the rule.
+use Rattle.format.specs.Format.{transitionBytes}
 use Rattle.marking.proofs.Spreading.{spread-begin, spread-next}
 use Rattle.marking.specs.Spread.{Spread, UpTo}
 use Rattle.table.specs.Layout.{arityOf}
@@ -13,7 +14,8 @@ use Rattle.distinguish.proofs.separating.separate_at.Tie as tie
 
 abbrev Inv-loop : tie.InvT-loop
 Inv-loop run count n i marks₀ arity changed₀ k₀ marks changed k =
-    (k ≤ arity) × (arity ≡ arityOf run (11 * i)) × Spread (UpTo (SeparateArg run count n (11 * i)) k) marks₀ marks
+    (k ≤ arity) × (arity ≡ arityOf run (transitionBytes * i)) × Spread (UpTo (SeparateArg run count n (transitionBytes
+    * i)) k) marks₀ marks
     changed
 
 abbrev μ-loop : tie.MeasureT-loop
@@ -31,7 +33,7 @@ loop-holds c =
       omega arith,
       c .arity-of .ensures,
       spread-begin (SeparateArg
-          (start .args .transitions .now) (start .args .count) (start .args .n) ((11 * (start .args) .i))),
+          (start .args .transitions .now) (start .args .count) (start .args .n) ((transitionBytes * (start .args) .i))),
     )
 
 separate-arg-requires : tie.Need-separate-arg-requires Inv-loop μ-loop
@@ -68,14 +70,15 @@ loop-again c =
       omega arith,
       c .before .before .before .loop .inv .1,
       spread-next (SeparateArg (start .args .transitions .now) (start .args .count)
-          (start .args .n) ((11 * (start .args) .i))) (c .before .before .before .loop .k) (c .before .before .before
-          .loop .inv .2) (c .separate-arg .ensures),
+          (start .args .n) ((transitionBytes * (start .args) .i))) (c .before .before .before .loop .k) (c .before
+          .before .before .loop .inv .2) (c .separate-arg .ensures),
     )
 
 returns : tie.Need-returns Inv-loop μ-loop
 returns c =
     let start = c .before .before .before .before in
-    let e : c .before .loop .k ≡ arityOf (start .args .transitions .now) ((11 * (start .args) .i)) = omega (
+    let e : c .before .loop .k ≡ arityOf (start .args .transitions .now) ((transitionBytes * (start .args) .i)) =
+    omega (
       arith,
       c .before .loop .inv .1,
       c .before .loop .inv .0,

@@ -1,4 +1,5 @@
 -- `distinguish::steps::stepped` meets its contract: 0 gives none, any other state what the search gives.
+use Rattle.format.specs.Format.{transitionBytes}
 use mathlib.Core.Path.{_∙_, ap, sym}
 use Prim.Native.Nat.{_*_}
 use Rattle.distinguish.specs.Separating.{stepAt}
@@ -11,8 +12,9 @@ use Rattle.distinguish.proofs.steps.stepped.Tie as tie
 returns : tie.Need-returns
 returns c =
     let start = c .before .before in
-    step-none (start .args .transitions .now) (start .args .count) (11 * (start .args) .i) (start .args .k) ∙ ap (stepAt
-    (start .args .transitions .now) (start .args .count) (11 * (start .args) .i) (start .args .k)) (sym (c .if1 .taken))
+    step-none (start .args .transitions .now) (start .args .count) (transitionBytes * (start .args) .i) (start .args
+    .k) ∙ ap (stepAt (start .args .transitions .now) (start .args .count) (transitionBytes * (start .args) .i) (start
+    .args .k)) (sym (c .if1 .taken))
 
 mul-replaced : tie.Need-mul-replaced
 mul-replaced c = search needs

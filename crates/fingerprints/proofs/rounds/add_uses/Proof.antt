@@ -1,4 +1,5 @@
 -- `fingerprints::rounds::add_uses` meets its contract: what is gained is what the places passed give.
+use Rattle.format.specs.Format.{transitionBytes}
 use mathlib.Core.Path.{_∙_, _≡_, ap}
 use Prim.Native.Nat.{_*_, _-_, _≤_, ℕ}
 use native.Mathlib.Omega.{arith}
@@ -13,9 +14,9 @@ use Rattle.fingerprints.proofs.rounds.add_uses.Tie as tie
 
 abbrev Inv-loop : tie.InvT-loop
 Inv-loop transitions count n i x prints₀ arity s all k₀ prints k =
-    (k ≤ arity) × (arity ≡ arityOf transitions (11 * i)) ×
-    (all ≡ xored (nthTransition transitions i .args) 0 (salted (labelOf transitions (11 * i)) x)) ×
-    Filling (gain (nthTransition transitions i) x) (gainFrom transitions (11 * i) x k) prints₀ prints
+    (k ≤ arity) × (arity ≡ arityOf transitions (transitionBytes * i)) ×
+    (all ≡ xored (nthTransition transitions i .args) 0 (salted (labelOf transitions (transitionBytes * i)) x)) ×
+    Filling (gain (nthTransition transitions i) x) (gainFrom transitions (transitionBytes * i) x k) prints₀ prints
 
 abbrev μ-loop : tie.MeasureT-loop
 μ-loop transitions count n i x prints₀ arity s all k₀ prints k = arity - k
@@ -54,8 +55,8 @@ loop-holds c =
       c .xor-args .ensures ∙ ap (xored (nthTransition (start .args .transitions .now) (start .args .i) .args) 0)
           (c .before .salt .ensures ∙ ap (λ (l : ℕ). salted l (start .args .x)) (c .before .before .widened .ensures
           ∙ c .before .before .before .label-of .ensures .0)),
-      filling-start (start .pre .1 .1 .1) (λ q. gain-start (start .args .transitions .now) (11 * start .args .i)
-          (start .args .x) q),
+      filling-start (start .pre .1 .1 .1) (λ q. gain-start (start .args .transitions .now) (transitionBytes * start
+          .args .i) (start .args .x) q),
     )
 
 mul-arg-of : tie.Need-mul-arg-of Inv-loop μ-loop
@@ -97,7 +98,7 @@ loop-again c =
       at-loop .loop .inv .1,
       at-loop .loop .inv .2,
       filling-next (at-loop .loop .inv .3) (c .add .ensures) (gain-step (start .args .transitions .now)
-          (11 * start .args .i) (start .args .x) (at-loop .loop .k) (omega (arith, at-loop .loop .inv .1))
+          (transitionBytes * start .args .i) (start .args .x) (at-loop .loop .k) (omega (arith, at-loop .loop .inv .1))
           (at-arg-of .arg-of .ensures .0) (at-loop .loop .inv .2) (c .before .before .before .scaled .ensures)
           (c .before .value .ensures)),
     )
@@ -105,8 +106,8 @@ loop-again c =
 returns : tie.Need-returns Inv-loop μ-loop
 returns c =
     let start = c .before .before .before .before .before .before .before .before in
-    filling-end (c .before .loop .inv .3) (λ q. gain-end (start .args .transitions .now) (11 * start .args .i)
-    (start .args .x) (c .before .loop .k) q (omega (arith, c .before .loop .inv .1)))
+    filling-end (c .before .loop .inv .3) (λ q. gain-end (start .args .transitions .now) (transitionBytes * start
+    .args .i) (start .args .x) (c .before .loop .k) q (omega (arith, c .before .loop .inv .1)))
 
 pub add-uses-spec : {M : Type 1} → statement M
 add-uses-spec =

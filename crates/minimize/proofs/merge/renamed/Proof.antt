@@ -2,7 +2,7 @@
 use mathlib.Core.Path.{_≡_, ap}
 use Prim.Native.Nat.{_-_}
 use native.Mathlib.Omega.{arith}
-use Rattle.fields.proofs.Entries.{then-arity, then-label, then-out}
+use Rattle.fields.proofs.Entries.{then-arity, then-out}
 use Rattle.table.specs.Layout.{arityOf}
 use Rattle.minimize.specs.Merged.{nameIn}
 use Rattle.minimize.proofs.Entries.{Renaming, renaming-end, renaming-next, renaming-start}
@@ -26,12 +26,6 @@ out-of-requires c κs = search needs
 blank-entry-requires : tie.Need-blank-entry-requires Inv-loop μ-loop
 blank-entry-requires c κs = search needs
 
-label-of-requires : tie.Need-label-of-requires Inv-loop μ-loop
-label-of-requires c κs = search needs
-
-put-label-requires : tie.Need-put-label-requires Inv-loop μ-loop
-put-label-requires c κs = search needs
-
 put-arity-requires : tie.Need-put-arity-requires Inv-loop μ-loop
 put-arity-requires c κs = search needs
 
@@ -43,18 +37,14 @@ put-out-requires c κs = search needs
 
 loop-holds : tie.Need-loop-holds Inv-loop μ-loop
 loop-holds c =
-    let start = c .before .before .before .before .before .before .before .before .before .before .before .before in
-    let arity = c .before .before .before .before .before .before .before .before .before .before .arity-of .ensures
-    in
-    let label = c .before .before .before .before .before .before .label-of .ensures .0 in
-    let made = then-out (then-arity (then-label (c .before .before .before .before .before .before .before .before
-    .blank-entry .ensures) (c .before .before .before .before .before .put-label .ensures)) (c .before .before .before
-    .put-arity .ensures)) (c .put-out .ensures) in (
+    let made-blank = c .before .before .before .before .before in
+    let start = made-blank .before .before .before .before in
+    let arity = made-blank .before .before .arity-of .ensures in
+    let made = then-out (then-arity (made-blank .blank-entry .ensures) (c .before .before .before .put-arity .ensures))
+    (c .put-out .ensures) in (
       arity,
-      renaming-start (start .args .transitions .now) (start .args .at) (start .args .names .now) (rw (label, arity) at
-          made)
-          (ap (nameIn (start .args .names .now)) (c .before .before .before .before .before .before .before .before
-          .before .out-of .ensures .0)),
+      renaming-start (start .args .transitions .now) (start .args .at) (start .args .names .now) (rw arity at made)
+          (ap (nameIn (start .args .names .now)) (made-blank .before .out-of .ensures .0)),
     )
 
 arg-of-requires : tie.Need-arg-of-requires Inv-loop μ-loop
@@ -74,18 +64,26 @@ loop-less c = search needs
 
 loop-again : tie.Need-loop-again Inv-loop μ-loop
 loop-again c =
-    let start = c .before .before .before .before .before .before .before .before .before .before .before .before
-    .before .before .before .before .before .before in (
-      c .before .before .before .before .before .loop .inv .0,
-      renaming-next (c .before .before .before .before .before .loop .inv .1) (start .pre .narrow) (omega arith)
+    let turn = c .before .before .before .before .before in
+    let start = turn .before .before .before .before .before .before .before .before .before .before in (
+      turn .loop .inv .0,
+      renaming-next (turn .loop .inv .1) (start .pre .narrow) (omega arith)
           (ap (nameIn (start .args .names .now)) (c .before .before .before .arg-of .ensures .0)) (c .put-arg
           .ensures),
     )
 
+label-of-requires : tie.Need-label-of-requires Inv-loop μ-loop
+label-of-requires c κs = search needs
+
+put-label-requires : tie.Need-put-label-requires Inv-loop μ-loop
+put-label-requires c κs = (c .before .before .before .loop .inv .1 .size, c .label-of .ensures .1)
+
 returns : tie.Need-returns Inv-loop μ-loop
 returns c =
-    renaming-end (c .before .loop .inv .1) (c .before .before .before .before .before .before .before .before .before
-    .before .before .before .before .before .pre .narrow) (omega arith)
+    let left = c .before .before .before .before in
+    let start = left .before .before .before .before .before .before .before .before .before .before in
+    renaming-end (left .loop .inv .1) (start .pre .narrow) (omega arith) (c .before .label-of .ensures .0) (c .put-label
+    .ensures .0) (c .put-label .ensures .1)
 
 pub renamed-spec : {M : Type 1} → statement M
 renamed-spec =
@@ -96,8 +94,6 @@ renamed-spec =
     arity-of-requires
     out-of-requires
     blank-entry-requires
-    label-of-requires
-    put-label-requires
     put-arity-requires
     element-copy-out-put-out
     put-out-requires
@@ -108,4 +104,6 @@ renamed-spec =
     add-k
     loop-less
     loop-again
+    label-of-requires
+    put-label-requires
     returns)

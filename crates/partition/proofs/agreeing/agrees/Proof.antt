@@ -1,4 +1,5 @@
 -- `partition::agreeing::agrees` meets its contract: states of one part, and the parts of their outputs.
+use Rattle.format.specs.Format.{transitionBytes}
 use Rattle.partition.proofs.Marked.{agrees-other, agrees-same}
 use Rattle.fields.proofs.Transitions.{readable}
 use Rattle.fingerprints.specs.Fingerprints.{printOf}
@@ -91,7 +92,7 @@ returns-2 c =
     .args .i) (start .args .k) (start .args .q) (c .before .before .before .before .before .before .before .before
     .arg-of .ensures .0) (c .before .before .before .before .before .if1 .left) (c .before .before .before .before
     .out-of .ensures .0) (c .before .before .wide .ensures ∙ c .before .before .before .stepped .ensures ∙ ap (stepAt
-    (start .args .transitions .now) (start .args .count) (11 * (start .args .i)) (start .args .k)) e)
+    (start .args .transitions .now) (start .args .count) (transitionBytes * (start .args .i)) (start .args .k)) e)
 
 pub agrees-spec : {M : Type 1} → statement M
 agrees-spec =

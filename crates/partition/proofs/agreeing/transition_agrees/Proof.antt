@@ -1,4 +1,5 @@
 -- `partition::agreeing::transition_agrees` meets its contract: the answer is that of the places left.
+use Rattle.format.specs.Format.{transitionBytes}
 use Rattle.table.specs.Layout.{arityOf}
 use Rattle.partition.specs.Parts.{agreesPlace, agreesTransition}
 use Rattle.fingerprints.specs.Fingerprints.{printOf}
@@ -14,8 +15,9 @@ use Rattle.partition.proofs.agreeing.transition_agrees.Tie as tie
 
 abbrev Inv-loop : tie.InvT-loop
 Inv-loop run count n i prints shared arity k₀ k =
-    (arity ≡ arityOf run (11 * i)) × EveryFrom (agreesTransition run count n (printOf prints) i) (agreesPlace run
-    count n (printOf prints) i) (arityOf run (11 * i)) k
+    (arity ≡ arityOf run (transitionBytes * i)) × EveryFrom (agreesTransition run count n (printOf prints) i)
+    (agreesPlace run
+    count n (printOf prints) i) (arityOf run (transitionBytes * i)) k
 
 abbrev μ-loop : tie.MeasureT-loop
 μ-loop run count n i prints shared arity k₀ k = arity - k
@@ -30,7 +32,7 @@ loop-holds : tie.Need-loop-holds Inv-loop μ-loop
 loop-holds c =
     let start = c .before .before in (
       c .arity-of .ensures,
-      every-start (arityOf (start .args .transitions .now) (11 * (start .args) .i)) (omega
+      every-start (arityOf (start .args .transitions .now) (transitionBytes * (start .args) .i)) (omega
           arith),
     )
 

@@ -53,7 +53,7 @@ expand-requires c κs =
         (
           start .pre .1 .1 .1 .0,
           (
-            copied-entry (start .args .transitions .now) (11 *
+            copied-entry (start .args .transitions .now) (transitionBytes *
                 loop .i) (c .before .entry-at .result) is (start .pre .0 .runs .narrow (loop .i)
                 (loop-test .taken)) (start .pre .0 .out-some (loop .i) (loop-test .taken)),
             (

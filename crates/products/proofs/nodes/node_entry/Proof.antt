@@ -41,7 +41,7 @@ put-label-requires c κs = (
 
 put-arity-requires : tie.Need-put-arity-requires Inv-loop μ-loop
 put-arity-requires c κs = (
-  c .before .put-label .ensures .size,
+  c .before .put-label .ensures .0 .size,
   omega (
     arith,
     c .before .before .before .before .before .wide .ensures,
@@ -68,7 +68,7 @@ loop-holds c =
     let start = c .before .before .before .before .before .before .before .before .before .before in
     let arity = c .before .before .before .before .before .before .before .before .wide .ensures in
     let made = then-out (then-arity (then-label (c .before .before .before .before .before .before .before
-    .blank-entry .ensures) (c .before .before .before .before .put-label .ensures)) (c .before .before .put-arity
+    .blank-entry .ensures) (c .before .before .before .before .put-label .ensures .0)) (c .before .before .put-arity
     .ensures)) (c .put-out .ensures) in (
       node-start (start .args .n) (start .args .labels .now) (start .args .arities .now) (start .args .children .now)
           (start .args .j) (rw arity at made),

@@ -31,7 +31,8 @@ element-copy-out-if1 c =
     .entry-at .ensures) (start .pre .0 .narrow) in
     omega (
       arith,
-      (copied-out (start .args .transitions .now) (11 * (start .args) .i) (c .before .before .entry-at .result) is),
+      (copied-out (start .args .transitions .now) (transitionBytes * (start .args) .i) (c .before .before .entry-at
+          .result) is),
       c .out-of .ensures .0,
     )
 
@@ -54,7 +55,7 @@ all-offered-requires c κs =
         search needs,
         omega (
           arith,
-          (copied-arity (start .args .transitions .now) (11 * (start .args) .i)
+          (copied-arity (start .args .transitions .now) (transitionBytes * (start .args) .i)
               (c .before .before .before .before .before .entry-at .result) is),
           start .pre .0 .narrow,
         ),
@@ -84,8 +85,8 @@ escapes-requires c κs =
           (
             omega (
               arith,
-              (copied-arity (start .args .transitions .now) (11 * (start .args) .i) (c .before .before .before .before
-                  .before .before .before .before .entry-at .result) is),
+              (copied-arity (start .args .transitions .now) (transitionBytes * (start .args) .i) (c .before .before
+                  .before .before .before .before .before .before .entry-at .result) is),
               start .pre .0 .narrow,
             ),
             omega arith,
@@ -113,8 +114,8 @@ element-write-marks c =
     .before .before .before .before .before .before .before .entry-at .ensures) (start .pre .0 .narrow) in
     omega (
       arith,
-      (copied-out (start .args .transitions .now) (11 * (start .args) .i) (c .before .before .before .before .before
-          .before .before .before .before .before .entry-at .result)
+      (copied-out (start .args .transitions .now) (transitionBytes * (start .args) .i) (c .before .before .before
+          .before .before .before .before .before .before .before .entry-at .result)
           is),
       c .before .before .before .before .before .before .before .before .out-of .ensures .0,
     )
@@ -132,8 +133,8 @@ returns-4 c =
     .before .escapes .ensures) (not-false _ (c .if3 .left))
     (c .before .before .before .before .before .before .before .before .out-of .ensures .0) (omega (
       arith,
-      (copied-out (start .args .transitions .now) (11 * (start .args) .i) (c .before .before .before .before .before
-          .before .before .before .before .before .entry-at .result) is),
+      (copied-out (start .args .transitions .now) (transitionBytes * (start .args) .i) (c .before .before .before
+          .before .before .before .before .before .before .before .entry-at .result) is),
       c .before .before .before .before .before .before .before .before .out-of .ensures .0,
       start .pre .1 .1 .1 .1,
     )) (if1 .left)

@@ -14,7 +14,7 @@ abbrev Inv-loop : tie.InvT-loop
 Inv-loop from to₀ i₀ to i = FilledTo listingBytes (λ j. getD from j 0) to i
 
 abbrev μ-loop : tie.MeasureT-loop
-μ-loop from to₀ i₀ to i = 252 - i
+μ-loop from to₀ i₀ to i = listingBytes - i
 
 loop-holds : tie.Need-loop-holds Inv-loop μ-loop
 loop-holds c = filled-start (c .pre .1)
