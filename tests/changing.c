@@ -2,7 +2,8 @@
 #include "calling.h"
 
 #define HOLDS(what, classes, ...) \
-    holds(what, classes, (const struct line[]){__VA_ARGS__}, sizeof((const struct line[]){__VA_ARGS__}) / WIDTH)
+    holds(what, classes, (const struct line[]){__VA_ARGS__}, \
+          sizeof((const struct line[]){__VA_ARGS__}) / sizeof(struct line))
 
 static void clear(void) { memset(table, 0, TABLE); }
 
@@ -56,12 +57,13 @@ static void samples(void)
 }
 
 /* Adds all trees with this label and eight children from (1) and (2). */
-static void add_family(uint8_t label)
+static void add_family(unsigned label)
 {
     for (unsigned bits = 0; bits < 256; bits++) {
-        uint8_t listing[18] = {label, 8};
+        uint8_t listing[9 * NODE];
+        put_node(listing, 0, label, 8);
         for (unsigned k = 0; k < 8; k++)
-            listing[2 + 2 * k] = (uint8_t)(1 + (bits >> k & 1));
+            put_node(listing, 1 + k, 1 + (bits >> k & 1), 0);
         uint64_t answer = scalebench_add(listing, sizeof listing, table, TABLE, scratch, SCRATCH);
         expect("a tree of a family", scalebench_refusal(answer), 0);
     }
@@ -88,7 +90,7 @@ static void of_256(void)
     static uint8_t want[TABLE];
     clear();
     for (unsigned labels = 1; labels <= 3; labels++) {
-        add_family((uint8_t)(2 + labels));
+        add_family(2 + labels);
         families(want, labels);
         expect("families", (uint64_t)(memcmp(table, want, TABLE) != 0), 0);
         add("(20 (1))", counts(3, 256 * labels + 3));

@@ -45,10 +45,10 @@ static void cost_of_numbers(const char *what)
     expect(what, answer == 0 || (answer >= 18 && answer <= 20), 1);
     if (answer != 0)
         return;
-    while (nodes < 48 && listing[2 * nodes])
+    while (nodes < 48 && (listing[NODE * nodes] || listing[NODE * nodes + 1]))
         nodes++;
     began = seconds();
-    answer = scalebench_rank(listing, 2 * nodes, table, TABLE, &number);
+    answer = scalebench_rank(listing, NODE * nodes, table, TABLE, &number);
     note(what, "rank", seconds() - began);
     expect(what, scalebench_approved(answer) && number == 0, 1);
 }
@@ -56,7 +56,7 @@ static void cost_of_numbers(const char *what)
 /* The table passes; ask on it is repeated, so that a small cost shows. */
 static void cost_of_ask(const char *what)
 {
-    const uint8_t leaf[] = {255, 0};
+    const uint8_t leaf[] = {0, 255, 0};
     unsigned asks = 0;
     uint64_t refusals = 0;
     double began = seconds(), each;
@@ -88,20 +88,11 @@ static void cost_of_change(const char *what, const uint8_t *tree, size_t length,
     expect(what, (uint64_t)(memcmp(before, table, TABLE) != 0), 0);
 }
 
-/* The listing of a chain of 48 nodes, labels rising from the leaf up: 48 distinct subtrees. */
-static void list_48(uint8_t *tree, unsigned leaf)
-{
-    for (unsigned i = 0; i < 48; i++) {
-        tree[2 * i] = (uint8_t)(leaf + 47 - i);
-        tree[2 * i + 1] = i < 47;
-    }
-}
-
+/* The chain of 48 nodes, labels rising from the leaf up: 48 distinct subtrees. */
 static void cost_of_48(const char *what, unsigned leaf, uint64_t want)
 {
-    uint8_t tree[96];
-    list_48(tree, leaf);
-    cost_of_change(what, tree, sizeof tree, want);
+    uint8_t tree[48 * NODE];
+    cost_of_change(what, tree, list_chain(tree, 48, leaf, 1), want);
 }
 
 /* Four chains of 48 nodes in one table, which share but the approved state. */
@@ -109,9 +100,9 @@ static void cost_of_four(void)
 {
     memset(table, 0, TABLE);
     for (unsigned leaf = 1, states = 48; leaf <= 101; leaf += 50, states += 47) {
-        uint8_t tree[96];
-        list_48(tree, leaf);
-        expect("a chain more", scalebench_add(tree, sizeof tree, table, TABLE, scratch, SCRATCH),
+        uint8_t tree[48 * NODE];
+        size_t length = list_chain(tree, 48, leaf, 1);
+        expect("a chain more", scalebench_add(tree, length, table, TABLE, scratch, SCRATCH),
                counts(states, 48 * (states / 47)));
     }
     cost_of_ask("three chains of 48");
@@ -171,7 +162,7 @@ static void fork_of_3072(void)
 
 static void chains(const char *what, int falling, unsigned places, unsigned each)
 {
-    const uint8_t leaf[] = {255, 0};
+    const uint8_t leaf[] = {0, 255, 0};
     chain(table, falling, places, each);
     cost_of_ask(what);
     cost_of_change(what, leaf, sizeof leaf, counts(200, 256u * table[201] + table[202] + 1));
@@ -180,7 +171,7 @@ static void chains(const char *what, int falling, unsigned places, unsigned each
 
 int main(void)
 {
-    const uint8_t split[] = {20, 1, 1, 0}, joined[] = {20, 1, 3, 0};
+    const uint8_t split[] = {0, 20, 1, 0, 1, 0}, joined[] = {0, 20, 1, 0, 3, 0};
     memset(table, 0, TABLE);
     cost_of_ask("the empty set");
     cost_of_48("the empty set, 48 subtrees", 201, counts(48, 48));

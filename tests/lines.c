@@ -71,13 +71,16 @@ int main(void)
 {
     command("(add (1 (1) (2)))", SCALEBENCH_ADD, "(1 (1) (2))");
     command("(drop (255 (10 (7)) (4)))", SCALEBENCH_DROP, "(255 (10 (7)) (4))");
+    command("(add (65535 (256 (9999)) (10000)))", SCALEBENCH_ADD, "(65535 (256 (9999)) (10000))");
+    command("(ask (65529))", SCALEBENCH_ASK, "(65529)");
     command("(ask (0))", SCALEBENCH_ASK, "(0)");
     command("(ask (1 (1) (1) (1) (1) (1) (1) (1) (1) (1)))", SCALEBENCH_ASK,
             "(1 (1) (1) (1) (1) (1) (1) (1) (1) (1))");
-    const char *const lines[] = {"", "(add", "(ask (256))", "(ask (01))", "(ask (1)", "(ask (1)))", "(ask  (1))",
+    const char *const lines[] = {"", "(add", "(ask (65536))", "(ask (01))", "(ask (1)", "(ask (1)))", "(ask  (1))",
                                  "(asc (1))", "(ask (1(2)))", "(ask (1 (2) ))", "(ask ())", "(add (1 (2)) (3))",
-                                 "(t", "(tadd", "(tota", "(total", "(total )", "(totals)", "(total))", "(total) "};
-    const unsigned columns[] = {1, 5, 9, 8, 9, 10, 6, 4, 8, 13, 7, 13, 3, 3, 6, 7, 7, 7, 8, 8};
+                                 "(t", "(tadd", "(tota", "(total", "(total )", "(totals)", "(total))", "(total) ",
+                                 "(ask (65540))", "(ask (70000))", "(ask (655350))", "(ask (6553x))", "(ask (00))"};
+    const unsigned columns[] = {1, 5, 11, 8, 9, 10, 6, 4, 8, 13, 7, 13, 3, 3, 6, 7, 7, 7, 8, 8, 11, 11, 12, 11, 8};
     for (size_t i = 0; i < sizeof columns / sizeof *columns; i++)
         malformed(lines[i], strlen(lines[i]), columns[i]);
     malformed("(ask (1\0))", 10, 8);

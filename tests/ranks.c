@@ -113,11 +113,10 @@ static void samples(void)
         both(number, forks[number], table);
     families(table, 11);
     for (uint64_t number = 0; number < 2816; number++) {
-        tree[0] = (uint8_t)(3 + number / 256);
-        tree[1] = 8;
+        put_node(tree, 0, 3 + (unsigned)number / 256, 8);
         for (unsigned k = 0; k < 8; k++)
-            tree[2 + 2 * k] = (uint8_t)(1 + (number >> (7 - k) & 1));
-        both_listed("eleven families", number, tree, 18, table);
+            put_node(tree, 1 + k, 1 + (number >> (7 - k) & 1), 0);
+        both_listed("eleven families", number, tree, 9 * NODE, table);
     }
     none("eleven families", 2816, table, 19);
 }
@@ -177,11 +176,8 @@ static void sizes(void)
     uint8_t tree[LISTING];
     levels(table, STATES, 1, 1);
     for (unsigned nodes = 1; nodes <= 48; nodes++) {
-        for (unsigned i = 0; i < nodes; i++) {
-            tree[2 * i] = 1;
-            tree[2 * i + 1] = i + 1 < nodes;
-        }
-        both_listed("a chain", nodes - 1, tree, 2 * nodes, table);
+        size_t length = list_chain(tree, nodes, 1, 0);
+        both_listed("a chain", nodes - 1, tree, length, table);
     }
     for (unsigned number = 48; number < STATES; number++)
         none("49 nodes and more", number, table, 20);
@@ -211,22 +207,22 @@ static void refusals(void)
     const struct line two[] = {{1, 0, {0}, 1}, {2, 0, {0}, 2}};
     const struct line loop[] = {{1, 0, {0}, 1}, {2, 1, {1}, 2}, {2, 1, {2}, 2}};
     const struct line turned[] = {{1, 0, {0}, 2}, {2, 0, {0}, 1}, {3, 1, {1}, 2}};
-    const uint8_t leaf[] = {1, 0}, zero[] = {0, 9}, wide[] = {1, 9}, half[] = {1, 1};
+    const uint8_t leaf[] = {0, 1, 0}, zero[] = {0, 0, 9}, wide[] = {0, 1, 9}, half[] = {0, 1, 1};
     uint8_t table[TABLE] = {0};
     rank_of("no listing", NULL, 0, NULL, 0, 1, untouched);
-    rank_of("label 0", zero, 2, NULL, 0, 2, untouched);
-    rank_of("nine children", wide, 2, NULL, 0, 3, untouched);
-    rank_of("a child missing", half, 2, NULL, 0, 4, untouched);
-    rank_of("no table", leaf, 2, NULL, 0, 5, untouched);
+    rank_of("label 0", zero, NODE, NULL, 0, 2, untouched);
+    rank_of("nine children", wide, NODE, NULL, 0, 3, untouched);
+    rank_of("a child missing", half, NODE, NULL, 0, 4, untouched);
+    rank_of("no table", leaf, NODE, NULL, 0, 5, untouched);
     refused("no table", 0, NULL, 0, LISTING, 5);
     refused("no table and no listing", 0, NULL, 0, 0, 5);
     refused("a short table", 0, table, TABLE - 1, LISTING - 1, 5);
     table[0] = 201;
-    for (size_t length = 0; length <= 300; length++)
+    for (size_t length = 0; length <= 400; length++)
         refused("a listing of some length", 0, table, TABLE, length, length == LISTING ? 7 : 6);
     unnumbered("(1)", table, 7);
     build(table, "001", example, 7);
-    table[HEAD] = 3;
+    table[HEAD + 1] = 3;
     none("falling labels", 0, table, 8);
     unnumbered("(1)", table, 8);
     built("no tree leads to state 2", "11", alone, 2, 9);

@@ -6,24 +6,21 @@
 
 static void listings(void)
 {
-    uint8_t table[TABLE] = {0}, chain[98];
-    for (int i = 0; i < 49; i++) {
-        chain[2 * i] = 1;
-        chain[2 * i + 1] = i < 48;
-    }
-    expect("1 1", scalebench_ask((const uint8_t[]){1, 1}, 2, table, TABLE), 4);
-    expect("1 0 1 0", scalebench_ask((const uint8_t[]){1, 0, 1, 0}, 4, table, TABLE), 4);
-    expect("0 9", scalebench_ask((const uint8_t[]){0, 9}, 2, table, TABLE), 2);
-    expect("1 9", scalebench_ask((const uint8_t[]){1, 9}, 2, table, TABLE), 3);
-    expect("label 0 behind the tree", scalebench_ask((const uint8_t[]){1, 0, 0, 9}, 4, table, TABLE), 2);
-    expect("three bytes", scalebench_ask(chain, 3, table, TABLE), 1);
+    uint8_t table[TABLE] = {0}, chain[49 * NODE];
+    list_chain(chain, 49, 1, 0);
+    expect("0 1 1", scalebench_ask((const uint8_t[]){0, 1, 1}, 3, table, TABLE), 4);
+    expect("0 1 0 0 1 0", scalebench_ask((const uint8_t[]){0, 1, 0, 0, 1, 0}, 6, table, TABLE), 4);
+    expect("0 0 9", scalebench_ask((const uint8_t[]){0, 0, 9}, 3, table, TABLE), 2);
+    expect("0 1 9", scalebench_ask((const uint8_t[]){0, 1, 9}, 3, table, TABLE), 3);
+    expect("label 0 behind the tree", scalebench_ask((const uint8_t[]){0, 1, 0, 0, 0, 9}, 6, table, TABLE), 2);
+    expect("four bytes", scalebench_ask(chain, 4, table, TABLE), 1);
     expect("no bytes", scalebench_ask(NULL, 0, table, TABLE), 1);
-    expect("49 nodes", scalebench_ask(chain, 98, table, TABLE), 1);
-    chain[95] = 0;
-    expect("48 nodes", scalebench_ask(chain, 96, table, TABLE), stopped_at(48));
-    expect("48 nodes, no table", scalebench_ask(chain, 96, NULL, 0), 5);
-    expect("a short table", scalebench_ask(chain, 96, table, TABLE - 1), 5);
-    expect("the listing comes first", scalebench_ask(chain, 95, table, 0), 1);
+    expect("49 nodes", scalebench_ask(chain, 49 * NODE, table, TABLE), 1);
+    list_chain(chain, 48, 1, 0);
+    expect("48 nodes", scalebench_ask(chain, 48 * NODE, table, TABLE), stopped_at(48));
+    expect("48 nodes, no table", scalebench_ask(chain, 48 * NODE, NULL, 0), 5);
+    expect("a short table", scalebench_ask(chain, 48 * NODE, table, TABLE - 1), 5);
+    expect("the listing comes first", scalebench_ask(chain, 48 * NODE - 1, table, 0), 1);
 }
 
 static void approved(void)
@@ -31,11 +28,11 @@ static void approved(void)
     uint8_t table[TABLE];
     build(table, "001", example, 7);
     expect("the example", scalebench_intake(table, TABLE), counts(3, 7));
-    expect("(1 (1) (1))", scalebench_ask((const uint8_t[]){1, 2, 1, 0, 1, 0}, 6, table, TABLE), 256);
-    expect("(2 (1) (2))", scalebench_ask((const uint8_t[]){2, 2, 1, 0, 2, 0}, 6, table, TABLE), 256);
-    expect("(2 (2) (1))", scalebench_ask((const uint8_t[]){2, 2, 2, 0, 1, 0}, 6, table, TABLE), stopped_at(1));
-    expect("(1)", scalebench_ask((const uint8_t[]){1, 0}, 2, table, TABLE), PART);
-    expect("(7)", scalebench_ask((const uint8_t[]){7, 0}, 2, table, TABLE), stopped_at(1));
+    expect("(1 (1) (1))", scalebench_ask((const uint8_t[]){0, 1, 2, 0, 1, 0, 0, 1, 0}, 9, table, TABLE), 256);
+    expect("(2 (1) (2))", scalebench_ask((const uint8_t[]){0, 2, 2, 0, 1, 0, 0, 2, 0}, 9, table, TABLE), 256);
+    expect("(2 (2) (1))", scalebench_ask((const uint8_t[]){0, 2, 2, 0, 2, 0, 0, 1, 0}, 9, table, TABLE), stopped_at(1));
+    expect("(1)", scalebench_ask((const uint8_t[]){0, 1, 0}, 3, table, TABLE), PART);
+    expect("(7)", scalebench_ask((const uint8_t[]){0, 7, 0}, 3, table, TABLE), stopped_at(1));
     memset(table, 0, TABLE);
     expect("the empty set", scalebench_intake(table, TABLE), 0);
 }
@@ -79,22 +76,22 @@ static void not_approved(void)
 static void every_place(void)
 {
     static uint8_t table[TABLE], scratch[SCRATCH];
-    uint8_t nodes[96];
+    uint8_t nodes[48 * NODE];
+    size_t length = list_chain(nodes, 48, 1, 0);
+    uint8_t *last = nodes + length - NODE;
     memset(table, 0, TABLE);
-    for (unsigned i = 0; i < 48; i++) {
-        nodes[2 * i] = 1;
-        nodes[2 * i + 1] = i < 47;
-    }
-    expect("48 nodes in the set", scalebench_add(nodes, 96, table, TABLE, scratch, SCRATCH), counts(48, 48));
+    expect("48 nodes in the set", scalebench_add(nodes, length, table, TABLE, scratch, SCRATCH), counts(48, 48));
     for (unsigned place = 1; place <= 48; place++) {
-        nodes[2 * place - 2] = 2;
-        expect("one node of 48", scalebench_ask(nodes, 96, table, TABLE), stopped_at(place));
-        nodes[94] = 2;
-        expect("the deepest of two", scalebench_ask(nodes, 96, table, TABLE), stopped_at(48));
-        nodes[94] = nodes[2 * place - 2] = 1;
+        uint8_t *node = nodes + NODE * (place - 1);
+        put_label(node, 2);
+        expect("one node of 48", scalebench_ask(nodes, length, table, TABLE), stopped_at(place));
+        put_label(last, 2);
+        expect("the deepest of two", scalebench_ask(nodes, length, table, TABLE), stopped_at(48));
+        put_label(last, 1);
+        put_label(node, 1);
     }
     for (unsigned place = 2; place <= 48; place++)
-        expect("a part", scalebench_ask(nodes + 2 * place - 2, 98 - 2 * place, table, TABLE), PART);
+        expect("a part", scalebench_ask(nodes + NODE * (place - 1), NODE * (49 - place), table, TABLE), PART);
 }
 
 static void one_byte(const char *what, unsigned at, uint8_t byte, uint64_t want)
@@ -104,7 +101,7 @@ static void one_byte(const char *what, unsigned at, uint8_t byte, uint64_t want)
     table[at] = byte;
     memcpy(copy, table, TABLE);
     expect(what, scalebench_intake(table, TABLE), want);
-    expect(what, scalebench_ask((const uint8_t[]){1, 0}, 2, table, TABLE), want);
+    expect(what, scalebench_ask((const uint8_t[]){0, 1, 0}, 3, table, TABLE), want);
     expect("nothing is written", (uint64_t)memcmp(copy, table, TABLE), 0);
 }
 
@@ -118,18 +115,19 @@ static void fields(void)
     one_byte("1,031 transitions", 201, 4, 7);
     one_byte("a transition too few", 202, 6, 7);
     one_byte("a transition too many", 202, 8, 7);
-    one_byte("label 0", HEAD, 0, 7);
-    one_byte("nine arguments", HEAD + WIDTH * 2 + 1, 9, 7);
-    one_byte("argument 0", HEAD + WIDTH * 2 + 2, 0, 7);
-    one_byte("argument 4", HEAD + WIDTH * 2 + 3, 4, 7);
-    one_byte("an argument beyond the count", HEAD + WIDTH * 2 + 4, 1, 7);
-    one_byte("an argument of a leaf", HEAD + 9, 1, 7);
-    one_byte("output 0", HEAD + 10, 0, 7);
-    one_byte("output 4", HEAD + 10, 4, 7);
+    one_byte("label 0", HEAD + 1, 0, 7);
+    one_byte("nine arguments", HEAD + WIDTH * 2 + ARITY_AT, 9, 7);
+    one_byte("argument 0", HEAD + WIDTH * 2 + ARGS_AT, 0, 7);
+    one_byte("argument 4", HEAD + WIDTH * 2 + ARGS_AT + 1, 4, 7);
+    one_byte("an argument beyond the count", HEAD + WIDTH * 2 + ARGS_AT + 2, 1, 7);
+    one_byte("an argument of a leaf", HEAD + ARGS_AT + 7, 1, 7);
+    one_byte("output 0", HEAD + OUT_AT, 0, 7);
+    one_byte("output 4", HEAD + OUT_AT, 4, 7);
     one_byte("the last byte", TABLE - 1, 1, 7);
-    one_byte("two equal transitions", HEAD + WIDTH, 1, 8);
-    one_byte("falling labels", HEAD, 3, 8);
-    one_byte("falling arguments", HEAD + WIDTH * 3 + 2, 2, 8);
+    one_byte("two equal transitions", HEAD + WIDTH + 1, 1, 8);
+    one_byte("falling labels", HEAD + 1, 3, 8);
+    one_byte("falling labels by the high byte", HEAD, 1, 8);
+    one_byte("falling arguments", HEAD + WIDTH * 3 + ARGS_AT, 2, 8);
 }
 
 static void refused(const char *what, const char *classes, const struct line *lines, unsigned count, uint64_t want)
@@ -137,7 +135,7 @@ static void refused(const char *what, const char *classes, const struct line *li
     uint8_t table[TABLE];
     build(table, classes, lines, count);
     expect(what, scalebench_intake(table, TABLE), want);
-    expect(what, scalebench_ask((const uint8_t[]){1, 0}, 2, table, TABLE), want);
+    expect(what, scalebench_ask((const uint8_t[]){0, 1, 0}, 3, table, TABLE), want);
 }
 
 static void automata(void)

@@ -11,65 +11,66 @@ static void both(const char *what, const uint8_t *tree, size_t tree_len, size_t 
 
 static void listings(void)
 {
-    uint8_t nodes[2 * 52];
+    enum { MOST = 48 * NODE };
+    uint8_t nodes[52 * NODE];
     build(table, "001", example, 7);
-    for (size_t i = 0; i < sizeof nodes; i++)
-        nodes[i] = i % 2 == 0;
+    for (size_t i = 0; i < 52; i++)
+        put_node(nodes, i, 1, 0);
     both("no listing", NULL, 0, TABLE, SCRATCH, 1);
     for (size_t length = 1; length < sizeof nodes; length++) {
-        uint64_t first = length % 2 || length > 96 ? 1 : 4;
-        if (length != 2)
+        uint64_t first = length % NODE || length > MOST ? 1 : 4;
+        if (length != NODE)
             both("bytes behind the tree", nodes, length, TABLE, SCRATCH, first);
     }
     for (size_t i = 0; i < 48; i++)
-        nodes[2 * i + 1] = 1;
-    both("48 nodes, one child missing", nodes, 96, TABLE, SCRATCH, 4);
-    nodes[94] = 0;
-    both("a label 0 at the end", nodes, 96, TABLE, SCRATCH, 2);
-    nodes[95] = 9;
-    both("label 0 before nine children", nodes, 96, TABLE, SCRATCH, 2);
-    nodes[94] = 1;
-    both("nine children at the end", nodes, 96, TABLE, SCRATCH, 3);
-    nodes[95] = 0;
-    call("48 nodes", scalebench_remove, nodes, 96, TABLE, SCRATCH, 15);
+        put_node(nodes, i, 1, 1);
+    both("48 nodes, one child missing", nodes, MOST, TABLE, SCRATCH, 4);
+    put_node(nodes, 47, 0, 1);
+    both("a label 0 at the end", nodes, MOST, TABLE, SCRATCH, 2);
+    put_node(nodes, 47, 0, 9);
+    both("label 0 before nine children", nodes, MOST, TABLE, SCRATCH, 2);
+    put_node(nodes, 47, 1, 9);
+    both("nine children at the end", nodes, MOST, TABLE, SCRATCH, 3);
+    put_node(nodes, 47, 1, 0);
+    call("48 nodes", scalebench_remove, nodes, MOST, TABLE, SCRATCH, 15);
 }
 
 static void lengths(void)
 {
-    const uint8_t leaf[] = {7, 0}, half[] = {7, 1};
-    const size_t tables[] = {0, 1, 202, 203, TABLE - 1, TABLE + 1, TABLE + 11};
-    const size_t scratches[] = {0, 1, 11, SCRATCH - 11, SCRATCH - 1, SCRATCH + 1, SCRATCH + 11};
+    const uint8_t leaf[] = {0, 7, 0}, half[] = {0, 7, 1};
+    const size_t tables[] = {0, 1, HEAD - 1, HEAD, TABLE - 1, TABLE + 1, TABLE + WIDTH, 11467};
+    const size_t scratches[] = {0, 1, WIDTH, SCRATCH - WIDTH, SCRATCH - 1, SCRATCH + 1, SCRATCH + WIDTH, 33792};
     build(table, "001", example, 7);
     for (size_t i = 0; i < sizeof tables / sizeof *tables; i++) {
-        both("a table of another length", leaf, 2, tables[i], SCRATCH, 5);
-        both("the table before the scratch", leaf, 2, tables[i], scratches[i], 5);
-        both("the listing before the table", half, 2, tables[i], scratches[i], 4);
+        both("a table of another length", leaf, NODE, tables[i], SCRATCH, 5);
+        both("the table before the scratch", leaf, NODE, tables[i], scratches[i], 5);
+        both("the listing before the table", half, NODE, tables[i], scratches[i], 4);
     }
     for (size_t i = 0; i < sizeof scratches / sizeof *scratches; i++)
-        both("a scratch of another length", leaf, 2, TABLE, scratches[i], 6);
+        both("a scratch of another length", leaf, NODE, TABLE, scratches[i], 6);
     table[200] = 1;
-    both("a class beyond the states", leaf, 2, TABLE, SCRATCH, 7);
-    both("the scratch before the fields", leaf, 2, TABLE, 0, 6);
-    both("the length before the fields", leaf, 2, TABLE - 1, SCRATCH, 5);
+    both("a class beyond the states", leaf, NODE, TABLE, SCRATCH, 7);
+    both("the scratch before the fields", leaf, NODE, TABLE, 0, 6);
+    both("the length before the fields", leaf, NODE, TABLE - 1, SCRATCH, 5);
 }
 
 static void tables(void)
 {
-    const uint8_t leaf[] = {1, 0};
+    const uint8_t leaf[] = {0, 1, 0};
     build(table, "001", example, 7);
-    table[HEAD + WIDTH * 3 + 2] = 2;
-    both("falling arguments", leaf, 2, TABLE, SCRATCH, 8);
+    table[HEAD + WIDTH * 3 + ARGS_AT] = 2;
+    both("falling arguments", leaf, NODE, TABLE, SCRATCH, 8);
     build(table, "11", (const struct line[]){{1, 0, {0}, 1}, {3, 1, {2}, 2}}, 2);
-    both("no tree leads to state 2", leaf, 2, TABLE, SCRATCH, 9);
+    both("no tree leads to state 2", leaf, NODE, TABLE, SCRATCH, 9);
     const struct line leaves[] = {{1, 0, {0}, 1}, {2, 0, {0}, 2}};
     build(table, "10", leaves, 2);
-    both("state 2 leads nowhere", leaf, 2, TABLE, SCRATCH, 10);
+    both("state 2 leads nowhere", leaf, NODE, TABLE, SCRATCH, 10);
     build(table, "01", (const struct line[]){{1, 0, {0}, 1}, {2, 1, {1}, 2}, {2, 1, {2}, 2}}, 3);
-    both("state 2 comes back", leaf, 2, TABLE, SCRATCH, 11);
+    both("state 2 comes back", leaf, NODE, TABLE, SCRATCH, 11);
     build(table, "11", leaves, 2);
-    both("two alike", leaf, 2, TABLE, SCRATCH, 12);
+    both("two alike", leaf, NODE, TABLE, SCRATCH, 12);
     build(table, "01", (const struct line[]){{1, 0, {0}, 2}, {2, 0, {0}, 1}, {3, 1, {1}, 2}}, 3);
-    both("state 2 first", leaf, 2, TABLE, SCRATCH, 13);
+    both("state 2 first", leaf, NODE, TABLE, SCRATCH, 13);
 }
 
 /* Both leaves of state 1 as arguments: a label of arity k has 2^k transitions in the product with (20 (1)). */

@@ -123,16 +123,11 @@ static void all_calls(const char *what)
 /* Every call with a leaf and with two chains of 48 nodes. */
 static void all_trees(const char *what)
 {
-    tree[0] = 255;
-    tree[1] = 0;
-    tree_length = 2;
+    put_leaf(tree, 255);
+    tree_length = NODE;
     all_calls(what);
-    tree_length = sizeof tree;
     for (unsigned leaf = 1; leaf <= 201; leaf += 200) {
-        for (unsigned i = 0; i < 48; i++) {
-            tree[2 * i] = (uint8_t)(leaf + 47 - i);
-            tree[2 * i + 1] = i < 47;
-        }
+        tree_length = list_chain(tree, 48, leaf, 1);
         all_calls(what);
     }
 }

@@ -8,7 +8,10 @@
 #include <stdlib.h>
 #include <string.h>
 
-enum { TABLE = SCALEBENCH_TABLE_BYTES, SCRATCH = SCALEBENCH_SCRATCH_BYTES, HEAD = 203, WIDTH = 11, STATES = 200 };
+enum { TABLE = SCALEBENCH_TABLE_BYTES, SCRATCH = SCALEBENCH_SCRATCH_BYTES, HEAD = 203, STATES = 200 };
+
+/* The bytes of a node in a listing and of a transition in a table, and where the fields behind the label are. */
+enum { NODE = 3, COUNT_AT = 2, WIDTH = 12, ARITY_AT = 2, ARGS_AT = 3, OUT_AT = 11 };
 
 static int passed, failed;
 
@@ -36,6 +39,31 @@ static inline uint64_t stopped_at(uint64_t place) { return place << 16; }
 /* What intake, add and remove answer that are not refused. */
 static inline uint64_t counts(uint64_t states, uint64_t transitions) { return states << 16 | transitions << 32; }
 
+/* A label in bytes: the high one first. */
+static inline void put_label(uint8_t *bytes, unsigned label)
+{
+    bytes[0] = (uint8_t)(label / 256);
+    bytes[1] = (uint8_t)(label % 256);
+}
+
+/* A node of a listing, by its place from 0 on. */
+static inline void put_node(uint8_t *listing, size_t node, unsigned label, unsigned count)
+{
+    put_label(listing + NODE * node, label);
+    listing[NODE * node + COUNT_AT] = (uint8_t)count;
+}
+
+/* The listing of a leaf. */
+static inline void put_leaf(uint8_t *listing, unsigned label) { put_node(listing, 0, label, 0); }
+
+/* The listing of a chain of so many nodes, labels rising by `step` from the leaf up; its length. */
+static inline size_t list_chain(uint8_t *listing, unsigned nodes, unsigned leaf, unsigned step)
+{
+    for (unsigned i = 0; i < nodes; i++)
+        put_node(listing, i, leaf + step * (nodes - 1 - i), i + 1 < nodes);
+    return NODE * (size_t)nodes;
+}
+
 /* The listing of a tree written in brackets; its length. */
 static inline size_t list(const char *text, uint8_t *listing)
 {
@@ -43,11 +71,10 @@ static inline size_t list(const char *text, uint8_t *listing)
     for (const char *s = text; *s;) {
         if (*s == '(') {
             if (depth)
-                listing[open[depth - 1] + 1]++;
+                listing[open[depth - 1] + COUNT_AT]++;
             open[depth++] = length;
-            listing[length] = (uint8_t)strtoul(s + 1, (char **)&s, 10);
-            listing[length + 1] = 0;
-            length += 2;
+            put_leaf(listing + length, (unsigned)strtoul(s + 1, (char **)&s, 10));
+            length += NODE;
         } else {
             depth -= *s++ == ')';
         }
@@ -56,7 +83,8 @@ static inline size_t list(const char *text, uint8_t *listing)
 }
 
 struct line {
-    uint8_t label, arity, args[8], out;
+    uint16_t label;
+    uint8_t arity, args[8], out;
 };
 
 /* The paper's example. */
@@ -70,11 +98,11 @@ static inline void append(uint8_t *table, unsigned label, unsigned arity, const 
 {
     unsigned count = 256u * table[201] + table[202];
     uint8_t *line = table + HEAD + WIDTH * count++;
-    line[0] = (uint8_t)label;
-    line[1] = (uint8_t)arity;
+    put_label(line, label);
+    line[ARITY_AT] = (uint8_t)arity;
     for (unsigned k = 0; k < arity; k++)
-        line[2 + k] = args[k];
-    line[10] = (uint8_t)out;
+        line[ARGS_AT + k] = args[k];
+    line[OUT_AT] = (uint8_t)out;
     table[201] = (uint8_t)(count / 256);
     table[202] = (uint8_t)(count % 256);
 }

@@ -22,12 +22,15 @@ static struct work alone[THREADS], together[THREADS];
 /* Trees with three levels, drawn from few; every third call takes one out. */
 static void *work_through(void *given)
 {
-    const uint8_t known[] = {1, 2, 1, 0, 2, 0};
+    const uint8_t known[] = {0, 1, 2, 0, 1, 0, 0, 2, 0};
     struct work *work = given;
     for (unsigned i = 0; i < CHANGES; i++) {
         unsigned x = (i * 7 + work->seed * 13) * 2654435761u >> 16;
-        const uint8_t tree[] = {(uint8_t)(1 + x % 5),      2, (uint8_t)(1 + x / 5 % 3),  1,
-                                (uint8_t)(1 + x / 15 % 4), 0, (uint8_t)(1 + x / 60 % 5), 0};
+        uint8_t tree[4 * NODE];
+        put_node(tree, 0, 1 + x % 5, 2);
+        put_node(tree, 1, 1 + x / 5 % 3, 1);
+        put_node(tree, 2, 1 + x / 15 % 4, 0);
+        put_node(tree, 3, 1 + x / 60 % 5, 0);
         work->answers[i] = (i % 3 == 2 ? scalebench_remove : scalebench_add)(tree, sizeof tree, work->table, TABLE,
                                                                            work->scratch, SCRATCH);
         uint64_t trees = 0, number = 0;
@@ -38,10 +41,9 @@ static void *work_through(void *given)
             scalebench_unrank(1, shared, TABLE, listing, sizeof listing) != 0 || memcmp(listing, known, sizeof known))
             work->answers[i] = UINT64_MAX;
     }
-    uint8_t deep[96];
-    for (unsigned i = 0; i < sizeof deep; i++)
-        deep[i] = i % 2 == 0 ? (uint8_t)(10 + i) : i < 95;
-    work->deepest = scalebench_add(deep, sizeof deep, work->table, TABLE, work->scratch, SCRATCH);
+    uint8_t deep[48 * NODE];
+    size_t length = list_chain(deep, 48, 10, 2);
+    work->deepest = scalebench_add(deep, length, work->table, TABLE, work->scratch, SCRATCH);
     return NULL;
 }
 

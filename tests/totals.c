@@ -150,7 +150,7 @@ static void refusals(void)
     table[0] = 201;
     refused("201 states", table, TABLE, 7);
     build(table, "001", example, 7);
-    table[HEAD] = 3;
+    table[HEAD + 1] = 3;
     refused("falling labels", table, TABLE, 8);
     built("no tree leads to state 2", "11", alone, 2, 9);
     built("state 2 leads nowhere", "10", two, 2, 10);

@@ -11,7 +11,7 @@ impl Dice {
         for _ in 0..transitions {
             let arity = self.roll(width + 1);
             let args = (0..arity).map(|_| 1 + self.roll(states) as u8).collect();
-            lines.insert(Key::new(1 + self.roll(labels) as u8, args), 1 + self.roll(states) as u8);
+            lines.insert(Key::new(self.any_label(labels), args), 1 + self.roll(states) as u8);
         }
         Automaton { accepting: (0..states).map(|_| self.roll(3) == 0).collect(), transitions: lines }
     }
@@ -23,7 +23,7 @@ impl Dice {
             let out = 1 + self.roll(states);
             let arity = if out == 1 { 0 } else { self.roll(width + 1) };
             let args = (0..arity).map(|_| 1 + self.roll(out - 1) as u8).collect();
-            lines.insert(Key::new(1 + self.roll(labels) as u8, args), out as u8);
+            lines.insert(Key::new(self.any_label(labels), args), out as u8);
         }
         legal(&Automaton { accepting: (0..states).map(|_| self.roll(4) == 0).collect(), transitions: lines })
     }
@@ -31,10 +31,10 @@ impl Dice {
     /// Few leaves in one state and many transitions of many places over it: a tree that tells the leaves apart makes a
     /// product of a few hundred to some thousand transitions.
     pub fn families(&mut self) -> Automaton {
-        let leaves = 2 + self.roll(2) as u8;
-        let mut lines: BTreeMap<Key, u8> = (1..=leaves).map(|leaf| (Key::new(leaf, vec![]), 1)).collect();
-        for label in 3..3 + 1 + self.roll(12) as u8 {
-            lines.insert(Key::new(label, vec![1; 8 - self.roll(8) / 5]), 2);
+        let leaves = 2 + self.roll(2);
+        let mut lines: BTreeMap<Key, u8> = (1..=leaves).map(|leaf| (Key::new(self.label(leaf), vec![]), 1)).collect();
+        for label in 3..3 + 1 + self.roll(12) {
+            lines.insert(Key::new(self.label(label), vec![1; 8 - self.roll(8) / 5]), 2);
         }
         Automaton { accepting: vec![self.roll(4) == 0, true], transitions: lines }
     }
@@ -46,8 +46,10 @@ impl Dice {
         let step = 2 + self.roll(3) as u8;
         for q in 1..states {
             let below = if q <= step { vec![] } else { vec![q - step] };
-            lines.insert(Key::new(1 + self.roll(9) as u8 + 10 * (q % step), below), q);
-            lines.insert(Key::new(100 + q % step, vec![q; 1 + self.roll(2)]), states);
+            let group = usize::from(q % step);
+            let label = 1 + self.roll(9) + 10 * group;
+            lines.insert(Key::new(self.label(label), below), q);
+            lines.insert(Key::new(self.label(100 + group), vec![q; 1 + self.roll(2)]), states);
         }
         legal(&Automaton { accepting: (1..=states).map(|q| q == states).collect(), transitions: lines })
     }

@@ -2,10 +2,9 @@
 
 use crate::dice::Dice;
 use reference::automaton::{Automaton, Key};
-use reference::table::{encode, intake, MAX_STATES, MAX_TRANSITIONS, TABLE_BYTES};
-
-const HEAD: usize = 203;
-const WIDTH: usize = 11;
+use reference::old;
+use reference::table::{encode, intake, HEAD, MAX_STATES, MAX_TRANSITIONS, TABLE_BYTES, WIDTH};
+use reference::tree::NODE_BYTES;
 
 impl Dice {
     /// A table like a legal one, most likely refused by the number given; another number leaves bytes at random.
@@ -43,7 +42,8 @@ impl Dice {
 
     fn cut(&mut self, table: &[u8]) -> Vec<u8> {
         let mut bytes = table.to_vec();
-        let lengths = [0, 1, HEAD - 1, HEAD, HEAD + 1, TABLE_BYTES - WIDTH, TABLE_BYTES - 1, TABLE_BYTES + 1];
+        let near = [TABLE_BYTES - WIDTH, TABLE_BYTES - 1, TABLE_BYTES + 1, old::TABLE_BYTES];
+        let lengths = [&[0, 1, HEAD - 1, HEAD, HEAD + 1], &near[..]].concat();
         bytes.resize(*self.pick(&lengths), 0);
         bytes
     }
@@ -69,8 +69,9 @@ impl Dice {
         1 + self.roll(automaton.accepting.len().max(1)) as u8
     }
 
-    fn fresh_label(&mut self) -> u8 {
-        200 + self.roll(50) as u8
+    fn fresh_label(&mut self) -> u16 {
+        let number = 200 + self.roll(50);
+        self.label(number)
     }
 
     /// A further state that only leads on, or only comes from itself.
@@ -153,12 +154,16 @@ impl Dice {
         automaton
     }
 
-    /// A byte of the listing changed, or one too few, or some too many.
+    /// A byte of the listing changed, or a label made 0, or some bytes too few or too many.
     pub fn damaged_listing(&mut self, listing: &[u8]) -> Vec<u8> {
         let mut bytes = listing.to_vec();
-        match self.roll(4) {
+        match self.roll(5) {
             0 => bytes.truncate(self.roll(listing.len() + 1)),
-            1 => bytes.extend((0..1 + self.roll(4)).map(|i| (1 + i as u8) % 2)),
+            2 => {
+                let at = NODE_BYTES * self.roll(bytes.len() / NODE_BYTES);
+                bytes[at..at + 2].fill(0);
+            }
+            1 => bytes.extend((0..1 + self.roll(6)).map(|i| u8::from(i % 3 == 1))),
             _ => {
                 let at = self.roll(bytes.len());
                 bytes[at] = self.roll(12) as u8;

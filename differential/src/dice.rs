@@ -1,20 +1,58 @@
-//! Pseudo-random numbers, trees and bytes, the same on every machine.
+//! Pseudo-random numbers, labels, trees and bytes, the same on every machine.
 
 use reference::automaton::Automaton;
 use reference::tree::{Tree, MAX_CHILDREN, MAX_NODES};
 
-pub struct Dice(u64);
+pub struct Dice {
+    state: u64,
+    /// Which labels stand for 1, 2, 3 and so on.
+    way: usize,
+}
+
+/// The number of ways in which numbers have labels.
+const WAYS: usize = 8;
+/// A number above those whose labels random trees and automata have, and the last that has a label.
+pub const FOREIGN: usize = 254;
+pub const LAST: usize = 255;
 
 impl Dice {
     pub fn new(seed: u64) -> Dice {
-        Dice(seed.wrapping_mul(0x9e37_79b9_7f4a_7c15) ^ 0x2545_f491_4f6c_dd1d)
+        Dice { state: seed.wrapping_mul(0x9e37_79b9_7f4a_7c15) ^ 0x2545_f491_4f6c_dd1d, way: 0 }
     }
 
     pub fn roll(&mut self, below: usize) -> usize {
-        self.0 ^= self.0 << 13;
-        self.0 ^= self.0 >> 7;
-        self.0 ^= self.0 << 17;
-        (self.0 % below as u64) as usize
+        self.state ^= self.state << 13;
+        self.state ^= self.state >> 7;
+        self.state ^= self.state << 17;
+        (self.state % below as u64) as usize
+    }
+
+    /// From here on other labels. Whatever is to share labels is made between two such calls.
+    pub fn relabel(&mut self) {
+        self.way = self.roll(WAYS);
+    }
+
+    /// The label that stands for a number from 1 to 255, another one for each: small ones; around a border of the first
+    /// byte; low byte 0; high byte 255, falling from 65,535; two equal bytes; one byte only, high or low; bytes from a
+    /// grid, so that many differ in one byte only; and all over the range.
+    pub fn label(&self, number: usize) -> u16 {
+        let n = number as u16;
+        match self.way {
+            0 => n,
+            1 => 254 + n,
+            2 => 256 * n,
+            3 => u16::MAX - (n - 1),
+            4 => 257 * n,
+            5 => if n % 2 == 0 { n } else { 256 * n },
+            6 => 256 * (n % 16) + n / 16 + 1,
+            _ => n.wrapping_mul(40_503),
+        }
+    }
+
+    /// One of so many labels.
+    pub fn any_label(&mut self, labels: usize) -> u16 {
+        let number = 1 + self.roll(labels);
+        self.label(number)
     }
 
     pub fn byte(&mut self) -> u8 {
@@ -33,7 +71,7 @@ impl Dice {
 
     fn tree(&mut self, depth: usize, labels: usize, width: usize) -> Tree {
         let children = if depth == 0 { 0 } else { self.roll(width + 1) };
-        let label = 1 + self.roll(labels) as u8;
+        let label = self.any_label(labels);
         Tree::new(label, (0..children).map(|_| self.tree(depth - 1, labels, width)).collect())
     }
 
@@ -74,7 +112,7 @@ impl Dice {
             node = &mut node.children[k];
         }
         match self.roll(4) {
-            0 => node.label = 1 + self.roll(5) as u8,
+            0 => node.label = self.any_label(5),
             1 => node.children.reverse(),
             2 => drop(node.children.pop()),
             _ => {
@@ -95,12 +133,12 @@ impl Dice {
         let mut parts = all_trees(automaton, state)?;
         while parts.len() > MAX_CHILDREN {
             let last = parts.split_off(parts.len() - MAX_CHILDREN);
-            parts.push(Tree::new(1 + self.roll(4) as u8, last));
+            parts.push(Tree::new(self.any_label(4), last));
         }
         let tree = if parts.len() == 1 && self.roll(2) == 0 {
             parts.remove(0)
         } else {
-            Tree::new(1 + self.roll(4) as u8, parts)
+            Tree::new(self.any_label(4), parts)
         };
         Some(tree).filter(|tree| tree.nodes() <= MAX_NODES)
     }

@@ -14,12 +14,14 @@ const TOTALS: usize = 2_000;
 pub fn lines(dice: &mut Dice, tally: &mut Tally) {
     for i in 0..LINES {
         let (depth, width) = if i % 8 == 0 { (6, 3) } else { (3, 4) };
+        dice.relabel();
         let line = dice.line(depth, width);
         let noise = dice.noise(READ_BYTES);
         tally.line(&line, &noise);
         tally.line(&dice.damaged_line(&line), &noise);
         tally.line(&line[..dice.roll(line.len() + 1)], &noise);
     }
+    labels(dice, tally);
     totals(dice, tally);
     let long = dice.line_of(&(0..125).fold(Tree::leaf(1), |tree, _| Tree::new(1, vec![tree])));
     for length in 0..=530 {
@@ -31,6 +33,17 @@ pub fn lines(dice: &mut Dice, tally: &mut Tally) {
         tally.line(&long, &noise[..length.min(READ_BYTES - 1)]);
     }
     tally.line(&long, &dice.noise(READ_BYTES + 1));
+}
+
+/// Every number of up to five digits as a label, and longer ones.
+fn labels(dice: &mut Dice, tally: &mut Tally) {
+    let noise = dice.noise(READ_BYTES);
+    for number in 0..=100_009 {
+        tally.line(format!("(ask ({number}))").as_bytes(), &noise);
+    }
+    for number in ["00", "01", "065535", "655350", "655360", "4294967297", "18446744073709551617", "65535 ", " 65535"] {
+        tally.line(format!("(add ({number}))").as_bytes(), &noise);
+    }
 }
 
 /// The line that asks for the total, and lines near it: cut, with more behind it, and with a byte changed.
@@ -60,7 +73,7 @@ impl Dice {
 
     fn line_of(&mut self, tree: &Tree) -> Vec<u8> {
         let word = *self.pick(&["add", "drop", "ask"]);
-        format!("({word} {})", bracketed(tree)).into_bytes()
+        format!("({word} {})", tree.bracketed()).into_bytes()
     }
 
     fn damaged_line(&mut self, line: &[u8]) -> Vec<u8> {
@@ -74,9 +87,4 @@ impl Dice {
         }
         bytes
     }
-}
-
-fn bracketed(tree: &Tree) -> String {
-    let children: Vec<String> = tree.children.iter().map(|child| format!(" {}", bracketed(child))).collect();
-    format!("({}{})", tree.label, children.concat())
 }

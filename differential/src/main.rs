@@ -3,7 +3,7 @@
 //! that stop at every place; totals around 2^64; serial numbers both ways. Answers and every byte that a call may write
 //! are compared, and every answer must be met.
 
-use differential::dice::Dice;
+use differential::dice::{Dice, LAST};
 use differential::lines::lines;
 use differential::serial::serial;
 use differential::series::{next_tree, series};
@@ -12,8 +12,9 @@ use differential::swaps::swaps;
 use differential::tally::{Call, Tally};
 use differential::totals::totals;
 use reference::automaton::Automaton;
-use reference::table::{encode, SCRATCH_BYTES, TABLE_BYTES};
-use reference::tree::{Tree, LISTING_BYTES};
+use reference::old;
+use reference::table::{encode, HEAD, SCRATCH_BYTES, TABLE_BYTES, WIDTH};
+use reference::tree::{Tree, LISTING_BYTES, NODE_BYTES};
 
 const SERIES: usize = 400;
 const CALLS: usize = 60;
@@ -21,7 +22,9 @@ const NEAR_LIMITS: usize = 60;
 const AUTOMATA: usize = 2_500;
 const DAMAGED: usize = 20_000;
 
+/// Labels of its own, which the trees that follow share.
 fn small_legal(dice: &mut Dice) -> Automaton {
+    dice.relabel();
     let (states, transitions) = (2 + dice.roll(12), 2 + dice.roll(40));
     let (labels, width) = (1 + dice.roll(4), 1 + dice.roll(3));
     dice.legal(states, transitions, labels, width)
@@ -37,10 +40,11 @@ fn all_series(dice: &mut Dice, tally: &mut Tally) {
 /// Tables near the limits, where 16 and 17 are met, and trees that tell their leaves apart.
 fn near_limits(dice: &mut Dice, tally: &mut Tally) {
     for i in 0..NEAR_LIMITS {
+        dice.relabel();
         let automaton = if i % 6 == 0 { dice.deep() } else { dice.families() };
         let table = encode(&automaton);
         let scratch = dice.noise(SCRATCH_BYTES);
-        let split = Tree::new(20, (0..1 + dice.roll(2)).map(|_| Tree::leaf(1 + dice.roll(2) as u8)).collect());
+        let split = Tree::new(dice.label(20), (0..1 + dice.roll(2)).map(|_| Tree::leaf(dice.any_label(2))).collect());
         tally.change(Call::Add, &split.listing(), &mut table.clone(), &scratch);
         if let Some(tree) = dice.accepted(&automaton) {
             tally.change(Call::Remove, &tree.listing(), &mut table.clone(), &scratch);
@@ -57,7 +61,7 @@ fn damaged_tables(dice: &mut Dice, tally: &mut Tally) {
         }
         let refusal = *dice.pick(&[5, 7, 8, 9, 10, 11, 12, 13]);
         let table = dice.damaged(&encode(&legal), refusal);
-        let listing = next_tree(dice, &legal, &[Tree::leaf(2)]).listing();
+        let listing = next_tree(dice, &legal, &[Tree::leaf(dice.label(2))]).listing();
         let call = if dice.roll(2) == 0 { Call::Add } else { Call::Remove };
         let scratch = if dice.roll(50) == 0 { dice.noise(7) } else { dice.noise(SCRATCH_BYTES) };
         tally.read(&listing, &table);
@@ -70,6 +74,7 @@ fn damaged_tables(dice: &mut Dice, tally: &mut Tally) {
 /// Automata of which nothing is promised but that fields are in range.
 fn any_automata(dice: &mut Dice, tally: &mut Tally) {
     for _ in 0..AUTOMATA {
+        dice.relabel();
         let (states, transitions) = (2 + dice.roll(12), 2 + dice.roll(40));
         let (labels, width) = (1 + dice.roll(4), 1 + dice.roll(3));
         let table = encode(&dice.automaton(states, transitions, labels, width));
@@ -81,26 +86,32 @@ fn any_automata(dice: &mut Dice, tally: &mut Tally) {
 /// Listings of every length up to some beyond the greatest, and tables and scratches of wrong lengths.
 fn lengths(dice: &mut Dice, tally: &mut Tally) {
     let legal = encode(&small_legal(dice));
-    for length in 0..=104 {
-        let chain: Vec<u8> = (0..length).map(|i| if i % 2 == 0 { 1 } else { u8::from(i + 1 < length) }).collect();
-        let leaves: Vec<u8> = (0..length).map(|i| if i % 2 == 0 { 2 } else { 0 }).collect();
+    for length in 0..=LISTING_BYTES + 12 {
+        let [high, low] = dice.any_label(LAST).to_be_bytes();
+        let node = |i: usize, count: u8| [high, low, count][i % NODE_BYTES];
+        let chain: Vec<u8> = (0..length).map(|i| node(i, u8::from(i + 1 < length))).collect();
+        let leaves: Vec<u8> = (0..length).map(|i| node(i, 0)).collect();
         let any: Vec<u8> = (0..length).map(|_| dice.roll(11) as u8).collect();
         for listing in [chain, leaves, any] {
             tally.all(&listing, &legal, &dice.noise(SCRATCH_BYTES));
         }
     }
-    let near = |right: usize| (0..=12).chain(200..=216).chain(right - 12..=right + 12).chain([2 * right]);
-    for length in near(TABLE_BYTES) {
+    let leaf = Tree::leaf(dice.label(1)).listing();
+    let near = |right: usize| {
+        let head = HEAD - 3..=HEAD + WIDTH + 2;
+        (0..=WIDTH).chain(head).chain(right - WIDTH..=right + WIDTH).chain([2 * right])
+    };
+    for length in near(TABLE_BYTES).chain(near(old::TABLE_BYTES)) {
         let mut table = legal.clone();
         table.resize(length, 0);
         for scratch in [SCRATCH_BYTES, SCRATCH_BYTES - 1] {
-            tally.all(&[1, 0], &table, &dice.noise(scratch));
+            tally.all(&leaf, &table, &dice.noise(scratch));
         }
     }
-    for length in near(SCRATCH_BYTES) {
+    for length in near(SCRATCH_BYTES).chain(near(old::SCRATCH_BYTES)) {
         let broken = dice.damaged(&legal, 7);
         for table in [&legal, &broken] {
-            tally.all(&[1, 0], table, &dice.noise(length));
+            tally.all(&leaf, table, &dice.noise(length));
         }
     }
 }

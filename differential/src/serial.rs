@@ -3,14 +3,14 @@
 //! too large for a listing; one tree of 2^200 - 1 nodes; listings of all lengths lent.
 
 use crate::automata::legal;
-use crate::dice::Dice;
+use crate::dice::{Dice, LAST};
 use crate::library;
 use crate::tally::Tally;
 use crate::totals::{exponents, sum_of, NEAR};
 use reference::automaton::{Automaton, Key};
 use reference::serial::sorted;
 use reference::table::{encode, MAX_TRANSITIONS, TABLE_BYTES};
-use reference::tree::{read, Tree, LISTING_BYTES, MAX_NODES};
+use reference::tree::{read, Tree, LISTING_BYTES, MAX_NODES, NODE_BYTES};
 use std::collections::BTreeMap;
 use std::time::{Duration, Instant};
 
@@ -18,7 +18,7 @@ const TABLES: usize = 400;
 const EACH: usize = 16;
 const NODES: usize = 4_000;
 const CHOSEN: usize = 12;
-const FAMILY: u8 = 10;
+const FAMILY: usize = 10;
 const BASE: u128 = 254;
 
 impl Dice {
@@ -38,8 +38,8 @@ impl Dice {
 
 /// The tree at the start of a listing with zeros after it.
 fn first_tree(listing: &[u8]) -> Option<Tree> {
-    let tree = (1..=MAX_NODES).find_map(|nodes| read(listing.get(..2 * nodes)?).ok())?;
-    listing[2 * tree.nodes()..].iter().all(|&byte| byte == 0).then_some(tree)
+    let tree = (1..=MAX_NODES).find_map(|nodes| read(listing.get(..NODE_BYTES * nodes)?).ok())?;
+    listing[NODE_BYTES * tree.nodes()..].iter().all(|&byte| byte == 0).then_some(tree)
 }
 
 /// A number to its tree and back; the tree, if the number has one that fits.
@@ -77,6 +77,7 @@ fn known(dice: &mut Dice, tally: &mut Tally, table: &[u8], trees: &[Tree]) {
 fn random(dice: &mut Dice, tally: &mut Tally) -> usize {
     let mut all = 0;
     for i in 0..TABLES {
+        dice.relabel();
         let (states, transitions, width) = (2 + dice.roll(10), 2 + dice.roll(30), 1 + dice.roll(4));
         let automaton = if i % 200 == 0 { dice.deep() } else { dice.legal(states, transitions, 4, width) };
         let table = encode(&automaton);
@@ -97,9 +98,10 @@ fn random(dice: &mut Dice, tally: &mut Tally) -> usize {
 
 /// Ten leaves for each of four places: every number of 10,000 trees through the library, against the trees sorted.
 fn ten_thousand(dice: &mut Dice, tally: &mut Tally) {
-    let leaves = (0..4 * FAMILY).map(|label| (Key::new(1 + label, vec![]), 1 + label / FAMILY));
-    let lines = leaves.chain([(Key::new(50, vec![1, 2, 3, 4]), 5)]).collect();
-    let automaton = Automaton { accepting: vec![false, false, false, false, true], transitions: lines };
+    dice.relabel();
+    let leaves = (0..4 * FAMILY).map(|leaf| (Key::new(dice.label(1 + leaf), vec![]), (1 + leaf / FAMILY) as u8));
+    let lines = leaves.chain([(Key::new(dice.label(50), vec![1, 2, 3, 4]), 5)]).collect();
+    let automaton = legal(&Automaton { accepting: vec![false, false, false, false, true], transitions: lines });
     let table = encode(&automaton);
     let trees = sorted(&automaton, 100_000).unwrap_or_default();
     tally.expect(trees.len() == 10_000, || format!("{} trees of 10,000", trees.len()));
@@ -116,14 +118,15 @@ fn ten_thousand(dice: &mut Dice, tally: &mut Tally) {
 /// A table of so many trees, none above nine nodes: 254 leaves in one state, and over k of them as many labels as
 /// digit k of the number to base 254 says. Digit 0 counts labels over the last leaf, which has a state of its own.
 /// None if the transitions are too many.
-fn small_trees(number: u128) -> Option<Automaton> {
+fn small_trees(dice: &Dice, number: u128) -> Option<Automaton> {
     let (leaves, last, top) = (1, 2, 3);
-    let mut lines: BTreeMap<Key, u8> = (1..=BASE as u8).map(|label| (Key::new(label, vec![]), leaves)).collect();
-    lines.insert(Key::new(255, vec![]), last);
+    let leaf = |number: usize| Key::new(dice.label(number), vec![]);
+    let mut lines: BTreeMap<Key, u8> = (1..=BASE as usize).map(|number| (leaf(number), leaves)).collect();
+    lines.insert(leaf(LAST), last);
     for places in 0..=8 {
         let args = if places == 0 { vec![last] } else { vec![leaves; places] };
-        let digit = (number / BASE.pow(places as u32) % BASE) as u8;
-        lines.extend((1..=digit).map(|label| (Key::new(label, args.clone()), top)));
+        let digit = (number / BASE.pow(places as u32) % BASE) as usize;
+        lines.extend((1..=digit).map(|label| (Key::new(dice.label(label), args.clone()), top)));
     }
     let automaton = legal(&Automaton { accepting: vec![false, false, true], transitions: lines });
     Some(automaton).filter(|automaton| automaton.transitions.len() <= MAX_TRANSITIONS)
@@ -148,7 +151,8 @@ fn chosen(dice: &mut Dice, tally: &mut Tally, automaton: &Automaton) {
 
 /// Two tables of so many trees: one of small trees, and one of chains, of which many do not fit a listing.
 fn of_total(dice: &mut Dice, tally: &mut Tally, number: u128) {
-    if let Some(automaton) = small_trees(number) {
+    dice.relabel();
+    if let Some(automaton) = small_trees(dice, number) {
         chosen(dice, tally, &automaton);
     }
     let exponents = exponents(dice, number);
@@ -158,7 +162,7 @@ fn of_total(dice: &mut Dice, tally: &mut Tally, number: u128) {
 
 fn around_the_limit(dice: &mut Dice, tally: &mut Tally) {
     for near in [NEAR - 2, NEAR - 1, NEAR, NEAR + 1] {
-        tally.expect(small_trees(near).is_some(), || format!("no table of {near} small trees"));
+        tally.expect(small_trees(dice, near).is_some(), || format!("no table of {near} small trees"));
         of_total(dice, tally, near);
     }
     for _ in 0..CHOSEN {
@@ -170,8 +174,10 @@ fn around_the_limit(dice: &mut Dice, tally: &mut Tally) {
 
 /// Each state under the next at so many places: one tree, which soon has more nodes than any number here.
 fn doubled(dice: &mut Dice, tally: &mut Tally, levels: u8, places: usize) {
-    let mut lines = BTreeMap::from([(Key::new(1, vec![]), 1)]);
-    lines.extend((1..levels).map(|state| (Key::new(1, vec![state; places]), state + 1)));
+    dice.relabel();
+    let label = dice.any_label(LAST);
+    let mut lines = BTreeMap::from([(Key::new(label, vec![]), 1)]);
+    lines.extend((1..levels).map(|state| (Key::new(label, vec![state; places]), state + 1)));
     let table = encode(&Automaton { accepting: (1..=levels).map(|q| q == levels).collect(), transitions: lines });
     let began = Instant::now();
     library::unrank(0, &table, &mut dice.noise(LISTING_BYTES));
@@ -186,7 +192,7 @@ fn doubled(dice: &mut Dice, tally: &mut Tally, levels: u8, places: usize) {
 fn lengths(dice: &mut Dice, tally: &mut Tally) {
     let legal = encode(&dice.legal(6, 20, 4, 3));
     let (damaged, cut) = (dice.damaged(&legal, 7), &legal[..TABLE_BYTES - 1]);
-    for length in (0..=110).chain([144, 251, 252, 253, TABLE_BYTES]) {
+    for length in (0..=LISTING_BYTES + 12).chain([252, 377, 378, 379, TABLE_BYTES]) {
         for table in [&legal, &damaged, cut] {
             tally.unrank(0, table, &dice.noise(length));
             tally.unrank(u64::MAX, table, &dice.noise(length));

@@ -4,13 +4,14 @@ use crate::dice::Dice;
 use crate::serial::from_number;
 use crate::tally::{Call, Tally};
 use reference::automaton::Automaton;
-use reference::table::{encode, intake, SCRATCH_BYTES, TABLE_BYTES};
+use reference::old;
+use reference::table::{encode, intake, SCRATCH_BYTES, TABLE_BYTES, WIDTH};
 use reference::tree::Tree;
 
 /// A series from a table that passes intake.
 pub fn series(dice: &mut Dice, tally: &mut Tally, start: &Automaton, calls: usize) {
     let mut table = encode(start);
-    let mut used = vec![Tree::leaf(1)];
+    let mut used = vec![Tree::leaf(dice.label(1))];
     for _ in 0..calls {
         let Ok(automaton) = intake(&table) else {
             return tally.expect(false, || "a call of a series left a table that intake refuses".to_string());
@@ -31,10 +32,12 @@ pub fn series(dice: &mut Dice, tally: &mut Tally, start: &Automaton, calls: usiz
     tally.intake(&table);
 }
 
+const WRONG: [usize; 4] = [SCRATCH_BYTES - WIDTH, SCRATCH_BYTES - 1, SCRATCH_BYTES + 1, old::SCRATCH_BYTES];
+
 /// Nearly always of the right length.
 fn scratch(dice: &mut Dice) -> Vec<u8> {
     let length = match dice.roll(40) {
-        0 => *dice.pick(&[0, 1, 11, TABLE_BYTES, SCRATCH_BYTES - 11, SCRATCH_BYTES - 1, SCRATCH_BYTES + 1]),
+        0 => *dice.pick(&[&[0, 1, WIDTH, TABLE_BYTES], &WRONG[..]].concat()),
         _ => SCRATCH_BYTES,
     };
     dice.noise(length)

@@ -2,7 +2,7 @@
 //! tree of the table has: one node at each place of the listing, then several, which may stand above each other. Every
 //! place from 1 to 48 must be met, and so must trees with more than one part that stops.
 
-use crate::dice::Dice;
+use crate::dice::{Dice, FOREIGN};
 use crate::tally::Tally;
 use reference::automaton::Automaton;
 use reference::table::{encode, intake, SCRATCH_BYTES, TABLE_BYTES};
@@ -11,7 +11,6 @@ use reference::tree::{Tree, MAX_CHILDREN, MAX_NODES};
 const TABLES: usize = 60;
 const SEVERAL: usize = 60;
 const LABELS: usize = 6;
-const UNKNOWN: u8 = 200;
 
 /// A tree of so many nodes; each but the first stands under one before it that has room.
 fn shape(dice: &mut Dice, nodes: usize) -> Tree {
@@ -30,16 +29,16 @@ fn shape(dice: &mut Dice, nodes: usize) -> Tree {
 }
 
 fn grown(dice: &mut Dice, children: &[Vec<usize>], node: usize) -> Tree {
-    let label = 1 + dice.roll(LABELS) as u8;
+    let label = dice.any_label(LABELS);
     Tree::new(label, children[node].iter().map(|&child| grown(dice, children, child)).collect())
 }
 
 /// The tree with another label at each of these places, counted from 1 in the listing.
-fn relabelled(tree: &Tree, places: &[usize], label: u8) -> Tree {
+fn relabelled(tree: &Tree, places: &[usize], label: u16) -> Tree {
     relabelled_from(tree, places, label, &mut 0)
 }
 
-fn relabelled_from(tree: &Tree, places: &[usize], label: u8, nodes: &mut usize) -> Tree {
+fn relabelled_from(tree: &Tree, places: &[usize], label: u16, nodes: &mut usize) -> Tree {
     *nodes += 1;
     let own = if places.contains(nodes) { label } else { tree.label };
     Tree::new(own, tree.children.iter().map(|child| relabelled_from(child, places, label, nodes)).collect())
@@ -54,6 +53,8 @@ fn stopping(automaton: &Automaton, tree: &Tree) -> usize {
 pub fn stops(dice: &mut Dice, tally: &mut Tally) {
     let (mut several, mut parts) = (0, 0);
     for i in 0..TABLES {
+        dice.relabel();
+        let unknown = dice.label(FOREIGN);
         let mut table = if i % 2 == 0 { vec![0; TABLE_BYTES] } else { encode(&dice.legal(6, 20, LABELS, 3)) };
         let nodes = if i % 3 == 0 { MAX_NODES } else { 1 + dice.roll(MAX_NODES) };
         let tree = shape(dice, nodes);
@@ -62,11 +63,11 @@ pub fn stops(dice: &mut Dice, tally: &mut Tally) {
             return tally.expect(false, || "an addition left a table that intake refuses".to_string());
         };
         for place in 1..=nodes {
-            tally.read(&relabelled(&tree, &[place], UNKNOWN).listing(), &table);
+            tally.read(&relabelled(&tree, &[place], unknown).listing(), &table);
         }
         for _ in 0..SEVERAL {
             let places: Vec<usize> = (0..2 + dice.roll(4)).map(|_| 1 + dice.roll(nodes)).collect();
-            let label = if dice.roll(3) == 0 { 1 + dice.roll(LABELS) as u8 } else { UNKNOWN };
+            let label = if dice.roll(3) == 0 { dice.any_label(LABELS) } else { unknown };
             let other = relabelled(&tree, &places, label);
             several += usize::from(stopping(&automaton, &other) > 1);
             tally.read(&other.listing(), &table);

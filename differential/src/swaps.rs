@@ -137,27 +137,34 @@ fn built(dice: &mut Dice) -> Vec<u8> {
     table
 }
 
+/// A label over so many equal leaves.
+fn over(dice: &Dice, label: usize, leaf: usize, places: usize) -> Tree {
+    Tree::new(dice.label(label), vec![Tree::leaf(dice.label(leaf)); places])
+}
+
 /// A table near the limits and two changes. Labels with 5 to 8 places take leaves 1 to 3 in each place, and (9 (1))
 /// separates leaf 1 from 2 and 3. The first change takes (9 (1)) out, which merges the leaves; the second separates
 /// leaf 3 from 2. With n leaf states a label has n^places transitions; n is 3 if the second change comes first, else 2.
 fn split_leaves(dice: &mut Dice) -> (Vec<u8>, Change, Change) {
-    let (places, labels) = (5 + dice.roll(4), 1 + dice.roll(3) as u8);
-    let mut lines: BTreeMap<Key, u8> = (1..=3).map(|leaf| (Key::new(leaf, vec![]), 1)).collect();
-    lines.extend((20..20 + labels).map(|label| (Key::new(label, vec![1; places]), 2)));
+    dice.relabel();
+    let (places, labels) = (5 + dice.roll(4), 1 + dice.roll(3));
+    let mut lines: BTreeMap<Key, u8> = (1..=3).map(|leaf| (Key::new(dice.label(leaf), vec![]), 1)).collect();
+    lines.extend((20..20 + labels).map(|label| (Key::new(dice.label(label), vec![1; places]), 2)));
     let mut table = encode(&legal(&Automaton { accepting: vec![false, true], transitions: lines }));
-    let mark = Change { add: true, tree: Tree::new(9, vec![Tree::leaf(1)]) };
+    let mark = Change { add: true, tree: over(dice, 9, 1, 1) };
     mark.enter(dice, &mut table).expect("2^8 transitions for each of three labels fit a table");
     let split = match dice.roll(2) {
-        0 => Change { add: true, tree: Tree::new(10, vec![Tree::leaf(3)]) },
-        _ => Change { add: false, tree: Tree::new(20, vec![Tree::leaf(3); places]) },
+        0 => Change { add: true, tree: over(dice, 10, 3, 1) },
+        _ => Change { add: false, tree: over(dice, 20, 3, places) },
     };
     (table, mark.opposite(), split)
 }
 
 pub fn swaps(dice: &mut Dice, tally: &mut Tally) {
     let mut outcomes = Outcomes::default();
-    let mut used = vec![Tree::leaf(1)];
     for i in 0..TABLES {
+        dice.relabel();
+        let mut used = vec![Tree::leaf(dice.label(1))];
         let table = if i % 40 == 0 { encode(&dice.deep()) } else { built(dice) };
         let Ok(automaton) = intake(&table) else {
             return tally.expect(false, || "additions left a table that intake refuses".to_string());

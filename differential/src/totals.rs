@@ -2,7 +2,7 @@
 //! tables whose trees are all listed if they are few. The chosen number, the exact sum and the trees listed must agree.
 
 use crate::automata::legal;
-use crate::dice::Dice;
+use crate::dice::{Dice, LAST};
 use crate::tally::{Call, Tally};
 use reference::automaton::{Automaton, Key};
 use reference::natural::Natural;
@@ -19,14 +19,15 @@ const POWERS: usize = 63;
 
 /// A sum of powers of two. State k of a chain has 2^(k - 1) trees, and a power is a product of some of them.
 pub fn sum_of(dice: &mut Dice, exponents: &[usize]) -> Automaton {
+    dice.relabel();
     let top = POWERS as u8 + 2;
-    let mut lines = BTreeMap::from([(Key::new(1, vec![]), 1)]);
+    let mut lines = BTreeMap::from([(Key::new(dice.label(1), vec![]), 1)]);
     for state in 1..top - 1 {
-        lines.insert(Key::new(2, vec![state]), state + 1);
-        lines.insert(Key::new(3, vec![state]), state + 1);
+        lines.insert(Key::new(dice.label(2), vec![state]), state + 1);
+        lines.insert(Key::new(dice.label(3), vec![state]), state + 1);
     }
     for (label, &exponent) in (4..).zip(exponents) {
-        lines.insert(Key::new(label, factors(dice, exponent)), top);
+        lines.insert(Key::new(dice.label(label), factors(dice, exponent)), top);
     }
     legal(&Automaton { accepting: (1..=top).map(|state| state == top).collect(), transitions: lines })
 }
@@ -69,7 +70,7 @@ fn chosen(dice: &mut Dice, tally: &mut Tally, number: u128) {
     let exponents = exponents(dice, number);
     let automaton = sum_of(dice, &exponents);
     tally.expect(exact(&automaton) == natural(number), || format!("a table of {number} trees has another number"));
-    let (mut table, leaf) = (encode(&automaton), Tree::leaf(255).listing());
+    let (mut table, leaf) = (encode(&automaton), Tree::leaf(dice.label(LAST)).listing());
     tally.expect(intake(&table).is_ok(), || format!("a table of {number} trees is refused"));
     tally.total(&table);
     for call in [Call::Add, Call::Remove] {
@@ -93,6 +94,7 @@ fn small(dice: &mut Dice, tally: &mut Tally) -> usize {
     let mut all = 0;
     for _ in 0..LISTED {
         let (states, transitions, width) = (2 + dice.roll(8), 2 + dice.roll(24), 1 + dice.roll(4));
+        dice.relabel();
         let automaton = dice.legal(states, transitions, 4, width);
         tally.total(&encode(&automaton));
         if let Some(trees) = listed(&automaton, NODES) {

@@ -15,6 +15,7 @@ const DAMAGED: usize = 20;
 pub fn check_random_calls() {
     let mut dice = Dice::new(1);
     for i in 0..SERIES {
+        dice.relabel();
         let start = match i % 4 {
             0 => Automaton::default(),
             1 => dice.families(),
@@ -24,8 +25,9 @@ pub fn check_random_calls() {
         for _ in 0..DAMAGED {
             let refusal = *dice.pick(&[5, 7, 8, 9, 10, 11, 12, 13]);
             let damaged = dice.damaged(&table, refusal);
-            reading("ask", ASK, &[1, 0], &damaged).checked();
-            changing("add", ADD, &[2, 0], &damaged).checked();
+            let leaf = Tree::leaf(dice.any_label(2)).listing();
+            reading("ask", ASK, &leaf, &damaged).checked();
+            changing("add", ADD, &leaf, &damaged).checked();
         }
     }
 }
@@ -39,7 +41,7 @@ fn small_legal(dice: &mut Dice) -> Automaton {
 /// Returns the table after the series.
 fn check_series(dice: &mut Dice, start: &Automaton) -> Vec<u8> {
     let mut table = encode(start);
-    let mut used = vec![Tree::leaf(1)];
+    let mut used = vec![Tree::leaf(dice.label(1))];
     for _ in 0..CALLS {
         let automaton = intake(&table).expect("a call leaves a table that passes intake");
         let tree = next_tree(dice, &automaton, &used);

@@ -51,12 +51,12 @@ fn trees(automaton: &Automaton) -> (Tree, Tree) {
     (inside, outside.unwrap_or(Tree::leaf(255)))
 }
 
-fn over(label: u8, leaves: &[u8]) -> Tree {
+fn over(label: u16, leaves: &[u16]) -> Tree {
     Tree::new(label, leaves.iter().copied().map(Tree::leaf).collect())
 }
 
 /// A chain of 48 nodes: 48 distinct subtrees.
-fn chain_of_48(labels: impl Iterator<Item = u8>) -> Tree {
+fn chain_of_48(labels: impl Iterator<Item = u16>) -> Tree {
     let mut labels = labels.take(48);
     let leaf = Tree::leaf(labels.next().expect("a leaf"));
     labels.fold(leaf, |below, label| Tree::new(label, vec![below]))

@@ -7,7 +7,7 @@ use std::collections::{BTreeMap, BTreeSet};
 #[derive(Clone, Debug, PartialEq, Eq, PartialOrd, Ord)]
 pub struct Key {
     pub arity: usize,
-    pub label: u8,
+    pub label: u16,
     pub args: Vec<u8>,
 }
 
@@ -23,7 +23,7 @@ pub struct Automaton {
 pub struct TooMany;
 
 impl Key {
-    pub fn new(label: u8, args: Vec<u8>) -> Key {
+    pub fn new(label: u16, args: Vec<u8>) -> Key {
         Key { arity: args.len(), label, args }
     }
 }
@@ -33,7 +33,7 @@ impl Automaton {
         state != 0 && self.accepting[state as usize - 1]
     }
 
-    fn output(&self, label: u8, args: &[u8]) -> u8 {
+    fn output(&self, label: u16, args: &[u8]) -> u8 {
         self.transitions.get(&Key::new(label, args.to_vec())).copied().unwrap_or(0)
     }
 
@@ -77,7 +77,7 @@ impl Automaton {
 struct Work {
     states: BTreeSet<u32>,
     accepting: BTreeSet<u32>,
-    transitions: BTreeMap<(u8, Vec<u32>), u32>,
+    transitions: BTreeMap<(u16, Vec<u32>), u32>,
     next: u32,
     limit: usize,
 }
@@ -104,7 +104,7 @@ impl Work {
         self.transitions.values().filter(|&&out| out == state).count()
     }
 
-    fn insert(&mut self, key: (u8, Vec<u32>), out: u32) -> Result<(), TooMany> {
+    fn insert(&mut self, key: (u16, Vec<u32>), out: u32) -> Result<(), TooMany> {
         self.transitions.insert(key, out);
         if self.transitions.len() > self.limit {
             return Err(TooMany);
@@ -225,7 +225,7 @@ impl Work {
         let mut number: BTreeMap<u32, u32> = BTreeMap::new();
         let mut order = Vec::new();
         loop {
-            let mut best: Option<((usize, u8, Vec<u32>), u32)> = None;
+            let mut best: Option<((usize, u16, Vec<u32>), u32)> = None;
             for ((label, args), &out) in &self.transitions {
                 let numbers: Option<Vec<u32>> = args.iter().map(|a| number.get(a).copied()).collect();
                 if number.contains_key(&out) {

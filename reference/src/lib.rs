@@ -1,8 +1,10 @@
 //! A second Scalebench, written from the paper (split, clone and local minimisation) and from document 01's numbering,
-//! layout and refusals. It shares nothing with the proved one and is compared with it, byte for byte.
+//! layout and refusals. It shares nothing with the proved one and is compared with it, byte for byte. Module old reads
+//! books from before order 5.
 
 pub mod automaton;
 pub mod natural;
+pub mod old;
 pub mod serial;
 pub mod table;
 pub mod text;
@@ -61,7 +63,8 @@ fn taken(listing: &[u8], table: &[u8]) -> Result<(Tree, Automaton), u8> {
     Ok((tree::read(listing)?, intake(table)?))
 }
 
-fn asked(tree: &Tree, automaton: &Automaton) -> Answer {
+/// What ask answers, from the automaton of a table.
+pub fn asked(tree: &Tree, automaton: &Automaton) -> Answer {
     match automaton.run(tree) {
         0 => Answer::NotAt(automaton.stop(tree)),
         state if automaton.accepts(state) => Answer::Approved,

@@ -3,20 +3,26 @@
 use crate::automaton::{Automaton, Key};
 use std::collections::{BTreeMap, BTreeSet};
 
-pub const TABLE_BYTES: usize = 11_467;
-pub const SCRATCH_BYTES: usize = 33_792;
+pub const TABLE_BYTES: usize = 12_491;
+pub const SCRATCH_BYTES: usize = 36_864;
 pub const MAX_STATES: usize = 200;
 pub const MAX_TRANSITIONS: usize = 1_024;
 pub const MAX_PRODUCT: usize = 3_072;
-const HEAD: usize = 203;
-const WIDTH: usize = 11;
+pub const HEAD: usize = 203;
+/// The bytes of a label, high byte first, and of a line: label, child count, eight arguments, output.
+pub const LABEL_BYTES: usize = 2;
+pub const WIDTH: usize = LABEL_BYTES + 10;
 
 /// The automaton that a table holds, or the number of the first condition that the table breaks.
 pub fn intake(table: &[u8]) -> Result<Automaton, u8> {
     if table.len() != TABLE_BYTES {
         return Err(5);
     }
-    let automaton = fields(table)?;
+    accepted(fields(table, LABEL_BYTES)?)
+}
+
+/// Refusals 9 to 13.
+pub(crate) fn accepted(automaton: Automaton) -> Result<Automaton, u8> {
     if !every_state(&automaton, &accessible(&automaton)) {
         return Err(9);
     }
@@ -35,8 +41,8 @@ pub fn intake(table: &[u8]) -> Result<Automaton, u8> {
     Ok(automaton)
 }
 
-/// Refusals 7 and 8.
-fn fields(table: &[u8]) -> Result<Automaton, u8> {
+/// Refusals 7 and 8, of a table whose labels have so many bytes.
+pub(crate) fn fields(table: &[u8], label_bytes: usize) -> Result<Automaton, u8> {
     let states = table[0] as usize;
     if states > MAX_STATES {
         return Err(7);
@@ -52,21 +58,24 @@ fn fields(table: &[u8]) -> Result<Automaton, u8> {
     }
     let state = |byte: u8| (1..=states).contains(&(byte as usize));
     let mut lines = Vec::with_capacity(count);
-    for (i, line) in table[HEAD..].chunks_exact(WIDTH).enumerate() {
+    for (i, line) in table[HEAD..].chunks_exact(label_bytes + 10).enumerate() {
         if i >= count {
             if line.iter().any(|&byte| byte != 0) {
                 return Err(7);
             }
             continue;
         }
-        let arity = line[1] as usize;
-        if line[0] == 0 || arity > 8 || !state(line[10]) {
+        let (label, rest) = line.split_at(label_bytes);
+        let label = label.iter().fold(0, |number, &byte| 256 * number + u16::from(byte));
+        let (arity, out) = (rest[0] as usize, rest[9]);
+        if label == 0 || arity > 8 || !state(out) {
             return Err(7);
         }
-        if !line[2..2 + arity].iter().all(|&a| state(a)) || line[2 + arity..10].iter().any(|&a| a != 0) {
+        let (args, after) = rest[1..9].split_at(arity);
+        if !args.iter().all(|&a| state(a)) || after.iter().any(|&a| a != 0) {
             return Err(7);
         }
-        lines.push((Key { arity, label: line[0], args: line[2..2 + arity].to_vec() }, line[10]));
+        lines.push((Key { arity, label, args: args.to_vec() }, out));
     }
     if lines.windows(2).any(|pair| pair[0].0 >= pair[1].0) {
         return Err(8);
@@ -79,7 +88,13 @@ fn fields(table: &[u8]) -> Result<Automaton, u8> {
 
 /// The table of an automaton that fits one.
 pub fn encode(automaton: &Automaton) -> Vec<u8> {
-    let mut table = vec![0; TABLE_BYTES];
+    encode_with(automaton, LABEL_BYTES)
+}
+
+/// The table with labels of so many bytes, which hold all of them.
+pub(crate) fn encode_with(automaton: &Automaton, label_bytes: usize) -> Vec<u8> {
+    let width = label_bytes + 10;
+    let mut table = vec![0; HEAD + width * MAX_TRANSITIONS];
     table[0] = automaton.accepting.len() as u8;
     for (i, &accepting) in automaton.accepting.iter().enumerate() {
         table[1 + i] = u8::from(accepting);
@@ -88,11 +103,12 @@ pub fn encode(automaton: &Automaton) -> Vec<u8> {
     table[201] = (count / 256) as u8;
     table[202] = (count % 256) as u8;
     for (i, (key, &out)) in automaton.transitions.iter().enumerate() {
-        let line = &mut table[HEAD + WIDTH * i..HEAD + WIDTH * (i + 1)];
-        line[0] = key.label;
-        line[1] = key.arity as u8;
-        line[2..2 + key.arity].copy_from_slice(&key.args);
-        line[10] = out;
+        let line = &mut table[HEAD + width * i..HEAD + width * (i + 1)];
+        let (label, rest) = line.split_at_mut(label_bytes);
+        label.copy_from_slice(&key.label.to_be_bytes()[2 - label_bytes..]);
+        rest[0] = key.arity as u8;
+        rest[1..1 + key.arity].copy_from_slice(&key.args);
+        rest[9] = out;
     }
     table
 }
@@ -149,7 +165,7 @@ fn some_alike(automaton: &Automaton) -> bool {
         class[q] = 1 + usize::from(automaton.accepting[q - 1]);
     }
     loop {
-        let mut uses: Vec<BTreeSet<(u8, usize, Vec<u8>, Vec<u8>, usize)>> = vec![BTreeSet::new(); n + 1];
+        let mut uses: Vec<BTreeSet<(u16, usize, Vec<u8>, Vec<u8>, usize)>> = vec![BTreeSet::new(); n + 1];
         for (key, &out) in &automaton.transitions {
             for (k, &a) in key.args.iter().enumerate() {
                 let around = (key.args[..k].to_vec(), key.args[k + 1..].to_vec());

@@ -1,7 +1,10 @@
 //! Lines of the bench program, byte by byte: what may stand next after the bytes before it.
 
 pub const MAX_LINE: usize = 512;
-pub const READ_BYTES: usize = 252;
+pub const READ_BYTES: usize = 378;
+const MAX_LABEL: usize = 65_535;
+/// Where the child count of a node stands, behind a label of two bytes.
+const COUNT_AT: usize = 2;
 const HEADS: [&[u8]; 3] = [b"(add ", b"(drop ", b"(ask "];
 const TOTAL: &[u8] = b"(total)";
 
@@ -73,15 +76,15 @@ fn tree(text: &[u8]) -> Result<Vec<u8>, usize> {
     for (i, &byte) in text.iter().enumerate() {
         if let (Next::Digits(value), b' ' | b')') = (&next, byte) {
             if let Some(&parent) = open.last() {
-                listing[parent + 1] += 1;
+                listing[parent + COUNT_AT] += 1;
             }
             open.push(listing.len());
-            listing.extend([*value as u8, 0]);
+            listing.extend((*value as u16).to_be_bytes().into_iter().chain([0]));
         }
         next = match (next, byte) {
             (Next::Tree, b'(') => Next::Label,
             (Next::Label, b'0'..=b'9') => Next::Digits(usize::from(byte - b'0')),
-            (Next::Digits(value), b'0'..=b'9') if value > 0 && 10 * value + usize::from(byte - b'0') < 256 => {
+            (Next::Digits(value), b'0'..=b'9') if value > 0 && 10 * value + usize::from(byte - b'0') <= MAX_LABEL => {
                 Next::Digits(10 * value + usize::from(byte - b'0'))
             }
             (Next::Digits(_) | Next::Child, b' ') => Next::Tree,

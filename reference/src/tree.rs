@@ -1,21 +1,23 @@
 //! Trees and their listings: refusals 1 to 4.
 
 pub const MAX_NODES: usize = 48;
-pub const LISTING_BYTES: usize = 2 * MAX_NODES;
+/// A label of two bytes, high byte first, and a child count.
+pub const NODE_BYTES: usize = 3;
+pub const LISTING_BYTES: usize = NODE_BYTES * MAX_NODES;
 pub const MAX_CHILDREN: usize = 8;
 
 #[derive(Clone, Debug, PartialEq, Eq, PartialOrd, Ord, Hash)]
 pub struct Tree {
-    pub label: u8,
+    pub label: u16,
     pub children: Vec<Tree>,
 }
 
 impl Tree {
-    pub fn leaf(label: u8) -> Tree {
+    pub fn leaf(label: u16) -> Tree {
         Tree { label, children: Vec::new() }
     }
 
-    pub fn new(label: u8, children: Vec<Tree>) -> Tree {
+    pub fn new(label: u16, children: Vec<Tree>) -> Tree {
         Tree { label, children }
     }
 
@@ -39,8 +41,14 @@ impl Tree {
         bytes
     }
 
+    /// The tree as lines of text have it.
+    pub fn bracketed(&self) -> String {
+        let children: Vec<String> = self.children.iter().map(|child| format!(" {}", child.bracketed())).collect();
+        format!("({}{})", self.label, children.concat())
+    }
+
     fn list_into(&self, bytes: &mut Vec<u8>) {
-        bytes.push(self.label);
+        bytes.extend(self.label.to_be_bytes());
         bytes.push(self.children.len() as u8);
         for child in &self.children {
             child.list_into(bytes);
@@ -50,13 +58,13 @@ impl Tree {
 
 /// The tree that the bytes list, or the number of the first condition that they break.
 pub fn read(listing: &[u8]) -> Result<Tree, u8> {
-    if listing.len() < 2 || listing.len() > LISTING_BYTES || listing.len() % 2 != 0 {
+    if listing.len() < NODE_BYTES || listing.len() > LISTING_BYTES || listing.len() % NODE_BYTES != 0 {
         return Err(1);
     }
-    if listing.iter().step_by(2).any(|&label| label == 0) {
+    if listing.chunks_exact(NODE_BYTES).any(|node| node[0] == 0 && node[1] == 0) {
         return Err(2);
     }
-    if listing.iter().skip(1).step_by(2).any(|&count| count as usize > MAX_CHILDREN) {
+    if listing.chunks_exact(NODE_BYTES).any(|node| node[2] as usize > MAX_CHILDREN) {
         return Err(3);
     }
     match read_one(listing) {
@@ -66,13 +74,12 @@ pub fn read(listing: &[u8]) -> Result<Tree, u8> {
 }
 
 fn read_one(bytes: &[u8]) -> Option<(Tree, &[u8])> {
-    let (&label, rest) = bytes.split_first()?;
-    let (&count, mut rest) = rest.split_first()?;
+    let (&[high, low, count], mut rest) = bytes.split_first_chunk()?;
     let mut children = Vec::with_capacity(count as usize);
     for _ in 0..count {
         let (child, after) = read_one(rest)?;
         children.push(child);
         rest = after;
     }
-    Some((Tree { label, children }, rest))
+    Some((Tree { label: u16::from_be_bytes([high, low]), children }, rest))
 }

@@ -4,13 +4,16 @@ use reference::text::{read, Line};
 
 #[test]
 fn commands() {
-    assert_eq!(read(b"(add (1 (1) (2)))"), Line::Command(0, vec![1, 2, 1, 0, 2, 0]));
-    assert_eq!(read(b"(drop (255))"), Line::Command(1, vec![255, 0]));
-    assert_eq!(read(b"(ask (0 (10 (3)) (4)))"), Line::Command(2, vec![0, 2, 10, 1, 3, 0, 4, 0]));
+    assert_eq!(read(b"(add (1 (1) (2)))"), Line::Command(0, vec![0, 1, 2, 0, 1, 0, 0, 2, 0]));
+    for (text, label) in [("9", 9), ("255", 255), ("256", 256), ("9999", 9_999), ("65529", 65_529), ("65535", 65_535)] {
+        let listing = [(label / 256) as u8, (label % 256) as u8, 0];
+        assert_eq!(read(format!("(drop ({text}))").as_bytes()), Line::Command(1, listing.to_vec()));
+    }
+    assert_eq!(read(b"(ask (0 (10 (513)) (4)))"), Line::Command(2, vec![0, 0, 2, 0, 10, 1, 2, 1, 0, 0, 4, 0]));
     let nine = format!("(ask (1{}))", " (1)".repeat(9));
     assert_eq!(read(b"(total)"), Line::Total);
-    assert_eq!((Line::Total.packed(), Line::Total.padded()), (1_536, vec![0; 252]));
-    assert_eq!(read(nine.as_bytes()), Line::Command(2, [vec![1, 9], [1, 0].repeat(9)].concat()));
+    assert_eq!((Line::Total.packed(), Line::Total.padded()), (1_536, vec![0; 378]));
+    assert_eq!(read(nine.as_bytes()), Line::Command(2, [vec![0, 1, 9], [0, 1, 0].repeat(9)].concat()));
 }
 
 #[test]
@@ -21,7 +24,16 @@ fn columns() {
         ("(add", 5),
         ("(asd (1))", 4),
         ("(ask  (1))", 6),
-        ("(ask (256))", 9),
+        ("(ask (65536))", 11),
+        ("(ask (65539))", 11),
+        ("(ask (65540))", 11),
+        ("(ask (6554)", 12),
+        ("(ask (6560)x", 12),
+        ("(ask (70000))", 11),
+        ("(ask (99999))", 11),
+        ("(ask (655350))", 12),
+        ("(ask (123456))", 12),
+        ("(ask (00))", 8),
         ("(ask (01))", 8),
         ("(ask ())", 7),
         ("(ask (1)", 9),
@@ -50,5 +62,5 @@ fn lengths() {
     assert_eq!(read(&[b'('; 513]), Line::Long);
     let deep = format!("(ask {}{})", "(1 ".repeat(125) + "(1", ")".repeat(126));
     assert_eq!(deep.len(), 509);
-    assert!(matches!(read(deep.as_bytes()), Line::Command(2, listing) if listing.len() == 252));
+    assert!(matches!(read(deep.as_bytes()), Line::Command(2, listing) if listing.len() == 378));
 }

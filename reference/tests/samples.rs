@@ -25,11 +25,11 @@ impl Bench {
     }
 }
 
-fn leaf(label: u8) -> Tree {
+fn leaf(label: u16) -> Tree {
     Tree::leaf(label)
 }
 
-fn fork(label: u8, left: u8, right: u8) -> Tree {
+fn fork(label: u16, left: u16, right: u16) -> Tree {
     Tree::new(label, vec![leaf(left), leaf(right)])
 }
 
@@ -47,11 +47,17 @@ fn p6() -> Bench {
 
 #[test]
 fn listings() {
-    assert_eq!(read(&[1, 1]), Err(4));
-    assert_eq!(read(&[1, 0, 1, 0]), Err(4));
-    assert_eq!(read(&[0, 9]), Err(2));
-    assert_eq!(read(&[1, 9]), Err(3));
-    assert_eq!(read(&[1, 1, 1]), Err(1));
+    assert_eq!(read(&[0, 1, 1]), Err(4));
+    assert_eq!(read(&[0, 1, 0, 0, 1, 0]), Err(4));
+    assert_eq!(read(&[0, 0, 9]), Err(2));
+    assert_eq!(read(&[0, 1, 9]), Err(3));
+    for wrong in [&[][..], &[1], &[0, 1], &[0, 1, 1, 1], &[0, 1, 0, 0, 1]] {
+        assert_eq!(read(wrong), Err(1));
+    }
+    assert_eq!(read(&[1, 0, 0]), Ok(leaf(256)));
+    assert_eq!(read(&[0, 255, 0]), Ok(leaf(255)));
+    assert_eq!(read(&[255, 255, 0]), Ok(leaf(65_535)));
+    assert_eq!(read(&[1, 0, 1, 0, 0, 0]), Err(2));
     let chain = |n: usize| (1..n).fold(leaf(1), |tree, _| Tree::new(1, vec![tree]));
     assert!(read(&chain(48).listing()).is_ok());
     assert_eq!(read(&chain(49).listing()), Err(1));
@@ -121,7 +127,7 @@ fn paper() {
 }
 
 /// Tables with m labels, each over all 256 choices of eight children from (1) and (2), built by hand.
-fn families(m: u8) -> Vec<u8> {
+fn families(m: u16) -> Vec<u8> {
     let mut transitions = BTreeMap::from([(Key::new(1, vec![]), 1), (Key::new(2, vec![]), 1)]);
     for label in 0..m {
         transitions.insert(Key::new(3 + label, vec![1; 8]), 2);
@@ -133,7 +139,7 @@ fn families(m: u8) -> Vec<u8> {
 fn all_256() {
     let mut bench = Bench::new();
     for bits in 0..256 {
-        let children = (0..8).map(|k| leaf(1 + (bits >> k & 1) as u8)).collect();
+        let children = (0..8).map(|k| leaf(1 + (bits >> k & 1))).collect();
         bench.add(&Tree::new(3, children));
     }
     assert_eq!(bench.table, families(1));
@@ -206,6 +212,9 @@ fn filled(tree: &Tree, path: &[usize], part: &Tree) -> Tree {
     }
 }
 
+/// Compared low byte first these stand in another order, and by one byte alone two of them are the same.
+const LABELS: [u16; 3] = [258, 513, 514];
+
 /// A small pseudo-random sequence, the same on every machine.
 struct Dice(u64);
 
@@ -217,7 +226,7 @@ impl Dice {
 
     fn tree(&mut self, depth: usize) -> Tree {
         let children = if depth == 0 { 0 } else { self.roll(3) };
-        Tree::new(1 + self.roll(2) as u8, (0..children).map(|_| self.tree(depth - 1)).collect())
+        Tree::new(LABELS[self.roll(LABELS.len())], (0..children).map(|_| self.tree(depth - 1)).collect())
     }
 }
 

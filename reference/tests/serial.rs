@@ -5,14 +5,14 @@ use reference::natural::Natural;
 use reference::serial::{number, sorted, tree};
 use reference::table::{encode, intake, TABLE_BYTES};
 use reference::total::exact;
-use reference::tree::{read, Tree, LISTING_BYTES, MAX_NODES};
+use reference::tree::{read, Tree, LISTING_BYTES, MAX_NODES, NODE_BYTES};
 use reference::{rank, total, unrank, Answer};
 use std::collections::BTreeMap;
 
 const NODES: usize = 400_000;
 
 /// An automaton that passes intake: its transitions by label, arguments and output, and its accepting states.
-fn automaton(states: u8, accepting: &[u8], lines: &[(u8, &[u8], u8)]) -> Automaton {
+fn automaton(states: u8, accepting: &[u8], lines: &[(u16, &[u8], u8)]) -> Automaton {
     let classes = (1..=states).map(|q| accepting.contains(&q)).collect();
     let transitions = lines.iter().map(|&(label, args, out)| (Key::new(label, args.to_vec()), out)).collect();
     let automaton = Automaton { accepting: classes, transitions };
@@ -20,11 +20,11 @@ fn automaton(states: u8, accepting: &[u8], lines: &[(u8, &[u8], u8)]) -> Automat
     automaton
 }
 
-fn leaf(label: u8) -> Tree {
+fn leaf(label: u16) -> Tree {
     Tree::leaf(label)
 }
 
-fn over(label: u8, children: &[&Tree]) -> Tree {
+fn over(label: u16, children: &[&Tree]) -> Tree {
     Tree::new(label, children.iter().map(|&child| child.clone()).collect())
 }
 
@@ -33,8 +33,9 @@ fn called(number: u64, table: &[u8]) -> Result<Tree, Answer> {
     let mut listing = [0xa5; LISTING_BYTES];
     match unrank(number, table, &mut listing) {
         Answer::Done => {
-            let tree = (1..=MAX_NODES).find_map(|nodes| read(&listing[..2 * nodes]).ok()).expect("a tree is listed");
-            assert!(listing[2 * tree.nodes()..].iter().all(|&byte| byte == 0));
+            let start = |nodes: usize| &listing[..NODE_BYTES * nodes];
+            let tree = (1..=MAX_NODES).find_map(|nodes| read(start(nodes)).ok()).expect("a tree is listed");
+            assert!(listing[NODE_BYTES * tree.nodes()..].iter().all(|&byte| byte == 0));
             Ok(tree)
         }
         refusal => {
@@ -64,7 +65,7 @@ fn all(automaton: &Automaton, trees: &[Tree]) {
 /// States 1 and 3 are approved, 2 is not. The order is by state, then by line, then by the first child that differs.
 #[test]
 fn order() {
-    let lines: [(u8, &[u8], u8); 6] =
+    let lines: [(u16, &[u8], u8); 6] =
         [(1, &[], 1), (2, &[], 2), (3, &[], 2), (4, &[], 1), (1, &[2, 2], 3), (2, &[2, 1], 3)];
     let automaton = automaton(3, &[1, 3], &lines);
     let (one, two, three, four) = (leaf(1), leaf(2), leaf(3), leaf(4));
@@ -91,7 +92,7 @@ fn order() {
 /// The samples of order 4: states 2 and 3 are approved, 1 is not.
 #[test]
 fn samples() {
-    let lines: [(u8, &[u8], u8); 6] =
+    let lines: [(u16, &[u8], u8); 6] =
         [(1, &[], 1), (2, &[], 1), (3, &[], 2), (4, &[1], 3), (4, &[2], 3), (5, &[1, 1], 2)];
     let automaton = automaton(3, &[2, 3], &lines);
     let (one, two) = (leaf(1), leaf(2));
@@ -106,8 +107,8 @@ fn samples() {
 /// Ten leaves in each of three states, and two labels over them: 2,000 trees, and as many that have these below a node.
 #[test]
 fn two_thousand() {
-    let mut lines: Vec<(u8, &[u8], u8)> = (1..=30).map(|label| (label, &[][..], 1 + (label - 1) / 10)).collect();
-    lines.extend([(1, &[4][..], 5), (40, &[1, 2, 3], 4), (41, &[3, 1, 2], 4)]);
+    let mut lines: Vec<(u16, &[u8], u8)> = (0..30).map(|i| (250 + i, &[][..], 1 + (i / 10) as u8)).collect();
+    lines.extend([(1, &[4][..], 5), (256, &[1, 2, 3], 4), (511, &[3, 1, 2], 4)]);
     for accepting in [&[4, 5][..], &[5]] {
         let automaton = automaton(5, accepting, &lines);
         let trees = sorted(&automaton, NODES).expect("few trees");
@@ -144,14 +145,14 @@ fn near_the_limit() {
     for number in [0, 1, u64::MAX] {
         assert_eq!(called(number, &over_table), Err(Answer::Refused(18)));
     }
-    assert_eq!(rank(&[7, 0], &over_table), Answer::Refused(18));
-    assert_eq!(rank(&[7, 1, 7, 1, 7, 0], &over_table), Answer::NotAt(1));
+    assert_eq!(rank(&[0, 7, 0], &over_table), Answer::Refused(18));
+    assert_eq!(rank(&[0, 7, 1, 0, 7, 1, 0, 7, 0], &over_table), Answer::NotAt(1));
 }
 
 /// Each state twice under the next: one tree, of 2^levels - 1 nodes.
 fn doubled(levels: u8) -> Automaton {
     let pairs: Vec<[u8; 2]> = (1..levels).map(|q| [q, q]).collect();
-    let mut lines: Vec<(u8, &[u8], u8)> = vec![(1, &[], 1)];
+    let mut lines: Vec<(u16, &[u8], u8)> = vec![(1, &[], 1)];
     lines.extend(pairs.iter().zip(2..).map(|(pair, out)| (1, &pair[..], out)));
     automaton(levels, &[levels], &lines)
 }
@@ -167,7 +168,7 @@ fn large_trees() {
     }
     // Chains of 1 to 60 nodes: a listing holds those of up to 48.
     let chain: Vec<[u8; 1]> = (1..60).map(|q| [q]).collect();
-    let mut lines: Vec<(u8, &[u8], u8)> = vec![(1, &[], 1)];
+    let mut lines: Vec<(u16, &[u8], u8)> = vec![(1, &[], 1)];
     lines.extend(chain.iter().zip(2..).map(|(below, out)| (1, &below[..], out)));
     let chains = automaton(60, &(1..=60).collect::<Vec<u8>>(), &lines);
     all(&chains, &sorted(&chains, NODES).expect("few trees"));
@@ -176,20 +177,20 @@ fn large_trees() {
 #[test]
 fn refusals() {
     let mut table = encode(&doubled(3));
-    assert_eq!(unrank(0, &table[1..], &mut [0; 95]), Answer::Refused(5));
-    for length in (0..96).chain([97, 144, 252]) {
+    assert_eq!(unrank(0, &table[1..], &mut [0; LISTING_BYTES - 1]), Answer::Refused(5));
+    for length in (0..LISTING_BYTES).chain([LISTING_BYTES + 1, 252, 378]) {
         let mut listing = vec![7; length];
         assert_eq!(unrank(9, &table, &mut listing), Answer::Refused(6));
         assert!(listing.iter().all(|&byte| byte == 7));
     }
-    assert_eq!(rank(&[1, 0, 1], &table[1..]), Answer::Refused(1));
-    assert_eq!(rank(&[1, 0], &table[1..]), Answer::Refused(5));
+    assert_eq!(rank(&[0, 1, 0, 1], &table[1..]), Answer::Refused(1));
+    assert_eq!(rank(&[0, 1, 0], &table[1..]), Answer::Refused(5));
     table[0] = 201;
-    assert_eq!(unrank(9, &table, &mut [0; 95]), Answer::Refused(6));
+    assert_eq!(unrank(9, &table, &mut [0; LISTING_BYTES - 1]), Answer::Refused(6));
     assert_eq!(called(9, &table), Err(Answer::Refused(7)));
-    assert_eq!(rank(&[1, 0], &table), Answer::Refused(7));
+    assert_eq!(rank(&[0, 1, 0], &table), Answer::Refused(7));
     assert_eq!(called(0, &[0; TABLE_BYTES]), Err(Answer::Refused(19)));
-    assert_eq!(rank(&[1, 0], &[0; TABLE_BYTES]), Answer::NotAt(1));
+    assert_eq!(rank(&[0, 1, 0], &[0; TABLE_BYTES]), Answer::NotAt(1));
     assert_eq!((Answer::Number(5).packed(), Answer::Number(5).left(9)), (256, 5));
     assert_eq!((Answer::Done.packed(), Answer::Refused(20).packed(), Answer::Refused(20).left(9)), (0, 20, 9));
 }

@@ -11,7 +11,7 @@ use std::collections::BTreeMap;
 const NODES: usize = 5_000;
 
 /// A table that passes intake: its transitions by label, arguments and output, and its accepting states.
-fn table(states: u8, accepting: &[u8], lines: &[(u8, &[u8], u8)]) -> Vec<u8> {
+fn table(states: u8, accepting: &[u8], lines: &[(u16, &[u8], u8)]) -> Vec<u8> {
     let classes = (1..=states).map(|q| accepting.contains(&q)).collect();
     let transitions = lines.iter().map(|&(label, args, out)| (Key::new(label, args.to_vec()), out)).collect();
     let automaton = Automaton { accepting: classes, transitions }.renumbered();
@@ -21,9 +21,9 @@ fn table(states: u8, accepting: &[u8], lines: &[(u8, &[u8], u8)]) -> Vec<u8> {
 }
 
 /// Leaves 1 and 2 in one state, and label 3 over two equal states again and again: 2, 4, 16, 256 and so on.
-fn squares(levels: u8, more: &[(u8, &[u8], u8)]) -> Vec<u8> {
+fn squares(levels: u8, more: &[(u16, &[u8], u8)]) -> Vec<u8> {
     let pairs: Vec<[u8; 2]> = (1..=levels).map(|q| [q, q]).collect();
-    let mut lines: Vec<(u8, &[u8], u8)> = vec![(1, &[], 1), (2, &[], 1)];
+    let mut lines: Vec<(u16, &[u8], u8)> = vec![(1, &[], 1), (2, &[], 1)];
     lines.extend(pairs.iter().zip(2..).map(|(pair, out)| (3, &pair[..], out)));
     lines.extend(more);
     table(levels + 1, &[levels + 1], &lines)
@@ -49,7 +49,7 @@ fn samples() {
 /// State k has 2^(k - 1) trees, up to state 64. Label 4 over the last so many of them: these powers of two added up.
 fn powers(last: u8) -> Vec<u8> {
     let below: Vec<[u8; 1]> = (1..=64).map(|q| [q]).collect();
-    let mut lines: Vec<(u8, &[u8], u8)> = vec![(1, &[], 1)];
+    let mut lines: Vec<(u16, &[u8], u8)> = vec![(1, &[], 1)];
     for (q, args) in (1..64).zip(&below) {
         lines.extend([(2, &args[..], q + 1), (3, &args[..], q + 1)]);
     }
@@ -75,7 +75,7 @@ fn near_the_limit() {
 /// Trees that run to a state of class 1 count, also if that state stands below others; trees of class 0 do not.
 #[test]
 fn classes() {
-    let lines: [(u8, &[u8], u8); 4] = [(1, &[], 1), (2, &[], 1), (3, &[1, 1, 1], 2), (4, &[2, 1], 3)];
+    let lines: [(u16, &[u8], u8); 4] = [(1, &[], 1), (2, &[], 1), (3, &[1, 1, 1], 2), (4, &[2, 1], 3)];
     assert_eq!(total(&table(3, &[3], &lines)), Answer::Total(16));
     assert_eq!(total(&table(3, &[2, 3], &lines)), Answer::Total(24));
     assert_eq!(total(&table(3, &[1, 2, 3], &lines)), Answer::Total(26));

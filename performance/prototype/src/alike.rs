@@ -1,6 +1,6 @@
 //! Whether a subtree is equivalent to a state, to no state or to another subtree, decided on the table's uses.
 
-use crate::format::{MAX_ARITY, MAX_NODES, MAX_TRANSITIONS, NAMES, OUT_AT};
+use crate::format::{ARGS_AT, ARITY_AT, MAX_ARITY, MAX_NODES, MAX_TRANSITIONS, NAMES, OUT_AT};
 use crate::packed::{args_of, meta_of, output, placed, Transition};
 use crate::prints::CLASS;
 use crate::slots::Slots;
@@ -93,7 +93,7 @@ fn skips_of(slots: &Slots, covered: &[bool; MAX_NODES], steps: &Steps) -> [u8; M
 pub fn uses_agree(run: &[Transition], skips: &[u8; MAX_TRANSITIONS], p: usize, q: usize) -> bool {
     let mut from = 0;
     (0..MAX_ARITY).all(|k| {
-        while from < run.len() && usize::from(run[from][1]) <= k {
+        while from < run.len() && usize::from(run[from][ARITY_AT]) <= k {
             from += 1;
         }
         place_agrees(&run[from..], &skips[from..], k, p, q)
@@ -105,10 +105,10 @@ pub fn uses_agree(run: &[Transition], skips: &[u8; MAX_TRANSITIONS], p: usize, q
 fn place_agrees(run: &[Transition], skips: &[u8], k: usize, p: usize, q: usize) -> bool {
     let mut j = 0;
     for i in 0..run.len() {
-        if usize::from(run[i][2 + k]) != p || skips[i] >> k & 1 != 0 {
+        if usize::from(run[i][ARGS_AT + k]) != p || skips[i] >> k & 1 != 0 {
             continue;
         }
-        while j < run.len() && (usize::from(run[j][2 + k]) != q || skips[j] >> k & 1 != 0) {
+        while j < run.len() && (usize::from(run[j][ARGS_AT + k]) != q || skips[j] >> k & 1 != 0) {
             j += 1;
         }
         if j == run.len() {

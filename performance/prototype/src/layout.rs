@@ -1,7 +1,7 @@
 //! Refusals 7 and 8: the fields of a table, and the order of its transitions.
 
-use crate::format::{HEAD_BYTES, MAX_ARITY, MAX_STATES, MAX_TRANSITIONS, OUT_AT, WIDTH};
-use crate::packed::{args_of, arguments, meta_of, top_of, transition_count, transitions, Transition};
+use crate::format::{ARITY_AT, HEAD_BYTES, MAX_ARITY, MAX_STATES, MAX_TRANSITIONS, OUT_AT, WIDTH};
+use crate::packed::{args_of, arguments, label_of, meta_of, top_of, transition_count, transitions, Transition};
 
 /// Whether every field is in its range and every byte is 0 that must be.
 pub fn layout_fits(table: &[u8]) -> bool {
@@ -21,7 +21,7 @@ fn at_most(bytes: &[u8], bound: u8) -> bool {
 }
 
 fn fits(transition: &Transition, states: u8) -> bool {
-    let (label, arity, out) = (transition[0], transition[1], transition[OUT_AT]);
+    let (label, arity, out) = (label_of(transition), transition[ARITY_AT], transition[OUT_AT]);
     usize::from(arity) <= MAX_ARITY
         && label != 0
         && out != 0

@@ -1,7 +1,7 @@
 //! Transitions as bytes and as two numbers, child count with label and the packed arguments. The pair's order is that
 //! of transitions.
 
-use crate::format::{HEAD_BYTES, MAX_ARITY, OUT_AT, WIDTH};
+use crate::format::{ARGS_AT, ARITY_AT, HEAD_BYTES, MAX_ARITY, OUT_AT, WIDTH};
 
 /// Label, child count, eight arguments and output.
 pub type Transition = [u8; WIDTH];
@@ -15,13 +15,13 @@ pub fn transitions(table: &[u8]) -> &[Transition] {
 }
 
 pub fn arguments(transition: &Transition) -> &[u8; MAX_ARITY] {
-    let [_, _, arguments @ .., _] = transition;
+    let [_, _, _, arguments @ .., _] = transition;
     arguments
 }
 
 /// The arguments within the child count.
 pub fn places(transition: &Transition) -> &[u8] {
-    &transition[2..2 + usize::from(transition[1])]
+    &transition[ARGS_AT..ARGS_AT + usize::from(transition[ARITY_AT])]
 }
 
 /// The greatest of the arguments, 0 if there is none.
@@ -33,13 +33,18 @@ pub fn out_of(transition: &Transition) -> usize {
     usize::from(transition[OUT_AT])
 }
 
-/// Child count and label as one number, with room for labels of 16 bits.
-pub fn meta(label: u8, arity: u8) -> u64 {
+/// The label of a transition, or of a node of a listing.
+pub fn label_of(bytes: &[u8]) -> u16 {
+    u16::from_be_bytes([bytes[0], bytes[1]])
+}
+
+/// Child count and label as one number.
+pub fn meta(label: u16, arity: u8) -> u64 {
     u64::from(arity) << 16 | u64::from(label)
 }
 
 pub fn meta_of(transition: &Transition) -> u64 {
-    meta(transition[0], transition[1])
+    meta(label_of(transition), transition[ARITY_AT])
 }
 
 /// The eight arguments as one number, the first the highest byte.

@@ -1,6 +1,6 @@
 //! The transitions between kept names, written with a number for each name.
 
-use crate::format::{MAX_NODES, MAX_TRANSITIONS, NAMES};
+use crate::format::{ARITY_AT, MAX_NODES, MAX_TRANSITIONS, NAMES};
 use crate::kept::{children_kept, Kept};
 use crate::open::NODE;
 use crate::packed::{args_of, byte_of, mapped, meta_of, out_of, placed, places, without, Transition};
@@ -56,7 +56,7 @@ pub fn make(plan: &Plan, run: &[Transition], few: bool, lists: &Numbered, pairs:
             args = args << 8 | u64::from(firsts[usize::from(argument)]);
         }
         if kind == 0 {
-            let unused = 64 - 8 * u32::from(transition[1]);
+            let unused = 64 - 8 * u32::from(transition[ARITY_AT]);
             making.push(meta_of(transition), args.checked_shl(unused).unwrap_or(0), out_of(transition));
         } else if kind < NONE {
             making.choose(i, transition, mark >= NODE);
@@ -91,7 +91,7 @@ impl Making<'_, '_> {
 
     /// All choices of kept names for the arguments of transition i.
     fn choose(&mut self, i: usize, transition: &Transition, is_node: bool) {
-        let arity = usize::from(transition[1]);
+        let arity = usize::from(transition[ARITY_AT]);
         let old = args_of(transition);
         let mut choice = Some(mapped(old, arity, |q| usize::from(self.lists.heads[q])));
         while let Some(names) = choice {

@@ -1,7 +1,7 @@
 //! A listing run over a table, for ask.
 
-use crate::format::{MAX_ARITY, MAX_NODES, OUT_AT};
-use crate::packed::{places, Transition};
+use crate::format::{ARITY_AT, COUNT_AT, MAX_ARITY, MAX_NODES, NODE_BYTES, OUT_AT};
+use crate::packed::{label_of, places, Transition};
 
 /// What ask answers if nothing is refused.
 pub fn answer(tree: &[u8], table: &[u8], run: &[Transition]) -> u64 {
@@ -18,14 +18,14 @@ pub fn answer(tree: &[u8], table: &[u8], run: &[Transition]) -> u64 {
 fn ran(tree: &[u8], run: &[Transition]) -> (u8, usize) {
     let mut stack = [0; MAX_NODES];
     let (mut top, mut stop) = (MAX_NODES, 0);
-    for (i, node) in tree.chunks_exact(2).enumerate().rev() {
-        let arity = usize::from(node[1]);
+    for (i, node) in tree.chunks_exact(NODE_BYTES).enumerate().rev() {
+        let arity = usize::from(node[COUNT_AT]);
         let mut row = [0; MAX_ARITY];
         row[..arity].copy_from_slice(&stack[top..top + arity]);
         let states = &row[..arity];
         let mut state = 0;
         if !states.contains(&0) {
-            state = find(run, node[0], states);
+            state = find(run, label_of(node), states);
             if state == 0 {
                 stop = i + 1;
             }
@@ -37,9 +37,10 @@ fn ran(tree: &[u8], run: &[Transition]) -> (u8, usize) {
 }
 
 /// The output of the first transition with this label and these arguments; 0 if there is none.
-fn find(run: &[Transition], label: u8, states: &[u8]) -> u8 {
+fn find(run: &[Transition], label: u16, states: &[u8]) -> u8 {
     let fits = |transition: &&Transition| {
-        transition[0] == label && usize::from(transition[1]) == states.len() && places(transition) == states
+        let arity = usize::from(transition[ARITY_AT]);
+        label_of(*transition) == label && arity == states.len() && places(transition) == states
     };
     run.iter().find(fits).map_or(0, |transition| transition[OUT_AT])
 }

@@ -1,7 +1,7 @@
 //! The distinct subtrees of a tree.
 
-use crate::format::MAX_NODES;
-use crate::packed::{arity_of, byte_of, mapped, meta, out_of, placed, seek, Transition};
+use crate::format::{COUNT_AT, MAX_NODES, NODE_BYTES};
+use crate::packed::{arity_of, byte_of, label_of, mapped, meta, out_of, placed, seek, Transition};
 
 /// Children stand before parents. Subtree j, counted from 1, stands at j - 1.
 pub struct Subtrees {
@@ -26,12 +26,12 @@ pub fn collect(tree: &[u8], run: &[Transition]) -> Subtrees {
     };
     let mut stack = [0u8; MAX_NODES];
     let mut top = MAX_NODES;
-    for node in tree.chunks_exact(2).rev() {
-        let arity = usize::from(node[1]);
+    for node in tree.chunks_exact(NODE_BYTES).rev() {
+        let arity = usize::from(node[COUNT_AT]);
         let numbers = stack[top..top + arity].iter().enumerate();
         let children = numbers.fold(0, |packed, (k, &j)| packed | placed(usize::from(j), k));
         top = top + arity - 1;
-        stack[top] = subtrees.number_of(run, meta(node[0], node[1]), children);
+        stack[top] = subtrees.number_of(run, meta(label_of(node), node[COUNT_AT]), children);
     }
     subtrees
 }

@@ -1,6 +1,6 @@
 //! The new table: numbers and order found, looked at and written.
 
-use crate::format::{HEAD_BYTES, MAX_STATES, NAMES, OUT_AT, WIDTH};
+use crate::format::{ARGS_AT, ARITY_AT, HEAD_BYTES, MAX_STATES, NAMES, OUT_AT, WIDTH};
 use crate::numbering::{numbers_of, Numbers};
 use crate::packed::{transition_count, transitions, Transition};
 use crate::quotient::{make, Numbered, Plan};
@@ -97,9 +97,10 @@ fn write_table(table: &mut [u8], plan: &Plan, numbers: &Numbers, heads: &[u64], 
     table[202] = (count % 256) as u8;
     let run: &mut [Transition] = table[HEAD_BYTES..].as_chunks_mut().0;
     for (transition, (&head, &args)) in run.iter_mut().zip(heads.iter().zip(args)) {
-        transition[0] = (head >> 8) as u8;
-        transition[1] = (head >> 24) as u8;
-        transition[2..OUT_AT].copy_from_slice(&args.to_be_bytes());
+        transition[0] = (head >> 16) as u8;
+        transition[1] = (head >> 8) as u8;
+        transition[ARITY_AT] = (head >> 24) as u8;
+        transition[ARGS_AT..OUT_AT].copy_from_slice(&args.to_be_bytes());
         transition[OUT_AT] = head as u8;
     }
     if count < before {
