@@ -10,6 +10,7 @@
 
 #include "message.h"
 #include "save.h"
+#include "widen.h"
 
 #include <errno.h>
 #include <fcntl.h>
@@ -31,23 +32,6 @@ static int unchanged(const struct stat *one, const struct stat *other)
            same_time(&one->st_mtim, &other->st_mtim) && same_time(&one->st_ctim, &other->st_ctim);
 }
 
-/* Reads at most `room` bytes from the start; their number, or -1. */
-static ssize_t read_all(int file, uint8_t *bytes, size_t room)
-{
-    size_t length = 0;
-    while (length < room) {
-        ssize_t more = pread(file, bytes + length, room - length, (off_t)length);
-        if (more < 0 && errno == EINTR)
-            continue;
-        if (more < 0)
-            return -1;
-        if (more == 0)
-            break;
-        length += (size_t)more;
-    }
-    return (ssize_t)length;
-}
-
 /* From here on the book is this file. */
 static void hold(struct book *book, int file)
 {
@@ -60,12 +44,13 @@ static void hold(struct book *book, int file)
 static enum status read_file(struct book *book, int file, unsigned *refusal)
 {
     uint8_t bytes[SCALEBENCH_TABLE_BYTES + 1]; /* one more, so that a longer file is noticed */
-    ssize_t length = fstat(file, &book->seen) < 0 ? -1 : read_all(file, bytes, sizeof bytes);
+    ssize_t length = fstat(file, &book->seen) < 0 ? -1 : place_read(file, bytes, sizeof bytes);
     hold(book, file);
     if (length < 0) {
         complain("cannot read", book->place.path, "%s", strerror(errno));
         return STATUS_BOOK;
     }
+    book->old = length == OLD_TABLE_BYTES;
     *refusal = scalebench_refusal(scalebench_intake(bytes, (size_t)length));
     if (!*refusal)
         memcpy(book->table, bytes, sizeof book->table);
@@ -78,7 +63,10 @@ static enum status take_in(struct book *book, int file)
     enum status status = read_file(book, file, &refusal);
     if (status != STATUS_FINE || !refusal)
         return status;
-    complain("cannot use", book->place.path, "it is damaged (%u): %s", refusal, scalebench_reason(refusal));
+    if (book->old)
+        complain("cannot use", book->place.path, "it is " OLD_WORDS);
+    else
+        complain("cannot use", book->place.path, "it is damaged (%u): %s", refusal, scalebench_reason(refusal));
     return STATUS_BOOK;
 }
 

@@ -11,6 +11,7 @@
 struct book {
     uint8_t table[SCALEBENCH_TABLE_BYTES];
     struct place place;
+    int old;           /* what was read last has the length of a book from before labels of two bytes */
     int file;          /* the file that the table was read from or saved to; -1 if there is none */
     struct stat seen;  /* that file as it was then */
     unsigned wait;     /* how many seconds to wait for another host */

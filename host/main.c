@@ -7,6 +7,7 @@
 #include "output.h"
 #include "serial.h"
 #include "upkeep.h"
+#include "widen.h"
 
 #include <errno.h>
 #include <fcntl.h>
@@ -50,6 +51,8 @@ static enum status carry_out_options(struct book *book, const struct options *op
         return print_tree(book, options->book, options->number, options->quiet);
     if (options->list)
         return list_book(book, options->book, options->quiet);
+    if (options->widen)
+        return widen_book(options->widen, options->book);
     return carry_out_commands(book, options);
 }
 

@@ -6,7 +6,13 @@
 
 #include <stdio.h>
 
-enum { NODES = SCALEBENCH_LISTING_BYTES / 2 };
+/* A node has two bytes of label, the high one first, and its child count. */
+enum { NODE = 3, COUNT_AT = 2, NODES = SCALEBENCH_LISTING_BYTES / NODE };
+
+static unsigned label(const uint8_t *node)
+{
+    return 256u * node[0] + node[1];
+}
 
 void node_text(const uint8_t *tree, unsigned place, char *text)
 {
@@ -15,21 +21,22 @@ void node_text(const uint8_t *tree, unsigned place, char *text)
         if (depth > 0)
             children[depth - 1]--;
         above[depth] = node;
-        children[depth++] = tree[2 * node + 1];
+        children[depth++] = tree[NODE * node + COUNT_AT];
         while (depth > 0 && children[depth - 1] == 0)
             depth--;
     }
-    text += sprintf(text, "node %u, label %u, %s", place, tree[2 * place - 2], depth > 0 ? "under" : "the top");
+    text += sprintf(text, "node %u, label %u, %s", place, label(tree + NODE * (place - 1)),
+                    depth > 0 ? "under" : "the top");
     for (unsigned i = 0; i < depth; i++)
-        text += sprintf(text, "%s %u", i > 0 ? " >" : "", tree[2 * above[i]]);
+        text += sprintf(text, "%s %u", i > 0 ? " >" : "", label(tree + NODE * above[i]));
 }
 
 void tree_text(const uint8_t *tree, char *text)
 {
     unsigned children[NODES], depth = 0; /* of the node and those above it: how many are still to come */
-    for (const uint8_t *node = tree;; node += 2) {
-        text += sprintf(text, "(%u", node[0]);
-        children[depth++] = node[1];
+    for (const uint8_t *node = tree;; node += NODE) {
+        text += sprintf(text, "(%u", label(node));
+        children[depth++] = node[COUNT_AT];
         for (; depth > 0 && children[depth - 1] == 0; depth--)
             *text++ = ')';
         if (depth == 0)

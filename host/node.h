@@ -9,7 +9,7 @@
  * The most bytes of a node in words, of a tree in brackets and of what is printed of a tree that is not approved, with
  * the byte that ends them.
  */
-enum { NODE_TEXT = 384, TREE_TEXT = 384, NOT_TEXT = 16 };
+enum { NODE_TEXT = 512, TREE_TEXT = 512, NOT_TEXT = 16 };
 
 /*
  * The node at a place, counted from 1, of a listing that no call refuses: its label and the labels above it, from the

@@ -16,11 +16,12 @@ const char help[] =
     "       scalebench --number TREE [-q] BOOK\n"
     "       scalebench --tree NUMBER [-q] BOOK\n"
     "       scalebench --list [-q] BOOK\n"
+    "       scalebench --widen OLD BOOK\n"
     "\n"
     "Keeps approved assemblies in the file BOOK. COMMAND, or each line of standard\n"
     "input, is one of\n"
     "    (add TREE)   (drop TREE)   (ask TREE)   (total)\n"
-    "TREE is a label from 1 to 255 followed by its child trees, in brackets, as in\n"
+    "TREE is a label from 1 to 65535 followed by its child trees, in brackets, as in\n"
     "(1 (1) (2)). Prints for each line its number and one of\n"
     "    done STATES TRANSITIONS   approved   not part   not PLACE\n"
     "    total ASSEMBLIES   total over   refused NUMBER   form COLUMN   long\n"
@@ -49,6 +50,9 @@ const char help[] =
     "      --list          print (add TREE) for every approved assembly, by number; a\n"
     "                      batch of these lines makes an equal book. Numbers whose\n"
     "                      assembly has more than 48 modules go to standard error\n"
+    "      --widen OLD     make BOOK, which must not exist, of OLD, a book of version\n"
+    "                      0.5.0 or older with labels of one byte; each label keeps\n"
+    "                      its number, and OLD is left as it is\n"
     "  -q, --quiet         print nothing on standard output\n"
     "  -h, --help          print this\n"
     "      --version       print the version\n"
@@ -57,10 +61,11 @@ const char help[] =
     "exit status\n"
     "  0  COMMAND: approved, done or counted; standard input: each line done or\n"
     "     answered; --check: sound; --backup: copied; --number, --tree: found;\n"
-    "     --list: all are listed\n"
+    "     --list: all are listed; --widen: made\n"
     "  1  COMMAND or --number: the assembly is not approved\n"
     "  2  the command line is wrong\n"
-    "  3  BOOK is missing, is damaged, or may not be read or changed\n"
+    "  3  BOOK or OLD is missing, is damaged, has labels of another width, or may not\n"
+    "     be read or changed\n"
     "  4  another program is changing BOOK\n"
     "  5  BOOK or FILE could not be saved, or input or output failed; what was\n"
     "     printed as done is saved\n"
@@ -121,7 +126,7 @@ static int read_number(const char *text, struct options *options)
 
 static int takes_value(const char *option)
 {
-    static const char *const options[] = {"--wait", "--backup", "--number", "--tree"};
+    static const char *const options[] = {"--wait", "--backup", "--number", "--tree", "--widen"};
     for (size_t i = 0; i < sizeof options / sizeof options[0]; i++)
         if (strcmp(option, options[i]) == 0)
             return 1;
@@ -137,7 +142,12 @@ static int read_value(const char *option, const char *value, struct options *opt
         return read_seconds(value, &options->wait);
     if (strcmp(option, "--tree") == 0)
         return read_number(value, options);
-    *(strcmp(option, "--backup") == 0 ? &options->backup : &options->tree) = value;
+    if (strcmp(option, "--backup") == 0)
+        options->backup = value;
+    else if (strcmp(option, "--widen") == 0)
+        options->widen = value;
+    else
+        options->tree = value;
     return 1;
 }
 
@@ -154,15 +164,16 @@ static int read_name(const char *argument, struct options *options)
 static int fits(const struct options *options)
 {
     int changes = options->begin || options->batch || options->dry_run;
-    int only_read = options->check + !!options->backup + !!options->tree + options->numbered + options->list;
+    int alone = options->check + !!options->backup + !!options->tree + options->numbered + options->list +
+                !!options->widen;
     if (options->help || options->version)
         return 1;
     if (!options->book)
         explain("no book named");
-    else if (only_read > 1)
-        explain("--check, --backup, --number, --tree and --list do not go together");
-    else if (only_read && (changes || options->command))
-        explain("--check, --backup, --number, --tree and --list change nothing and take no COMMAND");
+    else if (alone > 1)
+        explain("--check, --backup, --number, --tree, --list and --widen do not go together");
+    else if (alone && (changes || options->command))
+        explain("--check, --backup, --number, --tree, --list and --widen change nothing and take no COMMAND");
     else if (options->batch && options->command)
         explain("--batch reads standard input and takes no COMMAND");
     else

@@ -83,6 +83,22 @@ int place_open(const struct place *place, int flags)
     return -1;
 }
 
+ssize_t place_read(int file, uint8_t *bytes, size_t room)
+{
+    size_t length = 0;
+    while (length < room) {
+        ssize_t more = pread(file, bytes + length, room - length, (off_t)length);
+        if (more < 0 && errno == EINTR)
+            continue;
+        if (more < 0)
+            return -1;
+        if (more == 0)
+            break;
+        length += (size_t)more;
+    }
+    return (ssize_t)length;
+}
+
 int place_holds(const struct place *place, int file)
 {
     struct stat named, opened;

@@ -2,6 +2,9 @@
 #ifndef PLACE_H
 #define PLACE_H
 
+#include <stdint.h>
+#include <sys/types.h>
+
 struct place {
     const char *path; /* as it was given, for messages */
     char *name;
@@ -16,6 +19,9 @@ int place_find(struct place *place, const char *path, int begin);
 
 /* Opens the file at the place; -1 with errno if that fails or it is no regular file. */
 int place_open(const struct place *place, int flags);
+
+/* Reads at most `room` bytes from the start of an open file; their number, or -1 with errno. */
+ssize_t place_read(int file, uint8_t *bytes, size_t room);
 
 /* Whether the name stands for this open file now. */
 int place_holds(const struct place *place, int file);

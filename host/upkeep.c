@@ -6,6 +6,7 @@
 #include "message.h"
 #include "output.h"
 #include "save.h"
+#include "widen.h"
 
 #include <errno.h>
 #include <stdio.h>
@@ -18,6 +19,10 @@ enum status check_book(struct book *book, const char *path, int quiet)
     enum status status = book_look(book, path, &refusal);
     if (status != STATUS_FINE)
         return status;
+    if (refusal && book->old) {
+        output(quiet, "%s is " OLD_WORDS "\n", shown(path));
+        return written() ? STATUS_BOOK : STATUS_FAILED;
+    }
     if (refusal) {
         output(quiet, "%s is damaged (%u): %s\n", shown(path), refusal, scalebench_reason(refusal));
         return written() ? STATUS_BOOK : STATUS_FAILED;
@@ -28,23 +33,25 @@ enum status check_book(struct book *book, const char *path, int quiet)
     return written() ? STATUS_FINE : STATUS_FAILED;
 }
 
-/* Private whatever the book is: who may read the book is not known to be who may read the copy's folder. */
 enum status back_up(struct book *book, const char *path, const char *copy)
+{
+    enum status status = book_open(book, path, 0, 0);
+    return status != STATUS_FINE ? status : put_new("cannot back up to", copy, book->table);
+}
+
+enum status put_new(const char *doing, const char *path, const uint8_t *table)
 {
     struct place place;
     struct stat existing;
-    enum status status = book_open(book, path, 0, 0);
-    if (status != STATUS_FINE)
-        return status;
-    if (lstat(copy, &existing) == 0) {
-        complain("cannot back up to", copy, "it exists already");
+    if (lstat(path, &existing) == 0) {
+        complain(doing, path, "it exists already");
         return STATUS_FAILED;
     }
-    if (!place_find(&place, copy, 1))
+    if (!place_find(&place, path, 1))
         return STATUS_FAILED;
-    int file = save_new(&place, 0600, book->table);
+    int file = save_new(&place, 0600, table);
     if (file < 0) {
-        complain("cannot back up to", copy, "%s", strerror(errno));
+        complain(doing, path, "%s", strerror(errno));
     } else {
         remove_strays(place.folder, file);
         close(file);

@@ -1,9 +1,9 @@
 /*
  * Scalebench: approved weighing assemblies as a minimal tree automaton in a table of bytes.
  *
- * A tree is handed in as its listing: two bytes a node, label (1 to 255) and child count (0 to 8), node first, then
- * its children's listings in order; 1 to 48 nodes. A table holds the set of the approved trees; the table of the empty
- * set is all zeros. The same set always has the same table, byte for byte.
+ * A tree is handed in as its listing: three bytes a node, label (1 to 65535, high byte first) and child count (0 to 8),
+ * node first, then its children's listings in order; 1 to 48 nodes. A table holds the set of the approved trees; the
+ * table of the empty set is all zeros. The same set always has the same table, byte for byte.
  *
  * Every call may be handed any bytes of any length: it checks all that it is given and answers with the first
  * condition that is broken. A pointer may be NULL if its length is 0.
@@ -25,7 +25,7 @@
  *
  *     int main(void)
  *     {
- *         const uint8_t tree[] = {1, 2, 1, 0, 1, 0};
+ *         const uint8_t tree[] = {0, 1, 2, 0, 1, 0, 0, 1, 0};
  *         uint64_t added = scalebench_add(tree, sizeof tree, table, sizeof table, scratch, sizeof scratch);
  *         if (scalebench_refusal(added)) {
  *             fprintf(stderr, "refused: %s\n", scalebench_reason(scalebench_refusal(added)));
@@ -51,23 +51,23 @@ extern "C" {
 #endif
 
 /* The version of the library, of this header and of the host. */
-#define SCALEBENCH_VERSION "0.5.0"
+#define SCALEBENCH_VERSION "0.6.0"
 
 /*
  * The lengths that a table and a scratch must have. The greatest length of a listing for ask, rank, add and remove is
  * the length that the listing lent to unrank must have.
  */
-#define SCALEBENCH_TABLE_BYTES 11467
-#define SCALEBENCH_SCRATCH_BYTES 33792
-#define SCALEBENCH_LISTING_BYTES 96
+#define SCALEBENCH_TABLE_BYTES 12491
+#define SCALEBENCH_SCRATCH_BYTES 36864
+#define SCALEBENCH_LISTING_BYTES 144
 
 /* The length that the listing lent to read must have, and the greatest length of a line. */
-#define SCALEBENCH_READ_BYTES 252
+#define SCALEBENCH_READ_BYTES 378
 #define SCALEBENCH_LINE_BYTES 512
 
 /*
  * The stack that a call takes at most: add and remove; ask and intake; total, rank and unrank; read. Measured on x86-64
- * (98, 14, 31 and 41 KiB) and rounded up by about a fifth. tests/stack.c makes the calls on stacks of these sizes.
+ * (95, 14, 31 and 38 KiB) and rounded up by about a fifth. tests/stack.c makes the calls on stacks of these sizes.
  */
 #define SCALEBENCH_CHANGE_STACK_BYTES 122880
 #define SCALEBENCH_ASK_STACK_BYTES 16384
@@ -180,12 +180,12 @@ static inline const char *scalebench_reason(unsigned refusal)
 {
     static const char *const reasons[] = {
         /*  0 */ "not refused",
-        /*  1 */ "the listing is shorter than 2 bytes, longer than 96, or odd in length",
-        /*  2 */ "a label is 0",
+        /*  1 */ "the listing is shorter than 3 bytes, longer than 144, or no multiple of 3",
+        /*  2 */ "both bytes of a label are 0",
         /*  3 */ "a child count is above 8",
         /*  4 */ "the child counts do not make exactly one tree",
-        /*  5 */ "the table is not 11467 bytes long",
-        /*  6 */ "the scratch is not 33792 bytes long, or the listing to be written not 96",
+        /*  5 */ "the table is not 12491 bytes long",
+        /*  6 */ "the scratch is not 36864 bytes long, or the listing to be written not 144",
         /*  7 */ "a field of the table is out of its range, or a byte that must be 0 is not",
         /*  8 */ "the transitions of the table are not in strictly rising order",
         /*  9 */ "some state of the table has no tree that leads to it",

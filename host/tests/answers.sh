@@ -8,7 +8,7 @@ nodes() { # a chain of so many nodes as text
 }
 
 run 'a new book' 0 'end 0 0 0' --new book
-equal 'the empty book' "$(tr -d '\000' <book | wc -c) $(wc -c <book)" '0 11467'
+equal 'the empty book' "$(tr -d '\000' <book | wc -c) $(wc -c <book)" "0 $book_bytes"
 holds 'nothing else' book
 cp book empty
 
@@ -112,11 +112,11 @@ rm large larger
 
 # Lines that are malformed, refused by a call, or at the limits; a NUL, a CR, no final end of line.
 {
-    printf '(ask (256))\n(ask (01))\n(add\n\n(ask (1)\n(ask (1)))\n(ask (1))\r\n(ask (1\0))\n(asc (1))\n(add  (1))\n'
+    printf '(ask (65536))\n(ask (01))\n(add\n\n(ask (1)\n(ask (1)))\n(ask (1))\r\n(ask (1\0))\n(asc (1))\n(add  (1))\n'
     printf '(ask (0))\n(ask (1 (1) (1) (1) (1) (1) (1) (1) (1) (1)))\n(ask %s)\n(ask %s)\n' "$(nodes 48)" "$(nodes 49)"
     printf '(ask %s)\n%512s\n%513s\n%70000s\n(ask (1))' "$(nodes 120)" x x x
 } | input
-run 'lines' 6 '1 form 9
+run 'lines' 6 '1 form 11
 2 form 8
 3 form 5
 4 form 1
@@ -140,6 +140,30 @@ told 'malformed' 'line 1: not (add TREE)'
 above=$(awk 'BEGIN { for (i = 1; i < 47; i++) printf "1 > "; print 1 }')
 told 'the deepest node' "line 13: not approved: node 48, label 1, under $above"
 told 'long' 'line 18: above 512 bytes'
+
+# Labels of two bytes: those that differ in one byte, and the longest texts of a tree and of a node.
+printf '(%s)\n' 'add (256 (65535) (1))' 'ask (256 (65535) (1))' 'ask (1 (65535) (1))' 'ask (256 (255) (1))' \
+    'ask (256 (65535) (257))' 'add (65280 (65535) (1))' 'drop (256 (65535) (1))' 'drop (65280 (65535) (1))' | input
+run 'labels of two bytes' 0 '1 done 3 3
+2 approved
+3 not 1
+4 not 2
+5 not 3
+6 done 3 4
+7 done 3 3
+8 done 0 0
+end 8 0 0' book
+told 'labels of two bytes' 'line 4: not approved: node 2, label 255, under 256'
+told 'labels of two bytes' 'line 5: not approved: node 3, label 257, under 256'
+same 'labels of two bytes: nothing is left' book empty
+widest=$(nodes 48 | sed 's/1/65535/g')
+run 'the widest assembly' 1 '1 not 48
+end 1 0 0' book "(ask $widest)"
+told 'the widest assembly' "node 48, label 65535, under $(echo "$above" | sed 's/1/65535/g')"
+run 'the widest assembly: added' 0 '1 done 48 48
+end 1 48 48' book "(add $widest)"
+run 'the widest assembly: its text' 0 "$widest" --tree 0 book
+cp empty book
 
 # Input and output that fail.
 "$host" book <. >"$folder/out" 2>"$folder/err"

@@ -38,24 +38,24 @@ damaged() { # WHAT REASON
     holds "$1: nothing is left" damage kept sample
 }
 : >damage
-damaged 'an empty file' '(5): the table is not 11467 bytes long'
-head -c 11466 sample >damage
-damaged 'a short file' '(5): the table is not 11467 bytes long'
+damaged 'an empty file' '(5): the table is not 12491 bytes long'
+head -c $((book_bytes - 1)) sample >damage
+damaged 'a short file' '(5): the table is not 12491 bytes long'
 { cat sample; printf x; } >damage
-damaged 'a long file' '(5): the table is not 11467 bytes long'
+damaged 'a long file' '(5): the table is not 12491 bytes long'
 poke() { # OFFSET OCTAL: one byte of a copy of the sample
     cp sample damage
     printf '%b' "\\0$2" | dd of=damage bs=1 seek="$1" conv=notrunc 2>/dev/null
 }
 poke 0 311
 damaged '201 states' '(7): a field of the table is out of its range'
-poke 11466 001
+poke $((book_bytes - 1)) 001
 damaged 'the last byte' '(7): '
 poke 202 001
 damaged 'a transition too few' '(7): '
 poke 2 000
 damaged 'nothing approved' '(10): some state of the table has no approved tree'
-poke 213 002
+poke $((head_bytes + line_bytes - 1)) 002
 damaged 'a state without trees' '(9): some state of the table has no tree'
 rm damage kept
 

@@ -48,12 +48,12 @@ static void stop(const char *what)
 /* Change k of a host: fifty trees that no other host has are put in, then taken out, and so on. */
 static int drops(unsigned k) { return k % CYCLE >= CYCLE / 2; }
 static unsigned child(unsigned k) { return 1 + k % (CYCLE / 2); }
-static unsigned label(unsigned host) { return 200 + host; }
+static unsigned label(unsigned host) { return 255 + host; }
 
 static void apply(uint8_t *table, unsigned host, unsigned k)
 {
     static uint8_t scratch[SCALEBENCH_SCRATCH_BYTES];
-    const uint8_t tree[] = {(uint8_t)label(host), 1, (uint8_t)child(k), 0};
+    const uint8_t tree[] = {(uint8_t)(label(host) / 256), (uint8_t)label(host), 1, 0, (uint8_t)child(k), 0};
     uint64_t answer = (drops(k) ? scalebench_remove : scalebench_add)(tree, sizeof tree, table, TABLE, scratch,
                                                                       sizeof scratch);
     if (scalebench_refusal(answer))

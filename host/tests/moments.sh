@@ -91,4 +91,24 @@ at 'renameat2:1:cp book copy' 'a copy that another program makes first' 5 '' --b
 told 'a copy that another program makes first' 'cannot back up to copy: File exists'
 same 'a copy that another program makes first: left' copy book
 holds 'a copy that another program makes first: nothing beside' book copy
+
+# So it is with a book that is made of an old one, and each step of that may fail.
+fresh
+zeros 11467 >old
+at 'renameat2:1:cp book new' 'a new book that another program makes first' 5 '' --widen old new
+told 'a new book that another program makes first' 'cannot widen to new: File exists'
+same 'a new book that another program makes first: left' new book
+holds 'a new book that another program makes first: nothing beside' book new old
+for step in write fchmod fsync renameat2; do
+    fresh
+    zeros 11467 >old
+    at "$step:1:=5" "widening: $step fails" 5 '' --widen old new
+    told "widening: $step fails" 'cannot widen to new: Input/output error'
+    holds "widening: $step fails: nothing beside" book old
+done
+fresh
+zeros 11467 >old
+at 'renameat2:1:=22' 'widening without such a rename' 0 '' --widen old new
+run 'widening without such a rename: made' 0 'new is sound: 0 states, 0 transitions' --check new
+holds 'widening without such a rename: nothing beside' book old new
 report

@@ -31,6 +31,11 @@ for number in '' x 1x -1 +1 ' 1' 0x1 18446744073709551616 9999999999999999999999
     wrong "the serial number '$number'" 'not a number up to 18446744073709551615: ' --tree "$number" book
 done
 wrong 'a number and a tree' 'do not go together' --number '(1)' --tree 0 book
+wrong 'no old book' 'a value is missing after --widen' book --widen
+wrong 'an old book alone' 'no book named' --widen old
+wrong 'widen and back up' 'do not go together' --widen old --backup copy book
+wrong 'widen with a command' 'take no COMMAND' --widen old book '(ask (1))'
+wrong 'widen to a new book' 'change nothing' --widen old --new book
 wrong 'a list and a check' 'do not go together' --list --check book
 wrong 'a tree with a command' 'take no COMMAND' --tree 0 book '(ask (1))'
 wrong 'a list of a new book' 'change nothing' --list --new book
@@ -43,7 +48,8 @@ for option in -h --help; do
     equal "$option" "$? $(head -c 17 "$folder/out") $(wc -c <"$folder/err")" '0 usage: scalebench 0'
 done
 equal 'help within 80 columns' "$(awk 'length > 80' "$folder/out")" ''
-for word in --new --batch --dry-run --wait --check --backup --number --tree --list --quiet -q --help -h --version; do
+for word in --new --batch --dry-run --wait --check --backup --number --tree --list --widen \
+    --quiet -q --help -h --version; do
     grep -q -- "$word" "$folder/out"
     equal "help names $word" $? 0
 done
@@ -57,7 +63,7 @@ run 'the version is the header'"'s" 0 "scalebench $version" --version
 equal 'the changes are those of this version' "$(sed -n '/^## /{s/^## //p;q}' "$here/../../CHANGELOG.md")" "$version"
 
 run 'a name like an option' 0 'end 0 0 0' --new -- --book
-equal 'its file' "$(wc -c <./--book)" 11467
+equal 'its file' "$(wc -c <./--book)" "$book_bytes"
 
 # Names with bytes that a terminal would obey.
 name=$(printf 'a\033[31mb\tc\177d\\e')

@@ -51,7 +51,7 @@ for kind in mkdir mkfifo 'ln -s book'; do
     holds "$kind is left" book $stray
 done
 fresh
-head -c 11468 /dev/zero >$stray
+zeros $((book_bytes + 1)) >$stray
 echo text >.scalebench-0123456789abcdef0123456789abcdeg
 echo text >.scalebench-0123456789abcdef0123456789abcdef0
 run 'other files' 0 "$added" book '(add (9))'

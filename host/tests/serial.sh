@@ -33,7 +33,7 @@ told 'not approved' 'scalebench: not approved: node 3, label 3, under 1'
 run 'a part' 1 'not part' --number '(1)' book
 told 'a part' 'scalebench: not approved: part of an approved assembly'
 run 'label 0' 6 'refused 2' --number '(0)' book
-told 'label 0' 'scalebench: a label is 0'
+told 'label 0' 'scalebench: both bytes of a label are 0'
 malformed() { # TREE COLUMN
     run "malformed: $1" 6 "form $2" --number "$1" book
     told "malformed: $1" "not an assembly in brackets from column $2 on"
@@ -46,7 +46,8 @@ malformed '(7) ' 4
 malformed '(7))))' 4
 malformed '(7) (7)' 4
 malformed ')' 1
-malformed '(256)' 4
+malformed '(65536)' 6
+malformed '(655350)' 7
 malformed '(1 (1)' 7
 malformed '(1 (2) )' 8
 malformed "$(printf '%506s' x)" 1
@@ -63,7 +64,7 @@ run 'a number, no book' 3 '' --number '(7)' none
 told 'a number, no book' 'cannot open none'
 run 'a tree, no book' 3 '' --tree 0 none
 run 'a list, no book' 3 '' --list none
-head -c 11466 book >short
+head -c $((book_bytes - 1)) book >short
 run 'a damaged book' 3 '' --list short
 told 'a damaged book' 'cannot use short: it is damaged (5)'
 rm short
@@ -92,16 +93,16 @@ chains() { # PLACES STATES CLASS: each state under the next at so many places; t
     awk -v places="$1" -v states="$2" -v class="$3" 'BEGIN {
         printf "%d", states
         for (q = 1; q <= 200; q++) printf " %d", q < states ? class : q == states
-        printf " 0 %d 1 0 0 0 0 0 0 0 0 0 1", states
+        printf " 0 %d 0 1 0 0 0 0 0 0 0 0 0 1", states
         for (q = 1; q < states; q++) {
-            printf " 1 %d", places
+            printf " 0 1 %d", places
             for (k = 1; k <= 8; k++) printf " %d", k <= places ? q : 0
             printf " %d", q + 1
         }
     }' >../numbers
     # shellcheck disable=SC2046 # the bytes are words
     bytes $(cat ../numbers)
-    zeros $((11467 - 203 - 11 * $2))
+    zeros $((book_bytes - head_bytes - line_bytes * $2))
 }
 chains 1 60 1 >sixty
 run 'the last that fits' 0 "$(awk 'BEGIN { for (i = 0; i < 47; i++) printf "(1 "; printf "(1"
@@ -123,9 +124,9 @@ scalebench: 1 of 1 assemblies are not listed'
 {
     bytes 5 0 0 0 0 1
     zeros 195
-    bytes 0 41 $(awk 'BEGIN { for (k = 0; k < 40; k++) print 1 + k, "0 0 0 0 0 0 0 0 0", 1 + int(k / 10) }')
-    bytes 50 4 1 2 3 4 0 0 0 0 5
-    zeros $((11467 - 203 - 11 * 41))
+    bytes 0 41 $(awk 'BEGIN { for (k = 0; k < 40; k++) print 0, 1 + k, "0 0 0 0 0 0 0 0 0", 1 + int(k / 10) }')
+    bytes 0 50 4 1 2 3 4 0 0 0 0 5
+    zeros $((book_bytes - head_bytes - line_bytes * 41))
 } >many
 run 'a book of 10,000' 0 '1 total 10000
 end 1 5 41' many '(total)'
