@@ -79,3 +79,4 @@ pub mod GroupingCounts
 pub mod NamesInUse
 pub mod NamedChange
 pub mod NamedSamples
+pub mod RuledOrder

@@ -8,6 +8,7 @@ use lib.Dec.{eqb, leb, ltb}
 use lib.ListN.{take}
 use borrow.Author.Tests.{le-leb, leb-true, ltb-false, ltb-true}
 use Rattle.automata.specs.Automaton.{Transition}
+use Rattle.automata.specs.Numbered.{opens}
 use Rattle.automata.specs.Order.{key}
 use Rattle.automata.specs.Renumber.{numberOf, ready, renumber}
 use Rattle.lists.specs.Closure.{elem}
@@ -60,3 +61,16 @@ above-out O k q h = go (elem eqb q (take k O)) refl
     go : (b : Bool) → elem eqb q (take k O) ≡ b → not b ≡ true
     go true e = absurd (omega (arith, number-le k O q e, ltb-true k (numberOf O q) h))
     go false e = refl
+
+-- the transitions that open the number k + 1 are those that were ready at k
+pub ready-opens : (O : List ℕ) (k : ℕ) (l : Transition) → elem eqb (l .out) O ≡ true → ready (take k O) l ≡ true →
+    opens k (renumber O l) ≡ true
+ready-opens O k l p r =
+    and-both (args-le O k (l .args) (and-left _ _ r))
+    (out-above O k (l .out) p (and-right (every (λ q. elem eqb q (take k O)) (l .args)) _ r))
+
+pub opens-ready : (O : List ℕ) (k : ℕ) (l : Transition) → every (λ q. elem eqb q O) (l .args) ≡ true →
+    opens k (renumber O l) ≡ true → ready (take k O) l ≡ true
+opens-ready O k l p o =
+    and-both (le-args O k (l .args) p (and-left _ (ltb k (numberOf O (l .out))) o))
+    (above-out O k (l .out) (and-right (every (λ q. leb q k) (map (numberOf O) (l .args))) _ o))

@@ -20,7 +20,7 @@ use Rattle.trees.specs.Tree.{AllTrees, Forest, Tree, _⧺_, cons, nil, node}
 use Rattle.automata.proofs.Numbering.{Exhausted, Opened, Opened-each, numbering-opened}
 use Rattle.automata.proofs.Numbers.{getD-number, number-at, number-inj, number-length, number-pos}
 use Rattle.automata.proofs.Order.{first-open}
-use Rattle.automata.proofs.Prefixes.{above-out, args-le, key-same, le-args, out-above}
+use Rattle.automata.proofs.Prefixes.{key-same, opens-ready, ready-opens}
 use Rattle.automata.proofs.Sorting.{OneTransition, in-sort, sort-in, sort-rising}
 use Rattle.automata.proofs.Unique.{children}
 use Rattle.lists.proofs.Intervals.{getD-map}
@@ -164,18 +164,6 @@ module _ (S : Tree → Bool) (g : Tree → ℕ) (Q : List Transition) (G : Group
       go : Occurs S g l → (every (λ q. elem eqb q O) (l .args) ≡ true) × (elem eqb (l .out) O ≡ true)
       go (a, f, p, e) = rw e (all-placed f (children S a f p), placed (node a f) p)
 
-  -- the transitions that open the number k + 1 are those that were ready at k
-  ready-opens : (k : ℕ) (l : Transition) → l ∈ Q → ready (take k O) l ≡ true → opens k (renumber O l) ≡ true
-  ready-opens k l i r =
-      and-both (args-le O k (l .args) (and-left _ _ r))
-      (out-above O k (l .out) (transition-placed l i .1)
-      (and-right (every (λ q. elem eqb q (take k O)) (l .args)) _ r))
-
-  opens-ready : (k : ℕ) (l : Transition) → l ∈ Q → opens k (renumber O l) ≡ true → ready (take k O) l ≡ true
-  opens-ready k l i o =
-      and-both (le-args O k (l .args) (transition-placed l i .0) (and-left _ (ltb k (numberOf O (l .out))) o))
-      (above-out O k (l .out) (and-right (every (λ q. leb q k) (map (numberOf O) (l .args))) _ o))
-
   -- any sorted list of the renumbered transitions
   module _ (L : List Transition) (rises : rising L ≡ true)
       (below : (τ : Transition) → τ ∈ L → τ ∈ map (renumber O) Q)
@@ -187,12 +175,12 @@ module _ (S : Tree → Bool) (g : Tree → ℕ) (Q : List Transition) (G : Group
         go : Opened Q (take k O) (getD O k 0) → firstOpen k L ≡ suc k
         go (l, e, (i, r, least)) =
             finish (first-open k L rises (renumber O l) (above (renumber O l) (in-map (renumber O) Q l i))
-            (ready-opens k l i r))
+            (ready-opens O k l (transition-placed l i .1) r))
           where
             never : (m : Transition) → m ∈ Q → opens k (renumber O m) ≡ true →
                 precedes (renumber O m) (renumber O l) ≡ true → ⊥
             never m j o b =
-                let y = opens-ready k m j o in
+                let y = opens-ready O k m (transition-placed m j .0) o in
                 let c = subst (λ (x : List ℕ). lex x (key (renumber (take k O) l)) ≡ false) (key-same O k m y)
                 (least m j y) in
                 let d = subst (λ (x : List ℕ). lex (key (renumber O m)) x ≡ false) (key-same O k l r) c in

@@ -12,6 +12,7 @@ pub mod Canonical
 pub mod AnyAutomaton
 pub mod General
 pub mod Renumber
+pub mod RuledOrder
 pub mod Minimal
 pub mod Product
 pub mod Change

@@ -14,7 +14,7 @@ use Rattle.fields.proofs.Transitions.{args-length}
 use Rattle.lists.proofs.Intervals.{length-tabulated}
 
 -- the arguments around place k
-split-upFrom : (f : ℕ → ℕ) (j k n : ℕ) → k < n →
+pub split-upFrom : (f : ℕ → ℕ) (j k n : ℕ) → k < n →
     map f (upFrom j n) ≡ map f (upFrom j k) ++ (f (j + k) ∷ map f (upFrom (j + k + 1) (n - (k + 1))))
 split-upFrom f j k zero h = absurd (omega arith)
 split-upFrom f j zero (suc n) h =

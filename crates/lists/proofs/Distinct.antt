@@ -64,6 +64,37 @@ pub distinct-length : {A : Type 0} (xs ys : List A) → Distinct xs → ((x : A)
 distinct-length {A} xs ys d h =
     partners-length (λ (x y : A). x ≡ y) (λ x y z p q. p ∙ sym q) xs ys d (λ x i. (x, h x i, refl))
 
+-- a list without duplicates that is as long as a list that holds all its elements holds all of that list's
+pub distinct-all : {A : Type 0} (xs ys : List A) → Distinct xs → ((x : A) → x ∈ xs → x ∈ ys) →
+    length ys ≤ length xs → (y : A) → y ∈ ys → y ∈ xs
+distinct-all [] (z ∷ ys) d h l y i = absurd (omega arith)
+distinct-all {A} (x ∷ xs) ys d h l y i = go (in-split ys x (h x (inl refl))) (λ zs. distinct-all xs zs (d .1))
+  where
+    go : (a : List A) × (b : List A) × (ys ≡ a ++ (x ∷ b)) →
+        ((zs : List A) → ((z : A) → z ∈ xs → z ∈ zs) → length zs ≤ length xs → (z : A) → z ∈ zs → z ∈ xs) →
+        y ∈ (x ∷ xs)
+    go (a, b, e) ih = found (side y i)
+      where
+        side : (z : A) → z ∈ ys → (z ≡ x) ⊎ (z ∈ (a ++ b))
+        side z j = split (append-in a (x ∷ b) z (subst (λ (l : List A). z ∈ l) e j))
+          where
+            split : (z ∈ a) ⊎ (z ∈ (x ∷ b)) → (z ≡ x) ⊎ (z ∈ (a ++ b))
+            split (inl k) = inr (in-append-left a b z k)
+            split (inr (inl q)) = inl q
+            split (inr (inr k)) = inr (in-append-right a b z k)
+
+        rest : (z : A) → z ∈ xs → z ∈ (a ++ b)
+        rest z j = other (side z (h z (inr j)))
+          where
+            other : (z ≡ x) ⊎ (z ∈ (a ++ b)) → z ∈ (a ++ b)
+            other (inl q) = absurd (d .0 (subst (λ (w : A). w ∈ xs) q j))
+            other (inr k) = k
+
+        found : (y ≡ x) ⊎ (y ∈ (a ++ b)) → y ∈ (x ∷ xs)
+        found (inl q) = inl q
+        found (inr k) =
+            inr (ih (a ++ b) rest (omega (arith, ap length e, length-append a (x ∷ b), length-append a b)) y k)
+
 module _ {A B : Type 0} where
   pub map-distinct : (f : A → B) (xs : List A) →
       ((x y : A) → x ∈ xs → y ∈ xs → f x ≡ f y → x ≡ y) → Distinct xs → Distinct (map f xs)

@@ -22,7 +22,7 @@ zero-together x y f g = go (eqb x 0) refl
     go false d = sym (ne-eqb y 0 (λ e. eqb-false x 0 d (g e)))
 
 -- digits after v
-digits-split : (f : ℕ → ℕ) (k n v : ℕ) → digits f k n v ≡ v * 2 ^ (8 * n) + digits f k n 0
+pub digits-split : (f : ℕ → ℕ) (k n v : ℕ) → digits f k n v ≡ v * 2 ^ (8 * n) + digits f k n 0
 digits-split f k zero v = omega arith
 digits-split f k (suc n) v =
     let r = 2 ^ (8 * n) in
@@ -36,7 +36,7 @@ digits-split f k (suc n) v =
     omega (arith, more, first, second, left, right)
 
 -- m digits, and then n more
-digits-cut : (f : ℕ → ℕ) (m k n v : ℕ) → digits f k (m + n) v ≡ digits f (k + m) n (digits f k m v)
+pub digits-cut : (f : ℕ → ℕ) (m k n v : ℕ) → digits f k (m + n) v ≡ digits f (k + m) n (digits f k m v)
 digits-cut f zero k n v = ap (λ j. digits f k j v) (zero-add n) ∙ ap (λ j. digits f j n v) (sym (add-zero k))
 digits-cut f (suc m) k n v =
     let e : suc m + n ≡ suc (m + n) = omega arith in
@@ -44,12 +44,12 @@ digits-cut f (suc m) k n v =
     ap (λ j. digits f k j v) e ∙ digits-cut f m (suc k) n (byteValues * v + f k)
     ∙ ap (λ j. digits f j n (digits f k (suc m) v)) d
 
-digits-none : (k n : ℕ) → digits (λ _. 0) k n 0 ≡ 0
+pub digits-none : (k n : ℕ) → digits (λ _. 0) k n 0 ≡ 0
 digits-none k zero = refl
 digits-none k (suc n) = digits-none (suc k) n
 
 module _ (f : ℕ → ℕ) (small : (j : ℕ) → f j < byteValues) where
-  digits-below : (k n : ℕ) → digits f k n 0 < 2 ^ (8 * n)
+  pub digits-below : (k n : ℕ) → digits f k n 0 < 2 ^ (8 * n)
   digits-below k n =
       omega (
         arith,

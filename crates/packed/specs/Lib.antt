@@ -1,2 +1,4 @@
 pub mod Packed
 pub mod Places
+pub mod Seeking
+pub mod Heads

@@ -1,13 +1,14 @@
 -- A transition as two numbers: its arguments in one, its child count and label in the other.
-use mathlib.Core.Bool.{Bool, _&&_, _||_}
+use mathlib.Core.Bool.{Bool, _&&_, _||_, true}
 use mathlib.Core.List.{List}
 use mathlib.Core.Path.{_≡_}
 use Prim.Native.Nat.{_*_, _+_, _<_, _≤_, suc, zero, ℕ}
 use lib.Dec.{eqb, ltb}
 use lib.ListN.{getD}
+use Rattle.automata.specs.Order.{rising}
 use Rattle.fields.specs.Fields.{HoldsTransitions}
 use Rattle.format.specs.Format.{bytePairs, byteValues, maxArity, transitionBytes}
-use Rattle.table.specs.Layout.{argOf, arityOf, labelOf}
+use Rattle.table.specs.Layout.{argOf, arityOf, labelOf, transitionsIn}
 
 -- v, and after it the n numbers f k, f (k + 1), .. as digits to base 256
 abbrev pub digits : (ℕ → ℕ) → ℕ → ℕ → ℕ → ℕ
@@ -43,3 +44,8 @@ pub record Padded (s : List ℕ) (at : ℕ) : Type 0 where
 pub record HoldsPadded (s : List ℕ) (n : ℕ) : Type 0 where
   pub runs : HoldsTransitions s n
   pub each : (i : ℕ) → i < n → Padded s (transitionBytes * i)
+
+-- the same, and each transition comes before the next
+pub record Searchable (s : List ℕ) (n : ℕ) : Type 0 where
+  pub padded : HoldsPadded s n
+  pub rises : rising (transitionsIn s n) ≡ true

@@ -1,6 +1,7 @@
 // Transitions as two numbers, read from their bytes each time. Two transitions are compared by two comparisons of
 // numbers.
 mod layout; // condition 7
+mod searching; // search by halves
 
 ghost use mathlib.Core.Path.{_≡_};
 ghost use Prim.Native.Nat.{_*_, _+_, _<_, _^_, _≤_};
@@ -14,6 +15,8 @@ use fields::arity_of;
 use fields::label_of;
 use format::TRANSITION_BYTES;
 pub use layout::layout_fits;
+pub use searching::output;
+pub use searching::seek;
 
 // A number and, as its next digit to base 256, argument k of the transition that starts at a byte.
 fn with_arg(v: u64, transitions: &[u8], at: usize, k: usize) -> u64
@@ -54,7 +57,7 @@ pub fn meta_at(transitions: &[u8], at: usize) -> u64
 }
 
 // Whether a transition with the numbers m and a comes before one with the numbers n and b.
-fn comes_before(m: u64, a: u64, n: u64, b: u64) -> bool
+pub fn comes_before(m: u64, a: u64, n: u64, b: u64) -> bool
     ensures { λ r. ⌜ r ≡ before m a n b ⌝ }
 {
     if m != n {

@@ -11,7 +11,7 @@ use Rattle.lists.proofs.Loops.{upFrom-next, upFrom-none}
 use Rattle.table.specs.Layout.{argOf, arityOf, transitionAt}
 use Rattle.pairs.specs.Counts.{productCap}
 
-cap-step : (c p x y : ℕ) → min c (min c (p * x) * y) ≡ min c (p * (x * y))
+pub cap-step : (c p x y : ℕ) → min c (min c (p * x) * y) ≡ min c (p * (x * y))
 cap-step c p x y =
     let e : min c (min c (p * x)) ≡ min c (p * x) = omega arith in
     min-product c (min c (p * x)) y ∙ ap (λ (z : ℕ). min c (z * min c y)) e ∙ sym (min-product c (p * x) y)

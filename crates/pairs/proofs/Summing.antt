@@ -104,37 +104,37 @@ raised-put out p {m} {o} {x} {more} size h e f g = record {
 -- ---- over all transitions
 
 -- sum is that over the transitions before number i, with more
-pub record SumFrom (w : ℕ → ℕ) (s : List ℕ) (n more sum i : ℕ) : Type 0 where
+pub record SumFrom (w : ℕ → ℕ) (s : List ℕ) (n more limit sum i : ℕ) : Type 0 where
   pub within : i ≤ n
-  pub small : sum ≤ maxProduct
+  pub small : sum ≤ limit
   pub left : sum + sumOver w (transitionsLeft s n i) ≡ sumOver w (transitionsIn s n) + more
 
-module _ {w : ℕ → ℕ} {s : List ℕ} {n more : ℕ} where
-  pub sum-start : more ≤ maxNodes → SumFrom w s n more more 0
+module _ {w : ℕ → ℕ} {s : List ℕ} {n more limit : ℕ} where
+  pub sum-start : more ≤ limit → SumFrom w s n more limit more 0
   sum-start h = record {
     within = omega arith;
     small = omega arith;
     left = omega (arith, ap (sumOver w) (left-all s n));
   }
 
-  pub sum-next : {sum sum' i x : ℕ} → SumFrom w s n more sum i → i < n →
-      x ≡ min productCap (productOver w (nthTransition s i .args)) → sum' ≡ sum + x → sum' ≤ maxProduct →
-      SumFrom w s n more sum' (i + 1)
-  sum-next {sum} {sum'} {i} {x} inv h e f g = record {
+  pub sum-next : {sum sum' i x : ℕ} → limit ≤ maxProduct → SumFrom w s n more limit sum i → i < n →
+      x ≡ min productCap (productOver w (nthTransition s i .args)) → sum' ≡ sum + x → sum' ≤ limit →
+      SumFrom w s n more limit sum' (i + 1)
+  sum-next {sum} {sum'} {i} {x} few inv h e f g = record {
     within = omega arith;
     small = g;
     left = omega (arith, inv .left, ap (sumOver w) (left-next s n i h));
   }
 
-  pub sum-over : {sum i x : ℕ} → SumFrom w s n more sum i → i < n →
-      x ≡ min productCap (productOver w (nthTransition s i .args)) → maxProduct < sum + x →
-      false ≡ leb (sumOver w (transitionsIn s n) + more) maxProduct
-  sum-over {sum} {i} {x} inv h e f =
-      sym (lt-leb (sumOver w (transitionsIn s n) + more) maxProduct
+  pub sum-over : {sum i x : ℕ} → limit ≤ maxProduct → SumFrom w s n more limit sum i → i < n →
+      x ≡ min productCap (productOver w (nthTransition s i .args)) → limit < sum + x →
+      false ≡ leb (sumOver w (transitionsIn s n) + more) limit
+  sum-over {sum} {i} {x} few inv h e f =
+      sym (lt-leb (sumOver w (transitionsIn s n) + more) limit
       (omega (arith, inv .left, ap (sumOver w) (left-next s n i h))))
 
-  pub sum-end : {sum i : ℕ} → SumFrom w s n more sum i → n ≤ i →
-      true ≡ leb (sumOver w (transitionsIn s n) + more) maxProduct
+  pub sum-end : {sum i : ℕ} → SumFrom w s n more limit sum i → n ≤ i →
+      true ≡ leb (sumOver w (transitionsIn s n) + more) limit
   sum-end {sum} {i} inv h =
-      sym (le-leb (sumOver w (transitionsIn s n) + more) maxProduct
+      sym (le-leb (sumOver w (transitionsIn s n) + more) limit
       (omega (arith, inv .left, inv .small, ap (sumOver w) (left-none s n i h))))

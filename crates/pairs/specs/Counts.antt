@@ -4,11 +4,12 @@ use mathlib.Core.Bool.{Bool, _||_, not, true}
 use mathlib.Core.List.{List}
 use mathlib.Core.Path.{_≡_}
 use Prim.Native.Nat.{_*_, _+_, _<_, _≤_, min, suc, zero, ℕ}
-use lib.Dec.{eqb}
+use lib.Dec.{eqb, leb}
 use lib.ListN.{getD, length}
 use Rattle.automata.specs.Accessible.{allAccessible}
 use Rattle.automata.specs.Automaton.{Automaton, IsState, Transition, states}
-use Rattle.automata.specs.OpenStates.{atState, openState}
+use Rattle.automata.specs.Change.{productTransitions}
+use Rattle.automata.specs.OpenStates.{atState, openState, pairsOf}
 use Rattle.automata.specs.Order.{rising}
 use Rattle.automata.specs.Totals.{productOver, sumInto}
 use Rattle.automata.specs.Valid.{statesInRange}
@@ -103,3 +104,10 @@ pub record Subtrees (A : Automaton) (t : Tree) (c : List ℕ) : Type 0 where
 -- m marks the open states
 pub record Open (A : Automaton) (t : Tree) (m : List ℕ) : Type 0 where
   pub each : (q : ℕ) → IsState A q → marked m q ≡ openState A t q
+
+-- the product has no more transitions than it may have if f says so; o marks the open states, w has the number of pairs
+-- of each state
+pub record PairsCounted (A : Automaton) (t : Tree) (f : Bool) (o w : List ℕ) : Type 0 where
+  pub fits : f ≡ leb (productTransitions A t) maxProduct
+  pub opens : Open A t o
+  pub weights : (q : ℕ) → IsState A q → entry w q ≡ pairsOf A t q

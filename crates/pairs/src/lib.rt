@@ -5,21 +5,21 @@ mod sums; // products over arguments and their sums
 
 ghost use mathlib.Core.Path.{_≡_};
 ghost use Prim.Native.Nat.{_+_, _<_, _≤_, ℕ};
-ghost use lib.Dec.{leb};
 ghost use Rattle.automata.specs.Automaton.{Automaton};
-ghost use Rattle.automata.specs.Change.{productTransitions};
 ghost use Rattle.automata.specs.OpenStates.{atState};
 ghost use Rattle.fields.specs.Fields.{HoldsTransitions};
-ghost use Rattle.format.specs.Format.{byteValues, maxNodes, maxProduct};
+ghost use Rattle.format.specs.Format.{byteValues, maxNodes};
 ghost use Rattle.lists.specs.Tests.{bit};
 ghost use Rattle.marking.specs.Marks.{nonzero};
 ghost use Rattle.trees.specs.Tree.{Tree};
-ghost use Rattle.pairs.specs.Counts.{Counted, Numbers, Setting, entriesWith, entry, weightOf};
+ghost use Rattle.pairs.specs.Counts.{Counted, Numbers, PairsCounted, Setting, entriesWith, entry};
+ghost use Rattle.pairs.specs.Counts.{weightOf};
 use format::BYTE_VALUES;
 use format::MAX_NODES;
+use format::MAX_PRODUCT;
 use opening::open_states;
-use sums::index;
-use sums::sum_fits;
+pub use sums::index;
+pub use sums::sum_fits;
 
 // How many of the first m subtrees run to each state.
 fn count_states(m: usize, states: &[u8; MAX_NODES]) -> [u8; BYTE_VALUES]
@@ -61,17 +61,29 @@ fn weights(counts: &[u8; BYTE_VALUES], marks: &[u8; BYTE_VALUES]) -> [u8; BYTE_V
     numbers
 }
 
-// Whether the product of an automaton and a tree has no more transitions than it may have. `states` has the states of
-// the m subtrees.
-pub fn product_fits(transitions: &[u8], count: usize, m: usize, states: &[u8; MAX_NODES]) -> bool
+// Whether the product has no more transitions than it may have, marks for the open states, and the number of pairs of each
+// state.
+pub struct Pairs {
+    pub fits: bool,
+    pub opens: [u8; BYTE_VALUES],
+    pub weights: [u8; BYTE_VALUES],
+}
+
+// Counts the pairs of an automaton and a tree. `states` has the states of the m subtrees.
+pub fn count_pairs(transitions: &[u8], count: usize, m: usize, states: &[u8; MAX_NODES]) -> Pairs
     requires { ⌜ HoldsTransitions (now transitions) count ⌝ }
     requires { ⌜ m ≤ maxNodes ⌝ }
     ensures { λ r. ⌜ ((A : Automaton) (t : Tree) → Setting A (now (transitions .entry)) count →
         ((q : ℕ) → entriesWith (now (states .entry)) m q ≡ atState A t q) →
-        r ≡ leb (productTransitions A t) maxProduct) ⌝ }
+        PairsCounted A t (r .fits) (r .opens) (r .weights)) ⌝ }
 {
     let counts = count_states(m, states);
-    let marks = open_states(transitions, count, &counts);
-    let numbers = weights(&counts, &marks);
-    sum_fits(transitions, count, index(counts[0]), &numbers)
+    let opens = open_states(transitions, count, &counts);
+    let numbers = weights(&counts, &opens);
+    let fits = sum_fits(transitions, count, index(counts[0]), MAX_PRODUCT, &numbers);
+    Pairs {
+        fits: fits,
+        opens: opens,
+        weights: numbers,
+    }
 }

@@ -6,7 +6,7 @@ ghost use lib.Dec.{leb};
 ghost use lib.ListN.{length};
 ghost use Rattle.automata.specs.OpenStates.{sumOver};
 ghost use Rattle.fields.specs.Fields.{HoldsTransitions, Readable};
-ghost use Rattle.format.specs.Format.{byteValues, maxNodes, maxProduct};
+ghost use Rattle.format.specs.Format.{byteValues, maxProduct};
 ghost use Rattle.table.specs.Layout.{outOf, transitionsIn};
 ghost use Rattle.pairs.specs.Counts.{Raised, SumsInto, entry, productAt, productCap, sumCap};
 use fields::arg_of;
@@ -96,18 +96,25 @@ pub fn sums_into(transitions: &[u8], count: usize, numbers: &[u8; BYTE_VALUES]) 
     sums
 }
 
-// Whether the products of all transitions and some more are no more than a product of automata may have.
-pub fn sum_fits(transitions: &[u8], count: usize, more: usize, numbers: &[u8; BYTE_VALUES]) -> bool
+// Whether the products of all transitions and some more are no more than a limit.
+pub fn sum_fits(
+    transitions: &[u8],
+    count: usize,
+    more: usize,
+    limit: usize,
+    numbers: &[u8; BYTE_VALUES],
+) -> bool
     requires { ⌜ HoldsTransitions (now transitions) count ⌝ }
-    requires { ⌜ more ≤ maxNodes ⌝ }
+    requires { ⌜ more ≤ limit ⌝ }
+    requires { ⌜ limit ≤ maxProduct ⌝ }
     ensures { λ r. ⌜ r ≡ leb (sumOver (entry (now (numbers .entry))) (transitionsIn (now (transitions .entry)) count)
-        + more) maxProduct ⌝ }
+        + more) limit ⌝ }
 {
     let mut sum = more;
     let mut i = 0;
     while i < count {
         sum = sum + product(transitions, TRANSITION_BYTES * i, numbers);
-        if sum > MAX_PRODUCT {
+        if sum > limit {
             return false;
         }
         i += 1;

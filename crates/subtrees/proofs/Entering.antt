@@ -99,7 +99,7 @@ module _ {A : Automaton} {ts : List Tree} {n : ℕ} {l r c q : List ℕ} (st : S
     known-among : Among (length ts) (take k ns)
     known-among = subst (λ (m : ℕ). Among m (take k ns)) (sym (st .size)) (children-among ch eight)
 
-    same-tree : (j : ℕ) → j < n → sameNode l r c a k ns j ≡ true → getD ts j noTree ≡ entrant
+    pub same-tree : (j : ℕ) → j < n → sameNode l r c a k ns j ≡ true → getD ts j noTree ≡ entrant
     same-tree j h e =
         let p = eqb-true (getD l j 0) a (and-left _ _ e) in
         let d = and-right (eqb (getD l j 0) a) _ e in

@@ -4,3 +4,4 @@ pub mod Orders
 pub mod Entering
 pub mod Collecting
 pub mod Listed
+pub mod Frames

@@ -21,7 +21,7 @@ use format::wide;
 use listing::children_at;
 use listing::label_at;
 
-const CHILD_NUMBERS: usize = MAX_NODES * MAX_ARITY;
+pub const CHILD_NUMBERS: usize = MAX_NODES * MAX_ARITY;
 
 // Subtree j, from 1 to count, stands at index j - 1; its child k at 8 (j - 1) + k, 0 beyond the arity.
 pub struct Subtrees {
@@ -100,7 +100,7 @@ fn same_node(
 }
 
 // The index of the subtree with this label and these children; found if there is none.
-fn search(
+pub fn search(
     labels: &[u16; MAX_NODES],
     arities: &[u8; MAX_NODES],
     children: &[u8; CHILD_NUMBERS],

@@ -31,7 +31,7 @@ pub struct Ruling {
     pub climbing: bool,
 }
 
-fn greater(x: usize, y: usize) -> usize
+pub fn greater(x: usize, y: usize) -> usize
     ensures { λ r. ⌜ r ≡ max x y ⌝ }
 {
     if x < y {
@@ -70,7 +70,7 @@ fn climbs(transitions: &[u8], i: usize) -> bool
 
 // Whether the states from one up to, not including, another have all been seen. A mark lets the loop skip the whole
 // interval that it says has been seen.
-fn all_seen(seen: &[u8; BYTE_VALUES], from: usize, end: usize) -> bool
+pub fn all_seen(seen: &[u8; BYTE_VALUES], from: usize, end: usize) -> bool
     requires { ⌜ Spans (now seen) ⌝ }
     requires { ⌜ end ≤ byteValues ⌝ }
     ensures { λ r. ⌜ r ≡ every (marked (now (seen .entry))) (upFrom from (end - from)) ⌝ }
@@ -87,7 +87,7 @@ fn all_seen(seen: &[u8; BYTE_VALUES], from: usize, end: usize) -> bool
 }
 
 // Whether a mark says that all states from another one on have been seen.
-fn leads_to(mark: usize, from: usize) -> bool
+pub fn leads_to(mark: usize, from: usize) -> bool
     ensures { λ r. ⌜ (r ≡ true → (1 ≤ mark) × (mark ≤ from)) ⌝ }
 {
     if mark == 0 {

@@ -10,13 +10,13 @@ use Rattle.pairs.proofs.sums.sum_fits.Statement.{statement}
 use Rattle.pairs.proofs.sums.sum_fits.Tie as tie
 
 abbrev Inv-loop : tie.InvT-loop
-Inv-loop transitions count more numbers sum₀ i₀ sum i = SumFrom (entry numbers) transitions count more sum i
+Inv-loop transitions count more limit numbers sum₀ i₀ sum i = SumFrom (entry numbers) transitions count more limit sum i
 
 abbrev μ-loop : tie.MeasureT-loop
-μ-loop transitions count more numbers sum₀ i₀ sum i = count - i
+μ-loop transitions count more limit numbers sum₀ i₀ sum i = count - i
 
 loop-holds : tie.Need-loop-holds Inv-loop μ-loop
-loop-holds c = sum-start (c .before .pre .1)
+loop-holds c = sum-start (c .before .pre .1 .0)
 
 mul-product : tie.Need-mul-product Inv-loop μ-loop
 mul-product c = search needs
@@ -25,10 +25,10 @@ product-requires : tie.Need-product-requires Inv-loop μ-loop
 product-requires c κs = readable (c .before .before .before .pre .0) (c .before .loop .i) (omega arith)
 
 add-sum : tie.Need-add-sum Inv-loop μ-loop
-add-sum c = omega (arith, c .before .before .loop .inv .small, c .product .ensures)
+add-sum c = omega (arith, c .before .before .loop .inv .small, c .product .ensures, c .before .before .before .before .pre .1 .1)
 
 returns : tie.Need-returns Inv-loop μ-loop
-returns c = sum-over (c .before .before .before .loop .inv) (omega arith) (c .before .product .ensures) (omega arith)
+returns c = sum-over (c .before .before .before .before .before .pre .1 .1) (c .before .before .before .loop .inv) (omega arith) (c .before .product .ensures) (omega arith)
 
 add-i : tie.Need-add-i Inv-loop μ-loop
 add-i c = search needs
@@ -38,7 +38,7 @@ loop-less c = omega arith
 
 loop-again : tie.Need-loop-again Inv-loop μ-loop
 loop-again c =
-    sum-next (c .before .before .before .loop .inv) (omega arith) (c .before .product .ensures) refl (omega arith)
+    sum-next (c .before .before .before .before .before .pre .1 .1) (c .before .before .before .loop .inv) (omega arith) (c .before .product .ensures) refl (omega arith)
 
 returns-2 : tie.Need-returns-2 Inv-loop μ-loop
 returns-2 c = sum-end (c .before .loop .inv) (omega arith)

@@ -1,9 +1,9 @@
--- `pairs::product_fits` meets its contract: the sum is the number of transitions of the product.
+-- `pairs::count_pairs` meets its contract: the sum is the number of transitions of the product.
 use native.Mathlib.Omega.{arith}
-use Rattle.pairs.proofs.Fitting.{few-counted, subtrees-counted, sum-counted}
+use Rattle.pairs.proofs.Fitting.{few-counted, pairs-counted, subtrees-counted}
 use borrow.Author.Needs.{needs}
-use Rattle.pairs.proofs.product_fits.Statement.{statement}
-use Rattle.pairs.proofs.product_fits.Tie as tie
+use Rattle.pairs.proofs.count_pairs.Statement.{statement}
+use Rattle.pairs.proofs.count_pairs.Tie as tie
 
 count-states-requires : tie.Need-count-states-requires
 count-states-requires c κs = search needs
@@ -27,10 +27,13 @@ sum-fits-requires c κs =
     let at-counts = c .before .before .before .before .before .before .before in
     let start = at-counts .before .before in (
       start .pre .0,
-      omega (
-        arith,
-        c .before .index .ensures .0,
-        few-counted (at-counts .count-states .ensures) (start .pre .1) 0 (omega arith),
+      (
+        omega (
+          arith,
+          c .before .index .ensures .0,
+          few-counted (at-counts .count-states .ensures) (start .pre .1) 0 (omega arith),
+        ),
+        omega arith,
       ),
     )
 
@@ -42,11 +45,11 @@ returns c =
     let start = at-counts .before .before in
     λ A t S e.
     let C = subtrees-counted (at-counts .count-states .ensures) (start .pre .1) e in
-    sum-counted S C (at-open .open-states .ensures A t S C) (at-weights .weights .ensures) (c .before .before .index
+    pairs-counted S C (at-open .open-states .ensures A t S C) (at-weights .weights .ensures) (c .before .before .index
     .ensures .0) (c .sum-fits .ensures)
 
-pub product-fits-spec : {M : Type 1} → statement M
-product-fits-spec =
+pub count-pairs-spec : {M : Type 1} → statement M
+count-pairs-spec =
     tie.close
     (tie.spec
     count-states-requires
