@@ -1,0 +1,4 @@
+pub mod NodeNames
+pub mod FrameNames
+pub mod Criterion
+pub mod Carried

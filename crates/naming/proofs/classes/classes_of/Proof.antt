@@ -1,0 +1,65 @@
+-- `naming::classes::classes_of` meets its contract: the first classes stand at their indices.
+use Prim.Native.Nat.{_-_, _≤_}
+use native.Mathlib.Omega.{arith}
+use borrow.Author.Needs.{needs}
+use Rattle.naming.specs.Classes.{subtreeClass}
+use Rattle.naming.proofs.Classing.{ClassedTo, classed-changed, classed-next, classed-start}
+use Rattle.naming.proofs.classes.classes_of.Statement.{statement}
+use Rattle.naming.proofs.classes.classes_of.Tie as tie
+
+abbrev Inv-loop : tie.InvT-loop
+Inv-loop table m states root inserting classes₀ j₀ classes j =
+    (j ≤ m) × ClassedTo (subtreeClass table states root inserting) classes j
+
+abbrev μ-loop : tie.MeasureT-loop
+μ-loop table m states root inserting classes₀ j₀ classes j = m - j
+
+loop-holds : tie.Need-loop-holds Inv-loop μ-loop
+loop-holds c = (omega arith, classed-start)
+
+add-class-of : tie.Need-add-class-of Inv-loop μ-loop
+add-class-of c = search needs
+
+class-of-requires : tie.Need-class-of-requires Inv-loop μ-loop
+class-of-requires c κs = search needs
+
+array-write-classes : tie.Need-array-write-classes Inv-loop μ-loop
+array-write-classes c = search needs
+
+add-j : tie.Need-add-j Inv-loop μ-loop
+add-j c = search needs
+
+loop-less : tie.Need-loop-less Inv-loop μ-loop
+loop-less c = omega arith
+
+loop-again : tie.Need-loop-again Inv-loop μ-loop
+loop-again c =
+    let start = c .before .before .before .before in (
+      omega arith,
+      classed-next (c .before .before .loop .inv .1) (omega (
+        arith,
+        start .pre,
+        c .before .loop-test
+            .taken,
+      )) (c .class-of .result) (c .class-of .ensures),
+    )
+
+returns : tie.Need-returns Inv-loop μ-loop
+returns c =
+    λ A t ts S l r c₁ h C R X. classed-changed (c .before .before .before .args .inserting) h C R X (c .before .loop .inv
+    .1) (omega arith)
+
+pub classes-of-spec : {M : Type 1} → statement M
+classes-of-spec =
+    tie.close
+    (tie.spec
+    Inv-loop
+    μ-loop
+    loop-holds
+    add-class-of
+    class-of-requires
+    array-write-classes
+    add-j
+    loop-less
+    loop-again
+    returns)

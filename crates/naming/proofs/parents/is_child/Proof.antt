@@ -1,0 +1,106 @@
+-- `naming::parents::is_child` meets its contract: the answer is that of the places left.
+use mathlib.Core.Path.{_≡_, _∙_, ap, refl, sym}
+use Prim.Native.Nat.{_-_, _≤_}
+use native.Mathlib.Omega.{arith}
+use lib.ListN.{getD}
+use borrow.Author.Needs.{needs}
+use borrow.Author.Tests.{eq-eqb, ne-eqb}
+use Rattle.naming.specs.Parents.{childIs, isChild}
+use Rattle.lists.proofs.Loops.{AnyFrom, any-end, any-found, any-next, any-start}
+use Rattle.naming.proofs.parents.is_child.Statement.{statement}
+use Rattle.naming.proofs.parents.is_child.Tie as tie
+
+abbrev Inv-loop : tie.InvT-loop
+Inv-loop m arities children i j arity k₀ k =
+    (arity ≡ getD arities (i - 1) 0) × AnyFrom (isChild arities children i j) (childIs children i j) (getD arities (i
+    - 1) 0) k
+
+abbrev μ-loop : tie.MeasureT-loop
+μ-loop m arities children i j arity k₀ k = arity - k
+
+sub-wide : tie.Need-sub-wide Inv-loop μ-loop
+sub-wide c = search needs
+
+element-copy-out-wide : tie.Need-element-copy-out-wide Inv-loop μ-loop
+element-copy-out-wide c = search needs
+
+wide-requires : tie.Need-wide-requires Inv-loop μ-loop
+wide-requires c κs = search needs
+
+loop-holds : tie.Need-loop-holds Inv-loop μ-loop
+unfolding isChild
+loop-holds c =
+    let start = c .before .before in
+    (c .wide .ensures, any-start (getD (start .args .arities .now) (start .args .i - 1) 0) (omega arith))
+
+sub-wide-2 : tie.Need-sub-wide-2 Inv-loop μ-loop
+sub-wide-2 c = search needs
+
+mul-wide : tie.Need-mul-wide Inv-loop μ-loop
+mul-wide c = search needs
+
+add-wide : tie.Need-add-wide Inv-loop μ-loop
+add-wide c =
+    let start = c .before .before .before .before in
+    omega (
+      arith,
+      start .pre .0 .few,
+      start .pre .0 .narrow (start .args .i - 1) (omega arith),
+      c .loop-test .taken,
+      c
+          .before .loop .inv .0,
+    )
+
+element-copy-out-wide-2 : tie.Need-element-copy-out-wide-2 Inv-loop μ-loop
+element-copy-out-wide-2 c =
+    let start = c .before .before .before .before in
+    omega (arith, start .pre .0 .few, start .pre .0 .narrow (start .args .i - 1) (omega arith))
+
+wide-requires-2 : tie.Need-wide-requires-2 Inv-loop μ-loop
+wide-requires-2 c κs = search needs
+
+returns : tie.Need-returns Inv-loop μ-loop
+returns c =
+    let now = c .before .before .before .before .loop in
+    any-found (now .inv .1) (omega (arith, now .inv .0, c .before .before .before .loop-test .taken)) (eq-eqb _ _ (sym
+    (c .before .wide2 .ensures) ∙ c .if1 .taken))
+
+add-k : tie.Need-add-k Inv-loop μ-loop
+add-k c = search needs
+
+loop-less : tie.Need-loop-less Inv-loop μ-loop
+loop-less c = omega arith
+
+loop-again : tie.Need-loop-again Inv-loop μ-loop
+loop-again c =
+    let now = c .before .before .before .before .loop in (
+      now .inv .0,
+      any-next (now .inv .1) (omega (arith, now .inv .0, c .before .before .before .loop-test .taken))
+          (ne-eqb _ _ (λ e. (c .if1) .left (c .before .wide2 .ensures ∙ e))),
+    )
+
+returns-2 : tie.Need-returns-2 Inv-loop μ-loop
+returns-2 c =
+    let now = c .before .loop in
+    any-end (now .inv .1) (omega (arith, now .inv .0, c .loop-test .left))
+
+pub is-child-spec : {M : Type 1} → statement M
+is-child-spec =
+    tie.close
+    (tie.spec
+    Inv-loop
+    μ-loop
+    sub-wide
+    element-copy-out-wide
+    wide-requires
+    loop-holds
+    sub-wide-2
+    mul-wide
+    add-wide
+    element-copy-out-wide-2
+    wide-requires-2
+    returns
+    add-k
+    loop-less
+    loop-again
+    returns-2)

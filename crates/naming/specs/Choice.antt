@@ -1,0 +1,94 @@
+-- The name that the search gives a subtree, if N names those above it: a free state that it is like, else the own name
+-- of a subtree above that it is like, else its own.
+use mathlib.Core.Bool.{Bool, false, true}
+use mathlib.Core.List.{List}
+use mathlib.Core.Logic.{_⊎_}
+use mathlib.Core.Path.{_≡_}
+use Prim.Native.Nat.{_+_, _-_, _<_, _≤_, ℕ}
+use lib.ListN.{getD}
+use Rattle.automata.specs.Alike.{likeState, likeSubtree}
+use Rattle.automata.specs.Automaton.{Automaton}
+use Rattle.automata.specs.Change.{subtreeNumber}
+use Rattle.automata.specs.Searched.{Free}
+use Rattle.subtrees.specs.Store.{treeNumbered}
+use Rattle.trees.specs.Tree.{Tree}
+
+-- subtree j can stand for y, which is 0 or an open state
+pub record StateChosen (A : Automaton) (t : Tree) (S : Tree → Bool) (ts : List Tree) (N : Tree → ℕ)
+    (j y : ℕ) : Type 0 where
+  pub free : Free A t y
+  pub like : likeState A t S N (treeNumbered ts j) y ≡ true
+
+-- subtree j can stand for subtree v, which has its own name
+pub record SubtreeChosen (A : Automaton) (t : Tree) (S : Tree → Bool) (ts : List Tree) (n : ℕ) (N : Tree → ℕ)
+    (j v : ℕ) : Type 0 where
+  pub own : N (treeNumbered ts v) ≡ n + v
+  pub like : likeSubtree A t S N (treeNumbered ts j) (treeNumbered ts v) ≡ true
+
+-- y is the name of a subtree above that j can stand for
+pub record SharedChosen (A : Automaton) (t : Tree) (S : Tree → Bool) (ts : List Tree) (n m : ℕ) (N : Tree → ℕ)
+    (j y : ℕ) : Type 0 where
+  pub model : ℕ
+  pub above : j < model
+  pub known : model ≤ m
+  pub same : y ≡ n + model
+  pub chosen : SubtreeChosen A t S ts n N j model
+
+-- no free state below p is like subtree j
+pub record NoState (A : Automaton) (t : Tree) (S : Tree → Bool) (ts : List Tree) (N : Tree → ℕ) (j p : ℕ) : Type 0 where
+  pub each : (q : ℕ) → q < p → Free A t q → likeState A t S N (treeNumbered ts j) q ≡ false
+
+-- no subtree above j and below p that has its own name is like subtree j
+pub record NoSubtree (A : Automaton) (t : Tree) (S : Tree → Bool) (ts : List Tree) (n : ℕ) (N : Tree → ℕ) (j p : ℕ) :
+    Type 0 where
+  pub each : (v : ℕ) → j < v → v < p → N (treeNumbered ts v) ≡ n + v →
+      likeSubtree A t S N (treeNumbered ts j) (treeNumbered ts v) ≡ false
+
+-- y is j's own name, and it can stand for nothing
+pub record OwnChosen (A : Automaton) (t : Tree) (S : Tree → Bool) (ts : List Tree) (n m : ℕ) (N : Tree → ℕ) (j y : ℕ) :
+    Type 0 where
+  pub same : y ≡ n + j
+  pub no-state : NoState A t S ts N j (n + 1)
+  pub no-subtree : NoSubtree A t S ts n N j (m + 1)
+
+abbrev pub Chosen : Automaton → Tree → (Tree → Bool) → List Tree → ℕ → ℕ → (Tree → ℕ) → ℕ → ℕ → Type 0
+Chosen A t S ts n m N j y =
+    StateChosen A t S ts N j y ⊎ (SharedChosen A t S ts n m N j y ⊎ OwnChosen A t S ts n m N j y)
+
+-- a free state is like subtree j, or it is not
+pub record StateTried (A : Automaton) (t : Tree) (S : Tree → Bool) (ts : List Tree) (N : Tree → ℕ) (j q : ℕ)
+    (r : Bool) : Type 0 where
+  pub yes : r ≡ true → StateChosen A t S ts N j q
+  pub no : r ≡ false → Free A t q → likeState A t S N (treeNumbered ts j) q ≡ false
+
+-- a subtree with its own name is like subtree j, or it is not
+pub record SubtreeTried (A : Automaton) (t : Tree) (S : Tree → Bool) (ts : List Tree) (n : ℕ) (N : Tree → ℕ) (j v : ℕ)
+    (r : Bool) : Type 0 where
+  pub yes : r ≡ true → SubtreeChosen A t S ts n N j v
+  pub no : r ≡ false → N (treeNumbered ts v) ≡ n + v →
+      likeSubtree A t S N (treeNumbered ts j) (treeNumbered ts v) ≡ false
+
+-- if the test passes, q is a free state that subtree j is like
+pub record StateTaken (A : Automaton) (t : Tree) (S : Tree → Bool) (ts : List Tree) (N : Tree → ℕ) (j q : ℕ)
+    (r : Bool) : Type 0 where
+  pub yes : r ≡ true → StateChosen A t S ts N j q
+
+-- p is a free state up to n that is like subtree j; above n if there is none
+pub record StateSought (A : Automaton) (t : Tree) (S : Tree → Bool) (ts : List Tree) (n : ℕ) (N : Tree → ℕ) (j p : ℕ) :
+    Type 0 where
+  pub none : n < p → NoState A t S ts N j (n + 1)
+  pub there : p ≤ n → StateChosen A t S ts N j p
+
+-- p is a subtree above j up to m with its own name that is like it; above m if there is none
+pub record SubtreeSought (A : Automaton) (t : Tree) (S : Tree → Bool) (ts : List Tree) (n m : ℕ) (N : Tree → ℕ)
+    (j p : ℕ) : Type 0 where
+  pub none : m < p → NoSubtree A t S ts n N j (m + 1)
+  pub there : p ≤ m → SubtreeChosen A t S ts n N j p
+
+-- the name of a subtree in an array by numbers
+abbrev pub nameIn : List Tree → List ℕ → Tree → ℕ
+nameIn ts names u = getD names (subtreeNumber ts u - 1) 0
+
+-- the first m entries are at most n + m
+pub record Bounded (n m : ℕ) (names : List ℕ) : Type 0 where
+  pub each : (x : ℕ) → 1 ≤ x → x ≤ m → getD names (x - 1) 0 ≤ n + m

@@ -1,0 +1,4 @@
+pub mod Classes
+pub mod Parents
+pub mod Known
+pub mod Choice

@@ -1,0 +1,180 @@
+// Names of the distinct subtrees of a tree after a change of the set by that tree. Two trees have one name exactly if
+// they are equivalent then: 0 for none, q for the other trees of open state q, and n + j for subtree j, counted from 1.
+mod classes; // the class of each subtree after the change
+mod hints; // for each state a transition that uses it
+mod models; // subtrees that a subtree can stand for
+mod parents; // what the names of parents say of a child
+mod states; // states that a subtree can stand for
+
+ghost use mathlib.Core.Bool.{Bool};
+ghost use mathlib.Core.List.{List};
+ghost use mathlib.Core.Path.{_≡_};
+ghost use Prim.Native.Nat.{_+_, _<_, _≤_, ℕ};
+ghost use Rattle.automata.specs.Automaton.{Automaton};
+ghost use Rattle.format.specs.Format.{maxNodes, maxStates};
+ghost use Rattle.trees.specs.Tree.{Tree};
+ghost use Rattle.alike.specs.Known.{NamedAbove};
+ghost use Rattle.naming.specs.Known.{Known, Sized};
+ghost use Rattle.automata.specs.Change.{subtreeNumber};
+ghost use Rattle.automata.specs.Searched.{Searched};
+ghost use Rattle.naming.specs.Choice.{Bounded, Chosen, nameIn};
+ghost use Rattle.naming.specs.Parents.{Marked, Shared};
+ghost use Rattle.pairs.specs.Counts.{Open};
+ghost use lib.ListN.{length};
+pub use classes::classes_of;
+use format::BYTE_VALUES;
+use format::MAX_NODES;
+use format::wide;
+pub use hints::uses_of;
+use models::find_subtree;
+use parents::anchored;
+use states::find_state;
+use subtrees::CHILD_NUMBERS;
+
+// The name of subtree j, from those above it.
+fn name_subtree(
+    table: &[u8],
+    transitions: &[u8],
+    count: usize,
+    n: usize,
+    m: usize,
+    labels: &[u16; MAX_NODES],
+    arities: &[u8; MAX_NODES],
+    children: &[u8; CHILD_NUMBERS],
+    states: &[u8; MAX_NODES],
+    weights: &[u8; BYTE_VALUES],
+    classes: &[u8; MAX_NODES],
+    uses: &[u16; BYTE_VALUES],
+    marks: &[u8; BYTE_VALUES],
+    names: &[u8; MAX_NODES],
+    shared: &[u8; MAX_NODES],
+    j: usize,
+) -> u8
+    requires { ⌜ Sized (now table) (now transitions) count n m (now arities) (now children) ⌝ }
+    requires { ⌜ Shared n m j (now names) (now shared) ⌝ }
+    requires { ⌜ 1 ≤ j ⌝ }
+    requires { ⌜ j ≤ m ⌝ }
+    ensures { λ r. ⌜ r ≤ n + m ⌝ }
+    ensures { λ r. ⌜ ((A : Automaton) (t : Tree) (ts : List Tree) (S : (Tree → Bool)) (N : (Tree → ℕ)) →
+        Known A t ts S (now (table .entry)) (now (transitions .entry)) count n m
+        (now (labels .entry)) (now (arities .entry)) (now (children .entry)) (now (states .entry))
+        (now (weights .entry)) (now (classes .entry)) → Open A t (now (marks .entry)) →
+        NamedAbove A t ts m j (now (names .entry)) N → Chosen A t S ts n m N j r) ⌝ }
+{
+    if anchored(n, m, arities, children, names, shared, j) {
+        return (n + j) as u8;
+    }
+    let q = find_state(
+        table,
+        transitions,
+        count,
+        n,
+        m,
+        labels,
+        arities,
+        children,
+        states,
+        weights,
+        classes,
+        uses,
+        marks,
+        names,
+        j,
+    );
+    if q <= n {
+        return q as u8;
+    }
+    let v = find_subtree(
+        table,
+        transitions,
+        count,
+        n,
+        m,
+        labels,
+        arities,
+        children,
+        states,
+        weights,
+        classes,
+        uses,
+        names,
+        j,
+    );
+    if v <= m {
+        return (n + v) as u8;
+    }
+    (n + j) as u8
+}
+
+// Marks the subtree whose own name subtree j has, if that is another.
+fn mark_shared(n: usize, m: usize, shared: &mut [u8; MAX_NODES], j: usize, name: u8)
+    requires { ⌜ n ≤ maxStates ⌝ }
+    requires { ⌜ m ≤ maxNodes ⌝ }
+    requires { ⌜ j ≤ m ⌝ }
+    requires { ⌜ name ≤ n + m ⌝ }
+    requires { ⌜ length (now shared) ≡ maxNodes ⌝ }
+    ensures { λ _. ⌜ length (now (shared .exit)) ≡ maxNodes ⌝ }
+    ensures { λ _. ⌜ Marked n j name (now (shared .entry)) (now (shared .exit)) ⌝ }
+{
+    let own = wide(name);
+    if own <= n {
+        return;
+    }
+    if own == n + j {
+        return;
+    }
+    shared[own - n - 1] = 1;
+}
+
+// The names of the m subtrees, given from the last to the first.
+pub fn name_all(
+    table: &[u8],
+    transitions: &[u8],
+    count: usize,
+    n: usize,
+    m: usize,
+    labels: &[u16; MAX_NODES],
+    arities: &[u8; MAX_NODES],
+    children: &[u8; CHILD_NUMBERS],
+    states: &[u8; MAX_NODES],
+    weights: &[u8; BYTE_VALUES],
+    classes: &[u8; MAX_NODES],
+    uses: &[u16; BYTE_VALUES],
+    marks: &[u8; BYTE_VALUES],
+) -> [u8; MAX_NODES]
+    requires { ⌜ Sized (now table) (now transitions) count n m (now arities) (now children) ⌝ }
+    ensures { λ r. ⌜ Bounded n m r ⌝ }
+    ensures { λ r. ⌜ ((A : Automaton) (t : Tree) (ts : List Tree) (S : (Tree → Bool)) →
+        Known A t ts S (now (table .entry)) (now (transitions .entry)) count n m
+        (now (labels .entry)) (now (arities .entry)) (now (children .entry)) (now (states .entry))
+        (now (weights .entry)) (now (classes .entry)) → Open A t (now (marks .entry)) →
+        Searched A t S (subtreeNumber ts) (nameIn ts r)) ⌝ }
+{
+    let mut names = [0u8; MAX_NODES];
+    let mut shared = [0u8; MAX_NODES];
+    let mut j = m;
+    while j > 0 {
+        let name = name_subtree(
+            table,
+            transitions,
+            count,
+            n,
+            m,
+            labels,
+            arities,
+            children,
+            states,
+            weights,
+            classes,
+            uses,
+            marks,
+            &names,
+            &shared,
+            j,
+        );
+        mark_shared(n, m, &mut shared, j, name);
+        names[j - 1] = name;
+        j -= 1;
+    }
+    names
+}

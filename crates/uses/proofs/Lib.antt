@@ -1,0 +1,10 @@
+pub mod Comparing
+pub mod Counting
+pub mod Factors
+pub mod Nodes
+pub mod Scanned
+pub mod Weighing
+pub mod Placing
+pub mod Coverage
+pub mod Exact
+pub mod Both

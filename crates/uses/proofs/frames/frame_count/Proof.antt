@@ -1,0 +1,55 @@
+-- The nodes counted so far and those left are all.
+use Prim.Native.Nat.{_-_}
+use native.Mathlib.Omega.{arith}
+use Rattle.uses.specs.Frames.{frameCount, framed}
+use Rattle.uses.proofs.Counting.{CountFrom, count-end, count-next, count-small, count-start}
+use borrow.Author.Needs.{needs}
+use Rattle.uses.proofs.frames.frame_count.Statement.{statement}
+use Rattle.uses.proofs.frames.frame_count.Tie as tie
+
+abbrev Inv-loop : tie.InvT-loop
+Inv-loop transitions at k labels arities children states m j v found₀ i₀ found i =
+    CountFrom (frameCount transitions at k labels arities children states m j v) (framed transitions at k labels arities children states m j v) m found i
+
+abbrev μ-loop : tie.MeasureT-loop
+μ-loop transitions at k labels arities children states m j v found₀ i₀ found i = m - i
+
+loop-holds : tie.Need-loop-holds Inv-loop μ-loop
+loop-holds c = count-start
+
+framed-at-requires : tie.Need-framed-at-requires Inv-loop μ-loop
+framed-at-requires c κs =
+    let start = c .before .before .before in
+    (start .pre .0, (start .pre .1 .0, (start .pre .1 .1, c .loop-test .taken)))
+
+add-found : tie.Need-add-found Inv-loop μ-loop
+add-found c =
+    let h = count-small (c .before .before .loop .inv) (c .framed-at .ensures) in omega (arith, h, c .before .before .before .before .pre .1 .0 .few, c .before .loop-test .taken)
+
+add-i : tie.Need-add-i Inv-loop μ-loop
+add-i c = search needs
+
+loop-less : tie.Need-loop-less Inv-loop μ-loop
+loop-less c = search needs
+
+loop-again : tie.Need-loop-again Inv-loop μ-loop
+loop-again c = count-next (c .before .before .loop .inv) (c .before .loop-test .taken) (c .framed-at .ensures)
+
+returns : tie.Need-returns Inv-loop μ-loop
+returns c =
+    let now = c .before in
+    (count-end (now .loop .inv) (c .loop-test .left), omega (arith, now .loop .inv .small, now .loop .inv .within, c .before .before .before .pre .1 .0 .few))
+
+pub frame-count-spec : {M : Type 1} → statement M
+frame-count-spec =
+    tie.close
+    (tie.spec
+    Inv-loop
+    μ-loop
+    loop-holds
+    framed-at-requires
+    add-found
+    add-i
+    loop-less
+    loop-again
+    returns)

@@ -1,0 +1,57 @@
+-- The loop at x answers for the children from x on.
+use Prim.Native.Nat.{_-_}
+use native.Mathlib.Nat.{zero-add}
+use native.Mathlib.Omega.{arith}
+use Rattle.lists.proofs.Loops.{EveryFrom, every-broken, every-end, every-next, every-start}
+use Rattle.lists.specs.Positions.{upFrom}
+use Rattle.lists.specs.Tests.{every}
+use Rattle.uses.specs.Frames.{sameChild}
+use mathlib.Core.Path.{_∙_, sym}
+use borrow.Author.Needs.{needs}
+use borrow.Author.Tests.{not-false, not-true}
+use Rattle.uses.proofs.frames.same_children.Statement.{statement}
+use Rattle.uses.proofs.frames.same_children.Tie as tie
+
+abbrev Inv-loop : tie.InvT-loop
+Inv-loop children k i h arity x₀ x =
+    EveryFrom (every (sameChild children k i h) (upFrom 0 arity)) (sameChild children k i h) arity x
+
+abbrev μ-loop : tie.MeasureT-loop
+μ-loop children k i h arity x₀ x = arity - x
+
+loop-holds : tie.Need-loop-holds Inv-loop μ-loop
+loop-holds c = every-start (c .args .arity) (zero-add (c .args .arity))
+
+same-child-requires : tie.Need-same-child-requires Inv-loop μ-loop
+same-child-requires c κs = search needs
+
+returns : tie.Need-returns Inv-loop μ-loop
+returns c =
+    every-broken (c .before .before .before .loop .inv) (omega arith) (sym (c .before .same-child .ensures) ∙ not-true _ (c .if1 .taken))
+
+add-x : tie.Need-add-x Inv-loop μ-loop
+add-x c = search needs
+
+loop-less : tie.Need-loop-less Inv-loop μ-loop
+loop-less c = search needs
+
+loop-again : tie.Need-loop-again Inv-loop μ-loop
+loop-again c =
+    every-next (c .before .before .before .loop .inv) (omega arith) (sym (c .before .same-child .ensures) ∙ not-false _ (c .if1 .left))
+
+returns-2 : tie.Need-returns-2 Inv-loop μ-loop
+returns-2 c = every-end (c .before .loop .inv) (omega arith)
+
+pub same-children-spec : {M : Type 1} → statement M
+same-children-spec =
+    tie.close
+    (tie.spec
+    Inv-loop
+    μ-loop
+    loop-holds
+    same-child-requires
+    returns
+    add-x
+    loop-less
+    loop-again
+    returns-2)

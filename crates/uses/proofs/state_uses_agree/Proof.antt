@@ -1,0 +1,30 @@
+-- The frames of one subtree, and its state from the arrays.
+use mathlib.Core.Path.{_∙_, ap}
+use Prim.Native.Nat.{ℕ}
+use Rattle.automata.specs.Alike.{framesOf, usesAgree}
+use Rattle.subtrees.specs.Store.{treeNumbered}
+use Rattle.uses.proofs.Both.{first-only, state-read}
+use borrow.Author.Needs.{needs}
+use Rattle.uses.proofs.state_uses_agree.Statement.{statement}
+use Rattle.uses.proofs.state_uses_agree.Tie as tie
+
+wide-requires : tie.Need-wide-requires
+wide-requires c κs = search needs
+
+sub-p : tie.Need-sub-p
+sub-p c = search needs
+
+element-copy-out-p : tie.Need-element-copy-out-p
+element-copy-out-p c = search needs
+
+uses-agree-requires : tie.Need-uses-agree-requires
+uses-agree-requires c κs = search needs
+
+returns : tie.Need-returns
+returns c =
+    let start = c .before .before .before .before in
+    λ A t ts holds. (c .uses-agree) .ensures A t ts (framesOf t (treeNumbered ts (start .args .j))) holds (first-only t ts (start .args .m) (start .args .j) (start .pre .1 .1 .1 .0) (start .pre .1 .1 .1 .1)) ∙ ap (λ (x : ℕ). usesAgree A t (framesOf t (treeNumbered ts (start .args .j))) x (start .args .q)) (state-read holds (start .args .j) (start .pre .1 .1 .1 .0) (start .pre .1 .1 .1 .1) (c .before .before .wide .ensures))
+
+pub state-uses-agree-spec : {M : Type 1} → statement M
+state-uses-agree-spec =
+    tie.close (tie.spec wide-requires sub-p element-copy-out-p uses-agree-requires returns)

@@ -1,0 +1,48 @@
+-- The frames of two subtrees, and their states from the arrays.
+use mathlib.Core.List.{_++_}
+use mathlib.Core.Path.{_∙_, ap₂}
+use Rattle.automata.specs.Alike.{framesOf, usesAgree}
+use Rattle.subtrees.specs.Store.{treeNumbered}
+use Rattle.uses.proofs.Both.{both-subtrees, state-read}
+use borrow.Author.Needs.{needs}
+use Rattle.uses.proofs.subtree_uses_agree.Statement.{statement}
+use Rattle.uses.proofs.subtree_uses_agree.Tie as tie
+
+wide-requires : tie.Need-wide-requires
+wide-requires c κs = search needs
+
+sub-p : tie.Need-sub-p
+sub-p c = search needs
+
+element-copy-out-p : tie.Need-element-copy-out-p
+element-copy-out-p c = search needs
+
+wide-requires-2 : tie.Need-wide-requires-2
+wide-requires-2 c κs = search needs
+
+sub-q : tie.Need-sub-q
+sub-q c = search needs
+
+element-copy-out-q : tie.Need-element-copy-out-q
+element-copy-out-q c = search needs
+
+uses-agree-requires : tie.Need-uses-agree-requires
+uses-agree-requires c κs = search needs
+
+returns : tie.Need-returns
+returns c =
+    let start = c .before .before .before .before .before .before in
+    λ A t ts holds. (c .uses-agree) .ensures A t ts (framesOf t (treeNumbered ts (start .args .j)) ++ framesOf t (treeNumbered ts (start .args .v))) holds (both-subtrees t ts (start .args .m) (start .args .j) (start .args .v) (start .pre .1 .1 .1 .0) (start .pre .1 .1 .1 .1 .0) (start .pre .1 .1 .1 .1 .1 .0) (start .pre .1 .1 .1 .1 .1 .1 .0) (start .pre .1 .1 .1 .1 .1 .1 .1)) ∙ ap₂ (usesAgree A t (framesOf t (treeNumbered ts (start .args .j)) ++ framesOf t (treeNumbered ts (start .args .v)))) (state-read holds (start .args .j) (start .pre .1 .1 .1 .0) (start .pre .1 .1 .1 .1 .0) (c .before .before .before .before .wide .ensures)) (state-read holds (start .args .v) (start .pre .1 .1 .1 .1 .1 .0) (start .pre .1 .1 .1 .1 .1 .1 .0) (c .before .before .wide2 .ensures))
+
+pub subtree-uses-agree-spec : {M : Type 1} → statement M
+subtree-uses-agree-spec =
+    tie.close
+    (tie.spec
+    wide-requires
+    sub-p
+    element-copy-out-p
+    wide-requires-2
+    sub-q
+    element-copy-out-q
+    uses-agree-requires
+    returns)

@@ -1,0 +1,110 @@
+-- The uses of two states in the transitions, and which of them the frames of two subtrees cover.
+use mathlib.Core.Bool.{Bool, _||_, cond, false, true}
+use mathlib.Core.List.{List}
+use mathlib.Core.Logic.{_⊎_}
+use mathlib.Core.Path.{_≡_}
+use Prim.Native.Nat.{_*_, _+_, _≤_, ℕ}
+use lib.Dec.{eqb}
+use lib.ListN.{getD}
+use Rattle.automata.specs.Alike.{framesOf}
+use Rattle.automata.specs.Automaton.{Automaton}
+use Rattle.automata.specs.Change.{subtrees}
+use Rattle.automata.specs.OpenStates.{pairsOf}
+use Rattle.automata.specs.Totals.{productOver}
+use Rattle.distinguish.specs.Separating.{stepAt}
+use Rattle.format.specs.Format.{maxNodes, transitionBytes}
+use Rattle.lists.specs.Positions.{upFrom}
+use Rattle.lists.specs.Tests.{_∈_, every}
+use Rattle.subtrees.specs.Store.{Stored, treeNumbered}
+use Rattle.table.specs.Layout.{argOf, arityOf, outOf, transitionsIn}
+use Rattle.trees.specs.Context.{Frame}
+use Rattle.trees.specs.Tree.{Tree}
+use Rattle.uses.specs.Frames.{frameCount}
+
+-- the arrays of m subtrees, the number of pairs of each state, and the two subtrees, the second 0 for none
+pub record Arrays : Type 0 where
+  pub labels : List ℕ
+  pub arities : List ℕ
+  pub children : List ℕ
+  pub states : List ℕ
+  pub weights : List ℕ
+  pub size : ℕ
+  pub first : ℕ
+  pub second : ℕ
+
+abbrev pub arrays : List ℕ → List ℕ → List ℕ → List ℕ → List ℕ → ℕ → ℕ → ℕ → Arrays
+arrays l r c q w m j v = record {
+  labels = l;
+  arities = r;
+  children = c;
+  states = q;
+  weights = w;
+  size = m;
+  first = j;
+  second = v;
+}
+
+-- ---- covered slots
+
+-- a product counts up to one more than there are frames
+abbrev pub productCap : ℕ
+productCap = maxNodes + 1
+
+-- the number of pairs of argument x; 1 for argument k, which is left out
+unfoldable pub factorAt : List ℕ → List ℕ → ℕ → ℕ → ℕ → ℕ
+factorAt w s at k x = cond (eqb x k) 1 (getD w (argOf s at x) 0)
+
+abbrev pub productAt : List ℕ → List ℕ → ℕ → ℕ → ℕ
+productAt w s at k = productOver (factorAt w s at k) (upFrom 0 (arityOf s at))
+
+-- the frames at the slot of argument k are as many as the choices of pairs for the other arguments
+unfoldable pub coveredAt : Arrays → List ℕ → ℕ → ℕ → Bool
+coveredAt a s at k =
+    eqb (productAt (a .weights) s at k)
+    (frameCount s at k (a .labels) (a .arities) (a .children) (a .states) (a .size) (a .first) (a .second))
+
+-- ---- uses
+
+-- with q for argument k the transition gives what it gave, or the slot is covered
+unfoldable pub swapAgrees : Arrays → List ℕ → ℕ → ℕ → ℕ → ℕ → Bool
+swapAgrees a s c at k q = eqb (stepAt s c at k q) (outOf s at) || coveredAt a s at k
+
+-- if argument k is one of two states, the other one agrees
+abbrev pub placeAgrees : Arrays → List ℕ → ℕ → ℕ → ℕ → ℕ → ℕ → Bool
+placeAgrees a s c at p q k =
+    cond (eqb (argOf s at k) p) (swapAgrees a s c at k q)
+    (cond (eqb (argOf s at k) q) (swapAgrees a s c at k p) true)
+
+-- for each argument of a transition, for each transition
+unfoldable pub transitionAgrees : Arrays → List ℕ → ℕ → ℕ → ℕ → ℕ → Bool
+transitionAgrees a s c p q i =
+    every (placeAgrees a s c (transitionBytes * i) p q) (upFrom 0 (arityOf s (transitionBytes * i)))
+
+abbrev pub transitionsAgree : Arrays → List ℕ → ℕ → ℕ → ℕ → Bool
+transitionsAgree a s c p q = every (transitionAgrees a s c p q) (upFrom 0 c)
+
+-- a look at one transition: a refusal is right
+pub record Hinted (a : Arrays) (s : List ℕ) (c p q : ℕ) (b : Bool) : Type 0 where
+  pub refused : b ≡ false → transitionsAgree a s c p q ≡ false
+
+-- ---- what the arrays hold
+
+-- the run has the transitions of A, over n states, and the arrays hold the subtrees of t and the numbers of pairs
+pub record Holds (A : Automaton) (t : Tree) (ts : List Tree) (s : List ℕ) (c n : ℕ) (l r h q w : List ℕ) (m : ℕ) : Type 0
+  where
+    pub transitions : A .transitions ≡ transitionsIn s c
+    pub stored : Stored A ts m l r h q
+    pub subtree : (x : Tree) → x ∈ ts → x ∈ subtrees t
+    pub every-subtree : (x : Tree) → x ∈ subtrees t → x ∈ ts
+    pub weights : (x : ℕ) → 1 ≤ x → x ≤ n → getD w x 0 ≡ pairsOf A t x
+
+-- F has the frames of subtree j, and those of v unless it is 0
+pub record FramesOf (t : Tree) (ts : List Tree) (m j v : ℕ) (F : List Frame) : Type 0 where
+  pub some : 1 ≤ j
+  pub known : j ≤ m
+  pub other : v ≤ m
+  pub apart : j ≡ v → ⊥
+  pub frame : (f : Frame) → f ∈ F →
+      (f ∈ framesOf t (treeNumbered ts j)) ⊎ ((1 ≤ v) × (f ∈ framesOf t (treeNumbered ts v)))
+  pub of-first : (f : Frame) → f ∈ framesOf t (treeNumbered ts j) → f ∈ F
+  pub of-second : (f : Frame) → 1 ≤ v → f ∈ framesOf t (treeNumbered ts v) → f ∈ F

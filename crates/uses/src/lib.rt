@@ -1,0 +1,204 @@
+// Whether two states are used alike: from every slot of a transition that the frames of given subtrees do not cover
+// they go to the same state. `transitions` has transition i at byte 11 i, sorted; the arrays of the m subtrees are
+// those of crate subtrees, and `weights` has the number of pairs of each state.
+mod frames; // frames over a slot, counted
+mod covering; // covered slots
+mod scanning; // each use of a state
+
+ghost use mathlib.Core.List.{List, _++_};
+ghost use mathlib.Core.Path.{_≡_};
+ghost use Prim.Native.Nat.{_*_, _≤_};
+ghost use Rattle.automata.specs.Alike.{framesOf, usesAgree};
+ghost use Rattle.automata.specs.Automaton.{Automaton, run};
+ghost use Rattle.fields.specs.Fields.{HoldsTransitionsOver};
+ghost use Rattle.sorted.specs.Sorted.{Sorted};
+ghost use Rattle.subtrees.specs.Store.{treeNumbered};
+ghost use Rattle.trees.specs.Context.{Frame};
+ghost use Rattle.trees.specs.Tree.{Tree};
+ghost use Rattle.uses.specs.Frames.{Nodes};
+ghost use Rattle.uses.specs.Uses.{FramesOf, Holds};
+use format::BYTE_VALUES;
+use format::MAX_ARITY;
+use format::MAX_NODES;
+use format::wide;
+use scanning::hint_agrees;
+use scanning::transitions_agree;
+
+const CHILD_NUMBERS: usize = MAX_NODES * MAX_ARITY;
+
+// Whether states p and q, or 0, are used alike but for the frames of subtrees j and v; v is 0 for none. One use of
+// each is looked at first, from `uses`.
+fn uses_agree(
+    transitions: &[u8],
+    count: usize,
+    n: usize,
+    labels: &[u16; MAX_NODES],
+    arities: &[u8; MAX_NODES],
+    children: &[u8; CHILD_NUMBERS],
+    states: &[u8; MAX_NODES],
+    weights: &[u8; BYTE_VALUES],
+    uses: &[u16; BYTE_VALUES],
+    m: usize,
+    j: u8,
+    v: u8,
+    p: u8,
+    q: u8,
+) -> bool
+    requires { ⌜ Sorted (now transitions) count ⌝ }
+    requires { ⌜ HoldsTransitionsOver (now transitions) count n ⌝ }
+    requires { ⌜ Nodes m (now arities) (now children) ⌝ }
+    ensures { λ r. ⌜ ((A : Automaton) (t : Tree) (ts : List Tree) (F : List Frame) →
+        Holds A t ts (now (transitions .entry)) count n (now (labels .entry)) (now (arities .entry)) (now
+        (children .entry)) (now (states .entry)) (now (weights .entry)) m → FramesOf t ts m j v F →
+        r ≡ usesAgree A t F p q) ⌝ }
+{
+    if p == q {
+        return true;
+    }
+    if !hint_agrees(
+        transitions,
+        count,
+        n,
+        labels,
+        arities,
+        children,
+        states,
+        weights,
+        uses,
+        m,
+        j,
+        v,
+        p,
+        q,
+        q,
+    ) {
+        return false;
+    }
+    if !hint_agrees(
+        transitions,
+        count,
+        n,
+        labels,
+        arities,
+        children,
+        states,
+        weights,
+        uses,
+        m,
+        j,
+        v,
+        p,
+        q,
+        p,
+    ) {
+        return false;
+    }
+    transitions_agree(
+        transitions,
+        count,
+        n,
+        labels,
+        arities,
+        children,
+        states,
+        weights,
+        m,
+        j,
+        v,
+        p,
+        q,
+    )
+}
+
+// Whether the state of subtree j and state q, or 0, are used alike but for the frames of j.
+pub fn state_uses_agree(
+    transitions: &[u8],
+    count: usize,
+    n: usize,
+    labels: &[u16; MAX_NODES],
+    arities: &[u8; MAX_NODES],
+    children: &[u8; CHILD_NUMBERS],
+    states: &[u8; MAX_NODES],
+    weights: &[u8; BYTE_VALUES],
+    uses: &[u16; BYTE_VALUES],
+    m: usize,
+    j: u8,
+    q: u8,
+) -> bool
+    requires { ⌜ Sorted (now transitions) count ⌝ }
+    requires { ⌜ HoldsTransitionsOver (now transitions) count n ⌝ }
+    requires { ⌜ Nodes m (now arities) (now children) ⌝ }
+    requires { ⌜ 1 ≤ j ⌝ }
+    requires { ⌜ j ≤ m ⌝ }
+    ensures { λ r. ⌜ ((A : Automaton) (t : Tree) (ts : List Tree) →
+        Holds A t ts (now (transitions .entry)) count n (now (labels .entry)) (now (arities .entry)) (now
+        (children .entry)) (now (states .entry)) (now (weights .entry)) m →
+        r ≡ usesAgree A t (framesOf t (treeNumbered ts j)) (run A (treeNumbered ts j)) q) ⌝ }
+{
+    let p = states[wide(j) - 1];
+    uses_agree(
+        transitions,
+        count,
+        n,
+        labels,
+        arities,
+        children,
+        states,
+        weights,
+        uses,
+        m,
+        j,
+        0,
+        p,
+        q,
+    )
+}
+
+// Whether the states of subtrees j and v are used alike but for the frames of both.
+pub fn subtree_uses_agree(
+    transitions: &[u8],
+    count: usize,
+    n: usize,
+    labels: &[u16; MAX_NODES],
+    arities: &[u8; MAX_NODES],
+    children: &[u8; CHILD_NUMBERS],
+    states: &[u8; MAX_NODES],
+    weights: &[u8; BYTE_VALUES],
+    uses: &[u16; BYTE_VALUES],
+    m: usize,
+    j: u8,
+    v: u8,
+) -> bool
+    requires { ⌜ Sorted (now transitions) count ⌝ }
+    requires { ⌜ HoldsTransitionsOver (now transitions) count n ⌝ }
+    requires { ⌜ Nodes m (now arities) (now children) ⌝ }
+    requires { ⌜ 1 ≤ j ⌝ }
+    requires { ⌜ j ≤ m ⌝ }
+    requires { ⌜ 1 ≤ v ⌝ }
+    requires { ⌜ v ≤ m ⌝ }
+    requires { ⌜ (j ≡ v → ⊥) ⌝ }
+    ensures { λ r. ⌜ ((A : Automaton) (t : Tree) (ts : List Tree) →
+        Holds A t ts (now (transitions .entry)) count n (now (labels .entry)) (now (arities .entry)) (now
+        (children .entry)) (now (states .entry)) (now (weights .entry)) m →
+        r ≡ usesAgree A t (framesOf t (treeNumbered ts j) ++ framesOf t (treeNumbered ts v))
+        (run A (treeNumbered ts j)) (run A (treeNumbered ts v))) ⌝ }
+{
+    let p = states[wide(j) - 1];
+    let q = states[wide(v) - 1];
+    uses_agree(
+        transitions,
+        count,
+        n,
+        labels,
+        arities,
+        children,
+        states,
+        weights,
+        uses,
+        m,
+        j,
+        v,
+        p,
+        q,
+    )
+}
