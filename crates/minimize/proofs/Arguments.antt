@@ -15,7 +15,7 @@ use Rattle.format.specs.Format.{maxArity}
 use Rattle.lists.specs.Positions.{upFrom}
 use Rattle.lists.specs.Tests.{every}
 use Rattle.marking.specs.Marks.{marked}
-use Rattle.minimize.specs.Merged.{nameIn}
+use Rattle.minimize.specs.Renaming.{nameIn}
 use Rattle.table.specs.Layout.{argOf, arityOf, labelOf, transitionAt}
 use Rattle.fields.proofs.Searching.{LexFrom, lex-agrees, lex-differs, lex-start}
 use Rattle.fields.proofs.Transitions.{args-every, args-length}

@@ -13,7 +13,7 @@ use Rattle.automata.specs.Automaton.{Transition}
 use Rattle.automata.specs.Renumber.{renumberBy}
 use Rattle.fields.specs.Entries.{HasFields, noArg, putAt}
 use Rattle.format.specs.Format.{argsAt, labelBytes, labelFrom, labelWritten, maxArity, outAt, transitionBytes}
-use Rattle.minimize.specs.Merged.{entryOf, nameIn}
+use Rattle.minimize.specs.Renaming.{entryOf, nameIn}
 use Rattle.table.specs.Layout.{argOf, arityOf, labelOf, outOf, transitionAt, transitionByte}
 use Rattle.fields.proofs.Entries.{put-other, put-same}
 use Rattle.fields.proofs.Transitions.{arg-at, args-length}

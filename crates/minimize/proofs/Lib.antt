@@ -1,11 +1,8 @@
 pub mod Names
 pub mod Entries
-pub mod Groups
 pub mod Arguments
 pub mod Ready
-pub mod Merging
 pub mod Ordering
 pub mod Renumbering
 pub mod Tables
-pub mod Quotient
-pub mod MinimalWritten
+pub mod Whole

@@ -19,7 +19,7 @@ use Rattle.format.specs.Format.{transitionBytes}
 use Rattle.lists.specs.Closure.{elem}
 use Rattle.lists.specs.Positions.{shift, upFrom}
 use Rattle.lists.specs.Tests.{Distinct, _∈_, every}
-use Rattle.minimize.specs.Merged.{nameIn}
+use Rattle.minimize.specs.Renaming.{nameIn}
 use Rattle.minimize.specs.Numbering.{NumberingHeld, NumbersOf, Outputs, Unnumbered, picked}
 use Rattle.table.specs.Layout.{nthTransition, outOf, transitionsIn}
 use Rattle.automata.proofs.Numbering.{Best, BestView, best-view}
@@ -39,7 +39,7 @@ number-other : (o : List ℕ) (q x : ℕ) → (x ≡ q → ⊥) → numberOf (o 
 number-other [] q x h = rw (ne-eqb x q h)
 number-other (y ∷ o) q x h = rw (number-other o q x h)
 
-numbers-next : {numbers o : List ℕ} → NumbersOf numbers o → length numbers ≡ 256 → {q : ℕ} → q < 256 →
+pub numbers-next : {numbers o : List ℕ} → NumbersOf numbers o → length numbers ≡ 256 → {q : ℕ} → q < 256 →
     elem eqb q o ≡ false → {n : ℕ} → n ≡ suc (length o) → NumbersOf (set numbers q n) (o ++ (q ∷ []))
 numbers-next {numbers} {o} of size {q} h new {n} e = record { number = λ x. go x (eqb x q) refl }
   where

@@ -3,30 +3,24 @@
 use mathlib.Core.Bool.{Bool, _&&_, _||_, and-false, and-true, cond, false, not, true, true≢false}
 use mathlib.Core.List.{List, [], _∷_}
 use mathlib.Core.Option.{Option, none, some}
-use mathlib.Core.Path.{_∙_, _≡_, ap, fun-ext, refl, subst, sym}
-use Prim.Native.Nat.{_*_, _+_, _-_, _<_, _≤_, suc, zero, ℕ}
+use mathlib.Core.Path.{_∙_, _≡_, ap, fun-ext, refl, sym}
+use Prim.Native.Nat.{_+_, _-_, _<_, _≤_, suc, zero, ℕ}
 use native.Mathlib.Nat.{sub-zero}
-use native.Mathlib.Numerals.{add-one}
 use native.Mathlib.Omega.{arith}
 use lib.Dec.{eqb, ltb}
-use lib.ListN.{length, set}
-use lib.Seq.{getD-set-other, getD-set-same}
-use borrow.Author.Tests.{eqb-false, eqb-true, le-ltb, lt-ltb, ltb-false, ltb-true}
+use borrow.Author.Tests.{le-ltb, lt-ltb}
 use Rattle.automata.specs.Automaton.{Transition}
 use Rattle.automata.specs.Order.{key, precedes}
 use Rattle.automata.specs.Renumber.{best, choose, numberOf, ready, renumber, renumberBy}
-use Rattle.format.specs.Format.{transitionBytes}
 use Rattle.lists.specs.Closure.{elem}
 use Rattle.lists.specs.Positions.{shift}
 use Rattle.lists.specs.Tests.{every}
 use Rattle.marking.specs.Marks.{marked, nonzero}
-use Rattle.minimize.specs.Merged.{nameIn}
-use Rattle.minimize.specs.Numbering.{NumbersOf, Settled, improves, picked, readyBy}
-use Rattle.table.specs.Layout.{nthTransition, outOf, transitionsIn}
-use Rattle.automata.proofs.Numbering.{BestView, best-view}
-use Rattle.automata.proofs.Order.{lex-asym, lex-below, precedes-trans}
+use Rattle.minimize.specs.Renaming.{nameIn}
+use Rattle.minimize.specs.Numbering.{NumbersOf, improves, picked, readyBy}
+use Rattle.table.specs.Layout.{nthTransition, transitionsIn}
+use Rattle.automata.proofs.Order.{lex-below, precedes-trans}
 use Rattle.fields.proofs.Transitions.{transitionsFrom}
-use Rattle.lists.proofs.Intervals.{tabulated-in}
 use Rattle.lists.proofs.Loops.{upFrom-next, upFrom-none}
 
 nonzero-shift : (n : ℕ) → nonzero (shift n) ≡ nonzero n
@@ -61,33 +55,6 @@ module _ (numbers : List ℕ) (τ : Transition) where
 
   pub unnumbered-ready : marked numbers (τ .out) ≡ false → every (marked numbers) (τ .args) ≡ readyBy numbers τ
   unnumbered-ready e = sym (rw e (and-true (every (marked numbers) (τ .args))))
-
--- ---- transitions whose outputs have numbers
-
-module _ {s numbers : List ℕ} where
-  pub settled-none : Settled s 0 numbers
-  settled-none = record { numbered = λ i h. absurd (omega arith) }
-
-  module _ {n : ℕ} (settled : Settled s n numbers) where
-    pub settled-next : marked numbers (outOf s (transitionBytes * n)) ≡ true → Settled s (n + 1) numbers
-    settled-next e = record { numbered = λ i h. go i h (ltb i n) refl }
-      where
-        go : (i : ℕ) → i < n + 1 → (b : Bool) → ltb i n ≡ b → marked numbers (outOf s (transitionBytes * i)) ≡ true
-        go i h true t = settled .numbered i (ltb-true i n t)
-        go i h false t = let z : i ≡ n = omega (arith, ltb-false i n t) in rw z e
-
-    -- a number more leaves them so
-    pub settled-more : (q k : ℕ) → q < length numbers → Settled s n (set numbers q (k + 1))
-    settled-more q k h = record {
-      numbered = λ i l. go (outOf s (transitionBytes * i)) (settled .numbered i l)
-          (eqb (outOf s (transitionBytes * i)) q) refl;
-    }
-      where
-        go : (x : ℕ) → marked numbers x ≡ true → (b : Bool) → eqb x q ≡ b → marked (set numbers q (k + 1)) x ≡ true
-        go x e true t =
-            ap (marked (set numbers q (k + 1))) (eqb-true x q t) ∙ ap nonzero
-            (getD-set-same numbers q (k + 1) 0 h ∙ add-one k)
-        go x e false t = ap nonzero (getD-set-other numbers q x (k + 1) 0 (eqb-false x q t)) ∙ e
 
 -- ---- one transition against the best so far
 
@@ -185,36 +152,6 @@ module _ {o s : List ℕ} {n : ℕ} where
         go false d e = absurd (true≢false e)
         go true false e = refl
         go true true e = choose-choose o (nthTransition s b) (nthTransition s i) rest ∙ rw (← e)
-
-  -- transitions whose outputs have numbers are passed over
-  pub best-settled : {numbers : List ℕ} → NumbersOf numbers o → (i : ℕ) → i ≤ n → Settled s i numbers →
-      BestFrom o s n n i
-  best-settled of zero h settled = best-start
-  best-settled {numbers} of (suc i) h settled =
-      subst (λ (j : ℕ). BestFrom o s n n j) (add-one i)
-      (best-keep (best-settled of i (omega arith) (record { numbered = λ j l. settled .numbered j (omega arith) }))
-      (omega arith)
-      (improves-unready o s n n i
-      (sym (ready-by of (nthTransition s i)) ∙
-      sym (numbered-unready numbers (nthTransition s i) (settled .numbered i (omega arith))))))
-
-  -- if all that are left come after the best so far, it is the best of the whole
-  pub best-stop : {b i : ℕ} → BestFrom o s n b i → b < n → ((j : ℕ) → i ≤ j → j < n →
-      precedes (renumber o (nthTransition s b)) (renumber o (nthTransition s j)) ≡ true) →
-      picked s n b ≡ best o (transitionsIn s n)
-  best-stop {b} {i} inv h after =
-      rw (lt-ltb b n h)
-      (sym (inv .left ∙ rw (lt-ltb b n h)
-      (go (best o (transitionsFrom s i (n - i))) (best-view o (transitionsFrom s i (n - i))))))
-    where
-      go : (r : Option Transition) → BestView o (transitionsFrom s i (n - i)) r →
-          choose o (nthTransition s b) r ≡ some (nthTransition s b)
-      go none v = refl
-      go (some υ) v =
-          let (j, l, m, e) = tabulated-in (nthTransition s) i (n - i) υ (v .0) in
-          let later = lex-asym (key (renumber o (nthTransition s b))) (key (renumber o (nthTransition s j)))
-          (after j l (omega arith)) in
-          rw (ap (λ (x : Transition). precedes (renumber o x) (renumber o (nthTransition s b))) e ∙ later)
 
   pub best-end : {b i : ℕ} → BestFrom o s n b i → n ≤ i → picked s n b ≡ best o (transitionsIn s n)
   best-end {b} {i} inv h = sym (inv .left ∙ rw (upFrom-none i n h) (held-none o (picked s n b)))

@@ -10,7 +10,7 @@ use borrow.Author.Tests.{eq-eqb, eqb-false, eqb-true, le-leb, lt-leb, ltb-false,
 use Rattle.lists.specs.Tests.{bit}
 use Rattle.automata.specs.Automaton.{Automaton, accepting, states}
 use Rattle.format.specs.Format.{countAt, headBytes, maxStates, tableBytes}
-use Rattle.minimize.specs.Merged.{nameIn}
+use Rattle.minimize.specs.Renaming.{nameIn}
 use Rattle.minimize.specs.Written.{BodyWritten, ClassesWritten, TableWritten, classByte}
 use Rattle.table.specs.Layout.{bodyByte, byteAt, encode}
 use Rattle.table.proofs.Bytes.{cond-is, encode-byte, encode-length}

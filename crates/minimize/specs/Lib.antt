@@ -1,4 +1,4 @@
-pub mod Merged
+pub mod Renaming
 pub mod Numbering
 pub mod Written
 pub mod Made

@@ -12,7 +12,7 @@ use Rattle.automata.specs.Renumber.{numberOf, numbering, ready, renumber}
 use Rattle.format.specs.Format.{byteValues, transitionBytes}
 use Rattle.lists.specs.Tests.{every}
 use Rattle.marking.specs.Marks.{marked}
-use Rattle.minimize.specs.Merged.{nameIn}
+use Rattle.minimize.specs.Renaming.{nameIn}
 use Rattle.table.specs.Layout.{arityOf, labelOf, nthTransition, outOf}
 
 -- a table of numbers gives each state its number in an order
@@ -36,22 +36,6 @@ unfoldable pub improves : List ℕ → List ℕ → ℕ → ℕ → ℕ → Bool
 improves o s n b i =
     ready o (nthTransition s i) &&
     (not (ltb b n) || precedes (renumber o (nthTransition s i)) (renumber o (nthTransition s b)))
-
--- transitions stand by child count, then label
-pub record Grouped (s : List ℕ) (n : ℕ) : Type 0 where
-  pub arity : (i j : ℕ) → i ≤ j → j < n → arityOf s (transitionBytes * i) ≤ arityOf s (transitionBytes * j)
-  pub label : (i j : ℕ) → i ≤ j → j < n → arityOf s (transitionBytes * i) ≡ arityOf s (transitionBytes * j) →
-      labelOf s (transitionBytes * i) ≤ labelOf s (transitionBytes * j)
-
--- there is a transition b of n, and transition i has another child count or label
-pub record OtherGroup (s : List ℕ) (n b i : ℕ) : Type 0 where
-  pub found : b < n
-  pub other : arityOf s (transitionBytes * i) ≡ arityOf s (transitionBytes * b) →
-      labelOf s (transitionBytes * i) ≡ labelOf s (transitionBytes * b) → ⊥
-
--- the outputs of the first n transitions have numbers, so that none of these is ready
-pub record Settled (s : List ℕ) (n : ℕ) (numbers : List ℕ) : Type 0 where
-  pub numbered : (i : ℕ) → i < n → marked numbers (outOf s (transitionBytes * i)) ≡ true
 
 -- the outputs are states
 abbrev pub Outputs : List ℕ → ℕ → Type 0

@@ -1,5 +1,4 @@
-// The minimal automaton of a run of transitions, from marks of its distinguishable states: equivalent states
-// merged, the rest numbered by the rule, and the result written as a table.
-pub mod merge;
-pub mod number;
-pub mod write;
+// Transitions over any states, numbered by the rule and written as a table.
+pub mod renaming; // other names for the states
+mod number; // numbers by the rule
+pub mod write; // the table

@@ -1,7 +1,5 @@
 // States numbered by the rule: of all transitions whose arguments have numbers and whose output has none, the
-// first by the order of the new numbers gives its output the next number. A number 0 is none. The transitions stand by
-// child count, then label, which the order compares first too: a search need not look beyond the ready ones.
-ghost use mathlib.Core.Bool.{true};
+// first by the order of the new numbers gives its output the next number. A number 0 is none.
 ghost use mathlib.Core.Path.{_≡_};
 ghost use mathlib.Core.List.{List, map};
 ghost use Prim.Native.Nat.{_<_, _≤_, ℕ};
@@ -13,8 +11,8 @@ ghost use Rattle.format.specs.Format.{byteValues, maxArity};
 ghost use Rattle.lists.specs.Tests.{every};
 ghost use Rattle.marking.specs.Marks.{marked};
 ghost use Rattle.table.specs.Layout.{transitionAt, transitionsIn};
-ghost use Rattle.minimize.specs.Merged.{nameIn};
-ghost use Rattle.minimize.specs.Numbering.{Grouped, NumberingHeld, NumbersOf, OtherGroup, Outputs, Settled};
+ghost use Rattle.minimize.specs.Renaming.{nameIn};
+ghost use Rattle.minimize.specs.Numbering.{NumberingHeld, NumbersOf, Outputs};
 ghost use Rattle.minimize.specs.Numbering.{Unnumbered, improves, picked, readyBy};
 use fields::arg_of;
 use fields::arity_of;
@@ -113,72 +111,24 @@ fn improves_on(
     )
 }
 
-// Whether there is a first ready one so far and transition i has another child count or label.
-fn other_group(transitions: &[u8], count: usize, best: usize, i: usize) -> bool
+// The first ready transition; `count` if none is ready.
+fn first_ready(transitions: &[u8], count: usize, numbers: &[u8; BYTE_VALUES]) -> usize
     requires { ⌜ HoldsTransitions (now transitions) count ⌝ }
-    requires { ⌜ best ≤ count ⌝ }
-    requires { ⌜ i < count ⌝ }
-    ensures { λ r. ⌜ (r ≡ true → OtherGroup (now (transitions .entry)) count best i) ⌝ }
-{
-    if best == count {
-        return false;
-    }
-    if arity_of(transitions, TRANSITION_BYTES * i)
-        != arity_of(transitions, TRANSITION_BYTES * best)
-    {
-        return true;
-    }
-    label_of(transitions, TRANSITION_BYTES * i) != label_of(transitions, TRANSITION_BYTES * best)
-}
-
-// The first ready transition; `count` if none is ready. Those before `start` are not.
-fn first_ready(transitions: &[u8], start: usize, count: usize, numbers: &[u8; BYTE_VALUES]) -> usize
-    requires { ⌜ HoldsTransitions (now transitions) count ⌝ }
-    requires { ⌜ Grouped (now transitions) count ⌝ }
-    requires { ⌜ start ≤ count ⌝ }
-    requires { ⌜ Settled (now transitions) start (now numbers) ⌝ }
     ensures { λ r. ⌜ r ≤ count ⌝ }
     ensures { λ r. ⌜ ((o : List ℕ) → NumbersOf (now (numbers .entry)) o →
         picked (now (transitions .entry)) count r ≡ best o (transitionsIn (now (transitions .entry)) count)) ⌝ }
 {
     let mut best = count;
-    let mut i = start;
+    let mut i = 0;
     while i < count {
         let at = i;
         i += 1;
-        if other_group(transitions, count, best, at) {
-            return best;
-        }
         if !improves_on(transitions, count, best, at, numbers) {
             continue;
         }
         best = at;
     }
     best
-}
-
-// The first transition from `start` on whose output has no number; `count` if there is none.
-fn first_unsettled(
-    transitions: &[u8],
-    start: usize,
-    count: usize,
-    numbers: &[u8; BYTE_VALUES],
-) -> usize
-    requires { ⌜ HoldsTransitions (now transitions) count ⌝ }
-    requires { ⌜ start ≤ count ⌝ }
-    requires { ⌜ Settled (now transitions) start (now numbers) ⌝ }
-    ensures { λ r. ⌜ r ≤ count ⌝ }
-    ensures { λ r. ⌜ Settled (now (transitions .entry)) r (now (numbers .entry)) ⌝ }
-{
-    let mut i = start;
-    while i < count {
-        let out = out_of(transitions, TRANSITION_BYTES * i);
-        if numbers[out] == 0 {
-            return i;
-        }
-        i += 1;
-    }
-    i
 }
 
 // Numbers the states: `order` has them by their numbers, `numbers` the number of each. How many there are.
@@ -189,7 +139,6 @@ pub fn number(
     numbers: &mut [u8; BYTE_VALUES],
 ) -> usize
     requires { ⌜ HoldsTransitions (now transitions) count ⌝ }
-    requires { ⌜ Grouped (now transitions) count ⌝ }
     requires { ⌜ Outputs (now transitions) count ⌝ }
     requires { ⌜ length (now order) ≡ byteValues ⌝ }
     requires { ⌜ length (now numbers) ≡ byteValues ⌝ }
@@ -198,15 +147,13 @@ pub fn number(
         (numbers .exit)) r ⌝ }
 {
     let mut k = 0;
-    let mut start = 0;
-    let mut best = first_ready(transitions, start, count, numbers);
+    let mut best = first_ready(transitions, count, numbers);
     while best < count {
         let q = out_of(transitions, TRANSITION_BYTES * best);
         order[k] = q as u8;
         k += 1;
         numbers[q] = k as u8;
-        start = first_unsettled(transitions, start, count, numbers);
-        best = first_ready(transitions, start, count, numbers);
+        best = first_ready(transitions, count, numbers);
     }
     k
 }

@@ -1,7 +1,7 @@
 -- `number::args_precede` meets its contract: the answer is that of the arguments left.
 use Rattle.minimize.proofs.Arguments.{argName, names-start}
 use Rattle.fields.proofs.Searching.{LexFrom, lex-decided, lex-end, lex-next}
-use Rattle.minimize.specs.Merged.{nameIn}
+use Rattle.minimize.specs.Renaming.{nameIn}
 use Rattle.fields.specs.Fields.{firstArgs}
 use Rattle.automata.specs.Order.{lex}
 use lib.Dec.{ltb}

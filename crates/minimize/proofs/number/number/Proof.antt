@@ -1,34 +1,28 @@
 -- `number::number` meets its contract: what is left to number goes on from the order so far.
-use Rattle.minimize.proofs.Ready.{settled-more, settled-none}
 use Rattle.minimize.proofs.Ordering.{Ordering, ordering-end, ordering-few, ordering-next, ordering-start}
-use Rattle.minimize.specs.Numbering.{Settled}
 use native.Mathlib.Omega.{arith}
-use Prim.Native.Nat.{_*_, _+_, _-_, _≤_}
+use Prim.Native.Nat.{_-_, _≤_}
 use mathlib.Core.Path.{refl}
 use borrow.Author.Needs.{needs}
 use Rattle.minimize.proofs.number.number.Statement.{statement}
 use Rattle.minimize.proofs.number.number.Tie as tie
 
 abbrev Inv-loop : tie.InvT-loop
-Inv-loop run count order₀ numbers₀ k₀ start₀ best₀ order numbers k start best =
-    (best ≤ count) × (start ≤ count) × Settled run start numbers × Ordering run count order numbers k best
+Inv-loop run count order₀ numbers₀ k₀ best₀ order numbers k best =
+    (best ≤ count) × Ordering run count order numbers k best
 
 abbrev μ-loop : tie.MeasureT-loop
-μ-loop run count order₀ numbers₀ k₀ start₀ best₀ order numbers k start best = 256 - k
+μ-loop run count order₀ numbers₀ k₀ best₀ order numbers k best = 256 - k
 
 first-ready-requires : tie.Need-first-ready-requires Inv-loop μ-loop
-first-ready-requires c κs =
-    (c .before .before .pre .0, (c .before .before .pre .1 .0, (omega arith, settled-none)))
+first-ready-requires c κs = search needs
 
 loop-holds : tie.Need-loop-holds Inv-loop μ-loop
 loop-holds c =
     let start = c .before .before .before in (
       c .first-ready .ensures .0,
-      omega arith,
-      settled-none,
-      ordering-start (start .args .transitions .now) (start .args .count) (start .pre .1 .1 .1 .0) (start .pre .1 .1
-          .1 .1 .0)
-          (start .pre .1 .1 .1 .1 .1) _ (c .first-ready .ensures .1),
+      ordering-start (start .args .transitions .now) (start .args .count) (start .pre .1 .1 .0) (start .pre .1 .1 .1
+          .0) (start .pre .1 .1 .1 .1) _ (c .first-ready .ensures .1),
     )
 
 mul-out-of : tie.Need-mul-out-of Inv-loop μ-loop
@@ -42,58 +36,41 @@ cast-order c = search needs
 
 element-write-order : tie.Need-element-write-order Inv-loop μ-loop
 element-write-order c =
-    omega (arith, c .before .before .loop .inv .3 .few, c .before .before .loop .inv .3 .room)
+    omega (arith, c .before .before .loop .inv .1 .few, c .before .before .loop .inv .1 .room)
 
 add-k : tie.Need-add-k Inv-loop μ-loop
-add-k c = omega (arith, c .before .before .loop .inv .3 .few)
+add-k c = omega (arith, c .before .before .loop .inv .1 .few)
 
 cast-numbers : tie.Need-cast-numbers Inv-loop μ-loop
 cast-numbers c =
+    let start = c .before .before .before .before .before .before in
     omega (
       arith,
-      ordering-few (c .before .before .loop .inv .3) (c .before .loop-test .taken) (c .out-of .ensures .0) (c .before
-          .before .before .before .before .before .pre .1 .1 .0) (omega (arith, c .out-of .ensures .1)),
+      ordering-few (c .before .before .loop .inv .1) (c .before .loop-test .taken) (c .out-of .ensures .0)
+          (start .pre .1 .0) (omega (arith, c .out-of .ensures .1)),
     )
 
 element-write-numbers : tie.Need-element-write-numbers Inv-loop μ-loop
-element-write-numbers c =
-    omega (
-      arith,
-      c .before .before .loop .inv .3 .room′,
-    )
-
-first-unsettled-requires : tie.Need-first-unsettled-requires Inv-loop μ-loop
-first-unsettled-requires c κs = (
-  c .before .before .before .before .before .before .before .pre .0,
-  (
-    c .before .before .before .loop .inv .1,
-    settled-more (c .before .before .before .loop .inv .2) _ _ (omega (
-      arith,
-      c .before .before .before .loop .inv .3 .room′,
-      c .before .out-of .ensures .1,
-    )),
-  ),
-)
+element-write-numbers c = omega (arith, c .before .before .loop .inv .1 .room′)
 
 first-ready-requires-2 : tie.Need-first-ready-requires-2 Inv-loop μ-loop
 first-ready-requires-2 c κs = search needs
 
 loop-less : tie.Need-loop-less Inv-loop μ-loop
-loop-less c = omega (arith, c .before .before .before .before .before .before .loop .inv .3 .few)
+loop-less c = omega (arith, c .before .before .before .before .loop .inv .1 .few)
 
 loop-again : tie.Need-loop-again Inv-loop μ-loop
-loop-again c = (
-  c .first-ready2 .ensures .0,
-  c .before .before .first-unsettled .ensures .0,
-  c .before .before .first-unsettled .ensures .1,
-  ordering-next (c .before .before .before .before .before .before .loop .inv .3) (c .before .before .before .before
-      .before .loop-test .taken) (c .before .before .before .before .out-of .ensures .0) (c .before .before .before
-      .before .before .before .before .before .before .before .pre .1 .1 .0)
-      (omega (arith, c .before .before .before .before .out-of .ensures .1)) refl (c .first-ready2 .ensures .1),
-)
+loop-again c =
+    let at-out = c .before .before in
+    let at-loop = at-out .before .before in
+    let start = at-loop .before .before .before .before in (
+      c .first-ready2 .ensures .0,
+      ordering-next (at-loop .loop .inv .1) (at-out .before .loop-test .taken) (at-out .out-of .ensures .0)
+          (start .pre .1 .0) (omega (arith, at-out .out-of .ensures .1)) refl (c .first-ready2 .ensures .1),
+    )
 
 returns : tie.Need-returns Inv-loop μ-loop
-returns c = ordering-end (c .before .loop .inv .3) (omega arith)
+returns c = ordering-end (c .before .loop .inv .1) (omega arith)
 
 pub number-spec : {M : Type 1} → statement M
 number-spec =
@@ -110,7 +87,6 @@ number-spec =
     add-k
     cast-numbers
     element-write-numbers
-    first-unsettled-requires
     first-ready-requires-2
     loop-less
     loop-again

@@ -1,0 +1,114 @@
+-- `numbering::looking::rises` meets its contract: each transition but the last is compared with the next.
+use native.Mathlib.Omega.{arith}
+use Prim.Native.Nat.{_+_, _-_, _<_, _≤_, ℕ}
+use mathlib.Core.Bool.{false≢true, true}
+use mathlib.Core.Path.{_∙_, _≡_, sym}
+use borrow.Author.Count.{below-more}
+use borrow.Author.Tests.{not-false}
+use Rattle.automata.specs.Order.{precedes}
+use Rattle.packed.specs.Heads.{nthPacked}
+use Rattle.numbering.proofs.Entries.{rising-each}
+use Rattle.numbering.proofs.Places.{precedes-heads}
+use borrow.Author.Needs.{needs}
+use Rattle.numbering.proofs.looking.rises.Statement.{statement}
+use Rattle.numbering.proofs.looking.rises.Tie as tie
+
+abbrev Inv-loop : tie.InvT-loop
+Inv-loop heads args count i₀ i =
+    (i ≤ count) × ((j : ℕ) → j < i → precedes (nthPacked heads args j) (nthPacked heads args (j + 1)) ≡ true)
+
+abbrev μ-loop : tie.MeasureT-loop
+μ-loop heads args count i₀ i = count - i
+
+loop-holds : tie.Need-loop-holds Inv-loop μ-loop
+loop-holds c = (omega arith, λ j h. absurd (omega arith))
+
+add-loop : tie.Need-add-loop Inv-loop μ-loop
+add-loop c = omega (arith, c .before .pre .few, c .loop .inv .0)
+
+word-at-requires : tie.Need-word-at-requires Inv-loop μ-loop
+word-at-requires c κs = search needs
+
+word-at-requires-2 : tie.Need-word-at-requires-2 Inv-loop μ-loop
+word-at-requires-2 c κs = search needs
+
+add-word-at : tie.Need-add-word-at Inv-loop μ-loop
+add-word-at c = search needs
+
+word-at-requires-3 : tie.Need-word-at-requires-3 Inv-loop μ-loop
+word-at-requires-3 c κs = search needs
+
+add-word-at-2 : tie.Need-add-word-at-2 Inv-loop μ-loop
+add-word-at-2 c = search needs
+
+word-at-requires-4 : tie.Need-word-at-requires-4 Inv-loop μ-loop
+word-at-requires-4 c κs = search needs
+
+is-before-requires : tie.Need-is-before-requires Inv-loop μ-loop
+is-before-requires c κs = search needs
+
+returns : tie.Need-returns Inv-loop μ-loop
+returns c = λ e. absurd (false≢true e)
+
+add-i : tie.Need-add-i Inv-loop μ-loop
+add-i c = search needs
+
+loop-less : tie.Need-loop-less Inv-loop μ-loop
+loop-less c = search needs
+
+loop-again : tie.Need-loop-again Inv-loop μ-loop
+loop-again c = (
+  omega arith,
+  below-more (λ j. precedes (nthPacked ((c .before .before .before .before .before .before .before
+      .before .args .heads .now)) ((c .before .before .before .before .before .before .before .before .args .args
+      .now)) j) (nthPacked ((c .before .before .before .before .before .before .before .before .args .heads .now)) ((c
+      .before .before .before .before .before .before .before .before .args .args .now)) (j + 1)) ≡ true) ((c .before
+      .before .before .before .before .before .before .loop .i)) (c .before .before .before .before .before .before
+      .before .loop .inv .1) (precedes-heads (c .before .before .before .before .before .before .before .before .pre
+      .each ((c .before .before .before .before .before .before .before .loop .i)) (omega arith)) (c .before .before
+      .before .before .before .before .before .before .pre .each ((c .before .before .before .before .before .before
+      .before .loop .i) + 1) (omega arith)) (omega (
+        arith,
+        c .before .before .before .before .word-at2 .ok,
+        c .before
+            .before .before .before .word-at2 .ensures,
+      )) (omega (
+        arith,
+        c .before .before .word-at4 .ok,
+        c .before .before
+            .word-at4 .ensures,
+      )) ∙ rw (
+        c .before .before .before .before .before .word-at .ensures,
+        c .before .before .before
+            .before .word-at2 .ensures,
+        c .before .before .before .word-at3 .ensures,
+        c .before .before .word-at4 .ensures,
+      )
+      at (sym (c .before .is-before .ensures) ∙ not-false _ (c .if1 .left))),
+)
+
+returns-2 : tie.Need-returns-2 Inv-loop μ-loop
+returns-2 c =
+    λ _. rising-each ((c .before .before .args .heads .now)) ((c .before .before .args .args .now)) (c .before
+    .before .args .count) (λ j h. (c .before .loop) .inv .1 j (omega arith))
+
+pub rises-spec : {M : Type 1} → statement M
+rises-spec =
+    tie.close
+    (tie.spec
+    Inv-loop
+    μ-loop
+    loop-holds
+    add-loop
+    word-at-requires
+    word-at-requires-2
+    add-word-at
+    word-at-requires-3
+    add-word-at-2
+    word-at-requires-4
+    is-before-requires
+    returns
+    add-i
+    loop-less
+    loop-again
+    returns-2)

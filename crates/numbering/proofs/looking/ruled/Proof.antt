@@ -1,0 +1,148 @@
+-- `numbering::looking::ruled` meets its contract: the pass has read the transitions before i, and all states up to low have been seen.
+use mathlib.Core.Bool.{false≢true}
+use borrow.Author.Tests.{eqb-true, not-false}
+use native.Mathlib.Omega.{arith}
+use mathlib.Core.Path.{_≡_, subst}
+use lib.ListN.{length, length-replicate}
+use Prim.Native.Nat.{_-_, _≤_, ℕ}
+use Rattle.automata.specs.Numbered.{Passed}
+use Rattle.format.specs.Format.{byteValues}
+use Rattle.marking.specs.Marks.{marked}
+use Rattle.packed.specs.Heads.{packedIn}
+use Rattle.numbering.specs.Steps.{AllSeen}
+use Rattle.validity.specs.Rules.{Spans}
+use Rattle.validity.proofs.Passing.{spans-none}
+use Rattle.numbering.proofs.Passes.{pass-below, pass-end, pass-start}
+use borrow.Author.Needs.{needs}
+use Rattle.numbering.proofs.looking.ruled.Statement.{statement}
+use Rattle.numbering.proofs.looking.ruled.Tie as tie
+
+abbrev Inv-loop : tie.InvT-loop
+Inv-loop heads args count states seen₀ low₀ i₀ seen low i =
+    (i ≤ count) × (low ≤ states) × (length seen ≡ byteValues) × Passed (packedIn heads args i) (marked seen) × Spans
+    seen × AllSeen seen low
+
+abbrev μ-loop : tie.MeasureT-loop
+μ-loop heads args count states seen₀ low₀ i₀ seen low i = count - i
+
+loop-holds : tie.Need-loop-holds Inv-loop μ-loop
+loop-holds c = (
+  omega arith,
+  omega arith,
+  length-replicate {A = ℕ} byteValues 0,
+  pass-start (c .args .heads .now) (c .args .args
+      .now),
+  spans-none,
+  λ q a b. absurd (omega arith),
+)
+
+mul-out-of : tie.Need-mul-out-of Inv-loop μ-loop
+mul-out-of c = search needs
+
+element-copy-out-out-of : tie.Need-element-copy-out-out-of Inv-loop μ-loop
+element-copy-out-out-of c = search needs
+
+out-of-requires : tie.Need-out-of-requires Inv-loop μ-loop
+out-of-requires c κs = search needs
+
+add-i : tie.Need-add-i Inv-loop μ-loop
+add-i c = search needs
+
+loop-less : tie.Need-loop-less Inv-loop μ-loop
+loop-less c = search needs
+
+loop-again : tie.Need-loop-again Inv-loop μ-loop
+loop-again c = (
+  omega arith,
+  c .before .before .before .before .loop .inv .1,
+  c .before .before .before .before .loop .inv .2,
+  pass-below (c .before .before .before .before .before .args .heads .now) (c .before .before .before .before
+      .before .args .args .now) (c .before .before .before .before .loop .i) (c .before .before .before .before .loop
+      .seen) (c .before .before .before .before .loop .inv .3) (c .before .before .before .before .loop .low) (c
+      .before .before .before .before .loop .inv .5) (omega (arith, c .before .out-of .ensures .0)),
+  c .before .before
+      .before .before .loop .inv .4,
+  c .before .before .before .before .loop .inv .5,
+)
+
+read-requires : tie.Need-read-requires Inv-loop μ-loop
+read-requires c κs = (
+  c .before .before .before .before .before .before .pre .0,
+  (
+    omega arith,
+    (
+      c .before .before .before .before
+          .before .loop .inv .2,
+      (
+        c .before .before .before .before .before .loop .inv .3,
+        c .before .before .before
+            .before .before .loop .inv .4,
+      ),
+    ),
+  ),
+)
+
+returns : tie.Need-returns Inv-loop μ-loop
+returns c = λ e. absurd (false≢true e)
+
+seen-up-to-requires : tie.Need-seen-up-to-requires Inv-loop μ-loop
+seen-up-to-requires c κs = (
+  c .before .before .before .before .before .before .before .before .loop .inv .1,
+  (
+    c .before .before .before
+        .before .before .before .before .before .before .pre .1,
+    λ q a b. (c .before .before .read) .ensures .kept q (c
+        .before .before .before .before .before .before .before .before .loop .inv .5 q a b),
+  ),
+)
+
+add-i-2 : tie.Need-add-i-2 Inv-loop μ-loop
+add-i-2 c = search needs
+
+loop-less-2 : tie.Need-loop-less-2 Inv-loop μ-loop
+loop-less-2 c = search needs
+
+loop-again-2 : tie.Need-loop-again-2 Inv-loop μ-loop
+loop-again-2 c = (
+  omega arith,
+  c .seen-up-to .ensures .0,
+  c .before .before .before .read .ensures .size,
+  c .before .before
+      .before .read .ensures .passed (not-false _ (c .before .before .if2 .left)),
+  c .before .before .before .read
+      .ensures .spans,
+  c .seen-up-to .ensures .1,
+)
+
+returns-2 : tie.Need-returns-2 Inv-loop μ-loop
+returns-2 c =
+    λ e. let d : c .before .loop .i ≡ c .before .before .args .count = omega (arith, c .before .loop .inv .0) in
+    pass-end ((c .before .before .args .heads .now)) ((c .before .before .args .args .now)) (c .before .before .args
+    .count) (c .before .loop .seen) (subst (λ (n : ℕ). Passed (packedIn ((c .before .before .args .heads .now)) ((c
+    .before .before .args .args .now)) n) (marked (c .before .loop .seen))) d (c .before .loop .inv .3)) (c .before
+    .before .args .states) (λ q a b. (c .before .loop) .inv .5 q a (omega (
+      arith,
+      eqb-true (c .before .loop .low) (c
+          .before .before .args .states) e,
+    )))
+
+pub ruled-spec : {M : Type 1} → statement M
+ruled-spec =
+    tie.close
+    (tie.spec
+    Inv-loop
+    μ-loop
+    loop-holds
+    mul-out-of
+    element-copy-out-out-of
+    out-of-requires
+    add-i
+    loop-less
+    loop-again
+    read-requires
+    returns
+    seen-up-to-requires
+    add-i-2
+    loop-less-2
+    loop-again-2
+    returns-2)

@@ -1,0 +1,4 @@
+pub mod Numbers
+pub mod Picked
+pub mod Steps
+pub mod Tables

@@ -1,0 +1,37 @@
+-- The parts of a table as they are written from two lists of numbers.
+use mathlib.Core.List.{List}
+use mathlib.Core.Path.{_≡_}
+use Prim.Native.Nat.{_%_, _*_, _+_, _/_, _<_, _≤_, ℕ}
+use lib.ListN.{getD, length}
+use Rattle.format.specs.Format.{countAt, headBytes, maxArity, maxStates, tableBytes, transitionBytes}
+use Rattle.table.specs.Layout.{argOf, arityOf, labelOf, outOf}
+use Rattle.packed.specs.Heads.{headArity, headLabel, headOut, placeOf}
+
+-- the bytes from one on are those of the transition of two numbers
+pub record EntryAt (t : List ℕ) (at h a : ℕ) : Type 0 where
+  pub label : labelOf t at ≡ headLabel h
+  pub arity : arityOf t at ≡ headArity h
+  pub arg : (k : ℕ) → k < maxArity → argOf t at k ≡ placeOf a k
+  pub out : outOf t at ≡ headOut h
+
+-- t is b with the first n transitions of two lists from a byte on
+pub record RunPut (b t hs us : List ℕ) (start n : ℕ) : Type 0 where
+  pub size : length t ≡ length b
+  pub head : (i : ℕ) → i < start → getD t i 0 ≡ getD b i 0
+  pub each : (i : ℕ) → i < n → EntryAt t (start + transitionBytes * i) (getD hs i 0) (getD us i 0)
+
+-- t is b with zeros from a byte on
+pub record ZerosFrom (b t : List ℕ) (start : ℕ) : Type 0 where
+  pub size : length t ≡ length b
+  pub below : (i : ℕ) → i < start → getD t i 0 ≡ getD b i 0
+  pub zeros : (i : ℕ) → start ≤ i → getD t i 0 ≡ 0
+
+-- every byte of a table: n states with classes f, and c transitions
+pub record TablePut (t : List ℕ) (n : ℕ) (f : ℕ → ℕ) (hs us : List ℕ) (c : ℕ) : Type 0 where
+  pub size : length t ≡ tableBytes
+  pub states : getD t 0 0 ≡ n
+  pub class : (q : ℕ) → 1 ≤ q → q ≤ maxStates → getD t q 0 ≡ f q
+  pub high : getD t countAt 0 ≡ c / 256
+  pub low : getD t (countAt + 1) 0 ≡ c % 256
+  pub each : (i : ℕ) → i < c → EntryAt t (headBytes + transitionBytes * i) (getD hs i 0) (getD us i 0)
+  pub zeros : (i : ℕ) → headBytes + transitionBytes * c ≤ i → getD t i 0 ≡ 0

@@ -1,0 +1,89 @@
+// Transitions over names turned into a table: an order of the names is guessed, the transitions get its numbers and are
+// sorted, and the result is looked at once. If it is right by the rule, it is the only one that is.
+mod reading; // the parts of a transition that is two numbers
+mod renumbering; // names replaced by their numbers
+mod sorting; // sorting by merging runs
+mod looking; // whether the result is right
+mod writing; // the new table
+mod heap; // a heap of transitions
+mod order; // an order of the names, guessed
+
+ghost use mathlib.Core.Bool.{cond, true};
+ghost use mathlib.Core.Path.{_≡_};
+ghost use Prim.Native.Nat.{_≤_};
+ghost use lib.ListN.{length};
+ghost use Rattle.automata.specs.Renumber.{renumbered};
+ghost use Rattle.format.specs.Format.{byteValues, maxStates, tableBytes};
+ghost use Rattle.table.specs.Layout.{classAt, encode};
+ghost use Rattle.packed.specs.Heads.{HoldsPacked, Room, packedIn};
+ghost use Rattle.numbering.specs.Steps.{Settled};
+use crate::looking::sound;
+use crate::order::guess;
+use crate::renumbering::number_names;
+use crate::renumbering::renumber;
+use crate::sorting::sort;
+pub use crate::writing::write_run;
+use crate::writing::write_table;
+use format::BYTE_VALUES;
+use format::MAX_STATES;
+use format::MAX_TRANSITIONS;
+use minimize::renaming::no_names;
+
+// Gives the transitions the numbers of an order and sorts them. Returns whether they are right by the rule.
+fn settle(
+    heads: &mut [u64; MAX_TRANSITIONS],
+    args: &mut [u64; MAX_TRANSITIONS],
+    count: usize,
+    room: &mut [u64; MAX_TRANSITIONS],
+    spare: &mut [u64; MAX_TRANSITIONS],
+    order: &[u8; BYTE_VALUES],
+    states: usize,
+) -> bool
+    requires { ⌜ HoldsPacked (now heads) (now args) count ⌝ }
+    requires { ⌜ Room (now room) (now spare) ⌝ }
+    requires { ⌜ states ≤ maxStates ⌝ }
+    requires { ⌜ length (now order) ≡ byteValues ⌝ }
+    ensures { λ r. ⌜ (r ≡ true → Settled (now (heads .entry)) (now (args .entry)) count (now (order .entry)) states
+        (now (heads .exit)) (now (args .exit))) ⌝ }
+{
+    let mut numbers = no_names();
+    if !number_names(order, states, &mut numbers) {
+        return false;
+    }
+    if !renumber(heads, args, count, &numbers) {
+        return false;
+    }
+    sort(heads, args, count, room, spare);
+    sound(heads, args, count, states)
+}
+
+// Writes the table of the automaton that the transitions and the classes of their names give. Returns whether it did: if the
+// order that was guessed is wrong, the table stays as it is. The lists and the room have other numbers afterwards.
+pub fn rebuild(
+    heads: &mut [u64; MAX_TRANSITIONS],
+    args: &mut [u64; MAX_TRANSITIONS],
+    count: usize,
+    room: &mut [u64; MAX_TRANSITIONS],
+    spare: &mut [u64; MAX_TRANSITIONS],
+    next: &mut [u16; MAX_TRANSITIONS],
+    classes: &[u8; BYTE_VALUES],
+    table: &mut [u8],
+) -> bool
+    requires { ⌜ HoldsPacked (now heads) (now args) count ⌝ }
+    requires { ⌜ Room (now room) (now spare) ⌝ }
+    requires { ⌜ length (now classes) ≡ byteValues ⌝ }
+    requires { ⌜ length (now table) ≡ tableBytes ⌝ }
+    ensures { λ r. ⌜ now (table .exit) ≡ cond r (encode (renumbered (classAt (now (classes .entry)))
+        (packedIn (now (heads .entry)) (now (args .entry)) count))) (now (table .entry)) ⌝ }
+{
+    let mut order = no_names();
+    let states = guess(heads, args, count, next, room, spare, &mut order);
+    if states > MAX_STATES {
+        return false;
+    }
+    if !settle(heads, args, count, room, spare, &order, states) {
+        return false;
+    }
+    write_table(table, classes, &order, states, heads, args, count);
+    true
+}

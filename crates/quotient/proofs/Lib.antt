@@ -1,0 +1,13 @@
+pub mod Chains
+pub mod Appending
+pub mod Tallies
+pub mod NodeNames
+pub mod Padding
+pub mod Walking
+pub mod Concatenation
+pub mod Choices
+pub mod Numbered
+pub mod KeptLink
+pub mod NodeLink
+pub mod Linking
+pub mod CountLink

@@ -1,0 +1,65 @@
+-- `quotient::counting::count_gone` meets its contract: what is counted and what is left are all.
+use native.Mathlib.Omega.{arith}
+use Prim.Native.Nat.{_-_}
+use lib.ListN.{length}
+use Rattle.lists.specs.Positions.{upFrom}
+use Rattle.lists.specs.Tests.{filter}
+use Rattle.quotient.specs.Nodes.{goneAt}
+use Rattle.quotient.proofs.Tallies.{TallyFrom, tally-end, tally-few, tally-next, tally-start}
+use borrow.Author.Needs.{needs}
+use Rattle.quotient.proofs.counting.count_gone.Statement.{statement}
+use Rattle.quotient.proofs.counting.count_gone.Tie as tie
+
+abbrev Inv-loop : tie.InvT-loop
+Inv-loop n m labels arities children states names sum₀ j₀ sum j =
+    TallyFrom (goneAt n arities children states names) (length (filter (goneAt n arities children states names)
+    (upFrom 0 m))) m sum j
+
+abbrev μ-loop : tie.MeasureT-loop
+μ-loop n m labels arities children states names sum₀ j₀ sum j = m - j
+
+loop-holds : tie.Need-loop-holds Inv-loop μ-loop
+loop-holds c = tally-start (c .args .m) (omega arith)
+
+is-gone-requires : tie.Need-is-gone-requires Inv-loop μ-loop
+is-gone-requires c κs = search needs
+
+tallied-requires : tie.Need-tallied-requires Inv-loop μ-loop
+tallied-requires c κs =
+    let start = c .before .before .before in
+    let a = start .args in
+    omega (
+      arith,
+      c .before .before .loop .inv .left,
+      tally-few (goneAt (a .n) (a .arities .now) (a .children .now)
+          (a .states .now) (a .names .now)) 0 (a .m),
+      start .pre .1 .few,
+    )
+
+add-j : tie.Need-add-j Inv-loop μ-loop
+add-j c = search needs
+
+loop-less : tie.Need-loop-less Inv-loop μ-loop
+loop-less c = omega arith
+
+loop-again : tie.Need-loop-again Inv-loop μ-loop
+loop-again c =
+    let loop = c .before .before .before .loop in
+    tally-next (loop .inv) (omega arith) (c .before .is-gone .ensures) (c .tallied .ensures)
+
+returns : tie.Need-returns Inv-loop μ-loop
+returns c = tally-end (c .before .loop .inv) (omega arith)
+
+pub count-gone-spec : {M : Type 1} → statement M
+count-gone-spec =
+    tie.close
+    (tie.spec
+    Inv-loop
+    μ-loop
+    loop-holds
+    is-gone-requires
+    tallied-requires
+    add-j
+    loop-less
+    loop-again
+    returns)

@@ -1,0 +1,88 @@
+-- Transitions between names made one after another, two numbers each: child count, label and output name, and packed
+-- argument names.
+use mathlib.Core.Bool.{Bool, _&&_, cond, true}
+use mathlib.Core.List.{List, [], _++_, _∷_, map}
+use mathlib.Core.Path.{_≡_}
+use Prim.Native.Nat.{_*_, _+_, _-_, _^_, _≤_, ℕ}
+use lib.Dec.{eqb, ltb}
+use lib.ListN.{getD, length, take}
+use Rattle.automata.specs.Product.{concatMap, fst, snd}
+use Rattle.format.specs.Format.{byteValues, maxArity, maxTransitions, transitionBytes}
+use Rattle.lists.specs.Positions.{Pair, upFrom}
+use Rattle.packed.specs.Packed.{metaAt}
+use Rattle.table.specs.Layout.{argOf, arityOf, outOf}
+use Rattle.quotient.specs.Kept.{namesOf}
+use Rattle.quotient.specs.Nodes.{namedBy, newAt}
+
+-- ---- entries put into two arrays
+
+-- the first n entries of two arrays, and ps after them
+pub record Appended (h a : List ℕ) (n : ℕ) (ps : List Pair) (h' a' : List ℕ) (n' : ℕ) : Type 0 where
+  pub heads-size : length h' ≡ length h
+  pub args-size : length a' ≡ length a
+  pub count : n' ≡ n + length ps
+  pub heads : take n' h' ≡ take n h ++ map fst ps
+  pub args : take n' a' ≡ take n a ++ map snd ps
+
+-- the arrays have room for so many entries
+pub record Room (h a : List ℕ) (n : ℕ) : Type 0 where
+  pub heads-size : length h ≡ maxTransitions
+  pub args-size : length a ≡ maxTransitions
+  pub within : n ≤ maxTransitions
+
+-- ---- the entries
+
+-- one entry, none if the output is 0
+abbrev pub entryOf : ℕ → ℕ → ℕ → List Pair
+entryOf meta key out = cond (eqb out 0) [] ((byteValues * meta + out, key) ∷ [])
+
+-- a number of a digits with zeros after them, eight digits in all
+abbrev pub padTo : ℕ → ℕ → ℕ
+padTo arity v = v * 2 ^ (8 * (maxArity - arity))
+
+-- the output of chosen names: if all of them are own names, the name of the subtree that they make, if any
+abbrev pub outOver : List ℕ → List ℕ → List ℕ → ℕ → Bool → ℕ → ℕ → ℕ → ℕ
+outOver metas keys v m own meta key o = cond own (namedBy metas keys v meta key o (upFrom 0 m)) o
+
+-- the entry of the transition that starts at a byte, over names that are packed
+abbrev pub finished : List ℕ → ℕ → List ℕ → List ℕ → List ℕ → ℕ → Bool → ℕ → List Pair
+finished s at metas keys v m own prefix =
+    let key = padTo (arityOf s at) prefix in
+    entryOf (metaAt s at) key (outOver metas keys v m own (metaAt s at) key (outOf s at))
+
+-- a name put after others that are packed, and whether all are own names
+abbrev pub withName : ℕ → ℕ → ℕ
+withName prefix x = byteValues * prefix + x
+
+-- what f gives for all choices of names of the states qs after names that are packed
+abbrev pub walk : (ℕ → List ℕ) → ℕ → (Bool → ℕ → List Pair) → List ℕ → Bool → ℕ → List Pair
+walk K n f [] own prefix = f own prefix
+walk K n f (q ∷ qs) own prefix = concatMap (λ x. walk K n f qs (own && ltb n x) (withName prefix x)) (K q)
+
+-- the states of the places from k on of the transition that starts at a byte
+abbrev pub argsFrom : List ℕ → ℕ → ℕ → List ℕ
+argsFrom s at k = map (argOf s at) (upFrom k (arityOf s at - k))
+
+-- the entries of all choices from place k on
+unfoldable pub chosenFrom : List ℕ → ℕ → ℕ → List ℕ → List ℕ → ℕ → ℕ → List ℕ → List ℕ → List ℕ → Bool → ℕ →
+    List Pair
+chosenFrom s at k firsts nexts n m metas keys v own prefix =
+    walk (namesOf firsts nexts) n (finished s at metas keys v m) (argsFrom s at k) own prefix
+
+-- the entries of the first n transitions
+abbrev pub nthChosen : List ℕ → List ℕ → List ℕ → ℕ → ℕ → List ℕ → List ℕ → List ℕ → ℕ → List Pair
+nthChosen s firsts nexts n m metas keys v i =
+    chosenFrom s (transitionBytes * i) 0 firsts nexts n m metas keys v true 0
+
+unfoldable pub chosenIn : List ℕ → ℕ → List ℕ → List ℕ → ℕ → ℕ → List ℕ → List ℕ → List ℕ → List Pair
+chosenIn s count firsts nexts n m metas keys v =
+    concatMap (nthChosen s firsts nexts n m metas keys v) (upFrom 0 count)
+
+-- the entry of the subtree at index j, if it is new
+abbrev pub newEntry : ℕ → List ℕ → List ℕ → List ℕ → List ℕ → List ℕ → List ℕ → ℕ → List Pair
+newEntry n r c q v metas keys j =
+    cond (newAt n r c q v j) ((byteValues * getD metas j 0 + getD v j 0, getD keys j 0) ∷ []) []
+
+-- those of the m subtrees
+unfoldable pub newIn : ℕ → ℕ → List ℕ → List ℕ → List ℕ → List ℕ → List ℕ → List ℕ → List Pair
+newIn n m r c q v metas keys = concatMap (newEntry n r c q v metas keys) (upFrom 0 m)

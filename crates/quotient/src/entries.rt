@@ -1,0 +1,44 @@
+// Transitions put into two arrays, two numbers each: 256 times the child count with label, and the output; and the
+// packed arguments.
+ghost use mathlib.Core.List.{[], _∷_};
+ghost use Prim.Native.Nat.{_+_, _<_, _^_};
+ghost use lib.ListN.{length};
+ghost use Rattle.quotient.specs.Making.{Appended, Room, entryOf};
+use format::MAX_TRANSITIONS;
+
+// One entry more.
+pub fn push(
+    heads: &mut [u64; MAX_TRANSITIONS],
+    args: &mut [u64; MAX_TRANSITIONS],
+    count: usize,
+    head: u64,
+    key: u64,
+) -> usize
+    requires { ⌜ Room (now heads) (now args) (count + 1) ⌝ }
+    ensures { λ r. ⌜ Appended (now (heads .entry)) (now (args .entry)) count ((head, key) ∷ []) (now (heads .exit)) (now
+        (args .exit)) r ⌝ }
+{
+    heads[count] = head;
+    args[count] = key;
+    count + 1
+}
+
+// The entry of a transition, none if its output is 0.
+pub fn emit(
+    heads: &mut [u64; MAX_TRANSITIONS],
+    args: &mut [u64; MAX_TRANSITIONS],
+    count: usize,
+    meta: u64,
+    key: u64,
+    out: u8,
+) -> usize
+    requires { ⌜ Room (now heads) (now args) (count + length (entryOf meta key out)) ⌝ }
+    requires { ⌜ meta < 2 ^ 32 ⌝ }
+    ensures { λ r. ⌜ Appended (now (heads .entry)) (now (args .entry)) count (entryOf meta key out) (now
+        (heads .exit)) (now (args .exit)) r ⌝ }
+{
+    if out == 0 {
+        return count;
+    }
+    push(heads, args, count, 256 * meta + out as u64, key)
+}
