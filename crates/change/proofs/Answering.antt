@@ -1,141 +1,74 @@
--- From what was made to the answer: refusals 16 and 17, and done.
+-- From what was found to the answer: refusals 16 and 17, and done.
 use mathlib.Core.Bool.{Bool, _||_, cond, false, true}
 use mathlib.Core.List.{List}
 use mathlib.Core.Logic.{_⊎_, inl, inr}
-use mathlib.Core.Path.{_∙_, _≡_, ap, refl, subst, sym}
-use Prim.Native.Nat.{_+_, _<_, _≤_, ℕ}
+use mathlib.Core.Path.{_∙_, _≡_, ap, ap₂, refl, subst, sym}
+use Prim.Native.Nat.{_<_, _≤_, ℕ}
 use native.Mathlib.Omega.{arith}
 use lib.Dec.{eqb, leb}
 use lib.ListN.{length, replicate}
-use borrow.Author.Tests.{eq-eqb, le-leb, leb-true, lt-leb}
-use Rattle.automata.specs.Automaton.{Automaton, states}
+use borrow.Author.Tests.{eq-eqb, le-leb, leb-false, leb-true, lt-leb}
+use Rattle.automata.specs.Automaton.{Automaton}
 use Rattle.automata.specs.Change.{productTransitions}
-use Rattle.automata.specs.Minimal.{minimal}
-use Rattle.automata.specs.Order.{rising}
-use Rattle.calls.specs.Calls.{Change, changed, changedTree, doneWith, outcome}
+use Rattle.automata.specs.NamedChange.{changedAutomaton}
+use Rattle.calls.specs.Calls.{Change, changed, changedTree, outcome}
 use Rattle.calls.specs.declared.Answer.{Answer}
 use Rattle.calls.specs.declared.Answer.the-variants.{Done, Refused}
-use Rattle.change.specs.Changing.{MadeFits, Worked, changeOf, changedOutcome, resultOf, sizeRefusal}
-use Rattle.change.specs.Classes.{Classed, pairClass}
-use Rattle.fields.specs.View.{Viewed, viewed}
-use Rattle.format.specs.Format.{maxProduct, maxStates, maxTransitions}
-use Rattle.minimize.specs.Made.{madeOf, writtenTo}
-use Rattle.minimize.specs.declared.write.Made.{Made}
-use Rattle.minimize.specs.declared.write.Made.the-variants.{Table, TooBig}
-use Rattle.products.specs.Result.{Answers, Holding}
-use Rattle.products.specs.declared.Produced.{Produced}
-use Rattle.products.specs.declared.Produced.the-variants.{TooMany, Transitions}
-use Rattle.subtrees.specs.declared.Subtrees.{Subtrees}
+use Rattle.change.specs.Changing.{Worked, changeOf, changedOutcome, resultOf, sizeRefusal}
+use Rattle.format.specs.Format.{maxProduct}
+use Rattle.pairs.specs.Counts.{PairsCounted}
 use Rattle.table.specs.Intake.{fitsTable}
-use Rattle.table.specs.Layout.{decode, encode, transitionsIn}
-use Rattle.trees.specs.Listing.{readTree}
+use Rattle.table.specs.Layout.{decode, encode, stateCount, transitionCount}
 use Rattle.trees.specs.Tree.{Tree}
-use Rattle.change.proofs.Exact.{exact-changed, exact-rises, exact-viewed}
-use Rattle.change.proofs.Inputs.{Given}
-use Rattle.lists.proofs.Tests.{and-left, and-right, or-right}
-
--- the answer for what was written
-abbrev pub answerOf : Made → Answer
-answerOf (Table n m) = Done n m
-answerOf TooBig = Refused 17
-
--- what was written fits a table
-pub made-fits : (B : Automaton) → MadeFits (madeOf B)
-made-fits B = go (fitsTable B) refl
-  where
-    go : (f : Bool) → fitsTable B ≡ f → MadeFits (cond f (Table (states B) (length (B .transitions))) TooBig)
-    go true f = (
-      leb-true (states B) maxStates (and-left _ _ f),
-      leb-true (length (B .transitions)) maxTransitions (and-right (leb (states B) maxStates) _ f),
-    )
-    go false f = tt
-
-pub made-few : {r : Made} → MadeFits r → {n m : ℕ} → r ≡ Table n m → (n ≤ maxStates) × (m ≤ maxTransitions)
-made-few h d = subst MadeFits d h
+use Rattle.change.proofs.Sizes.{changed-automaton}
+use Rattle.lists.proofs.Tests.{or-right}
+use Rattle.table.proofs.Bytes.{encode-count, encode-states}
 
 pub change-tree : (inserting : Bool) (t : Tree) → changedTree (changeOf inserting t) ≡ t
 change-tree true t = refl
 change-tree false t = refl
 
--- ---- 16
+module _ (inserting : Bool) (t : Tree) (b : List ℕ) where
+  abbrev c : Change
+  c = changeOf inserting t
 
-module _ (c : Change) (b : List ℕ) where
-  size-16 : maxProduct < productTransitions (decode b) (changedTree c) → sizeRefusal c (decode b) ≡ 16
+  -- ---- 16
+
+  pub worked-16 : {f : Bool} {o w : List ℕ} → PairsCounted (decode b) t f o w → f ≡ false → Worked (changeOf inserting t) b b (Refused 16)
   unfolding sizeRefusal
-  size-16 h = rw (lt-leb (productTransitions (decode b) (changedTree c)) maxProduct h)
-
-  worked-16 : maxProduct < productTransitions (decode b) (changedTree c) → Worked c b b (Refused 16)
-  worked-16 h = record { answer = rw (size-16 h); table = rw (size-16 h) }
+  worked-16 P e =
+      let d : leb (productTransitions (decode b) (changedTree c)) maxProduct ≡ false =
+      rw (change-tree inserting t) (sym (P .fits) ∙ e) in
+      let z : sizeRefusal c (decode b) ≡ 16 = rw d in
+      record { answer = rw z; table = rw z }
 
   -- ---- 17 and done
 
-  module _ (few : productTransitions (decode b) (changedTree c) ≤ maxProduct) where
-    size-made : {f : Bool} → fitsTable (changed c (decode b)) ≡ f → sizeRefusal c (decode b) ≡ cond f 0 17
+  module _ {f : Bool} {o w : List ℕ} (P : PairsCounted (decode b) t f o w) (few : f ≡ true) where
+    size-made : {g : Bool} → g ≡ fitsTable (changedAutomaton inserting t (decode b)) →
+        sizeRefusal (changeOf inserting t) (decode b) ≡ cond g 0 17
     unfolding sizeRefusal
-    size-made e = rw (le-leb (productTransitions (decode b) (changedTree c)) maxProduct few, e)
+    size-made e =
+        let d : leb (productTransitions (decode b) (changedTree c)) maxProduct ≡ true =
+        rw (change-tree inserting t) (sym (P .fits) ∙ few) in
+        rw (d, sym (e ∙ ap fitsTable (changed-automaton inserting t (decode b))))
 
-    worked-made : {B : Automaton} → B ≡ changed c (decode b) → {r : Made} → r ≡ madeOf B → {b' : List ℕ} →
-        b' ≡ writtenTo B b → Worked c b b' (answerOf r)
-    worked-made {B} d {r} e {b'} w = go (fitsTable B) refl
-      where
-        go : (f : Bool) → fitsTable B ≡ f → Worked c b b' (answerOf r)
-        go true f =
-            let z = size-made (ap fitsTable (sym d) ∙ f) in
-            let made : madeOf B ≡ Table (states B) (length (B .transitions)) = rw f in
-            let written : writtenTo B b ≡ encode B = rw f in
-            record {
-              answer = rw z (ap answerOf (e ∙ made) ∙ ap doneWith d);
-              table = rw z (w ∙ written ∙ ap encode d);
-            }
-        go false f =
-            let z = size-made (ap fitsTable (sym d) ∙ f) in
-            let made : madeOf B ≡ TooBig = rw f in
-            let written : writtenTo B b ≡ b = rw f in
-            record {
-              answer = rw z (ap answerOf (e ∙ made));
-              table = rw z (w ∙ written);
-            }
+    pub worked-17 : {g : Bool} → g ≡ fitsTable (changedAutomaton inserting t (decode b)) → g ≡ false →
+        Worked (changeOf inserting t) b b (Refused 17)
+    worked-17 e h = let z = size-made (sym h ∙ e) in record { answer = rw z; table = rw z }
 
-module _ {s b : List ℕ} {k n : ℕ} {sub : Subtrees} (g : Given s b k n sub) (scratch : List ℕ) (r : Produced)
-    (answers : Answers (decode b) (readTree s) n sub scratch r) where
-  -- the product is too big
-  pub given-16 : r ≡ TooMany → (inserting : Bool) → Worked (changeOf inserting (readTree s)) b b (Refused 16)
-  given-16 e inserting =
-      worked-16 (changeOf inserting (readTree s)) b
-      (rw (change-tree inserting (readTree s)) (subst (Answers (decode b) (readTree s) n sub scratch) e answers))
-
-  -- the product is in the scratch
-  pub given-holding : {count : ℕ} → r ≡ Transitions count → Holding (decode b) (readTree s) n sub scratch count
-  given-holding e = subst (Answers (decode b) (readTree s) n sub scratch) e answers
-
--- and the classes of its pairs are beside it
-module _ {s b : List ℕ} {k n : ℕ} {sub : Subtrees} (g : Given s b k n sub) {scratch : List ℕ} {count : ℕ}
-    (holding : Holding (decode b) (readTree s) n sub scratch count) {root : ℕ} (own : root ≡ sub .root)
-    (inserting : Bool) {cl : List ℕ}
-    (beside : Classed (pairClass b n (sub .states) (n + root) inserting) (n + sub .count) cl) where
-  abbrev t : Tree
-  t = readTree s
-
-  classed : Classed (pairClass b n (sub .states) (n + sub .root) inserting) (n + sub .count) cl
-  classed =
-      subst (λ (r : ℕ). Classed (pairClass b n (sub .states) (n + r) inserting) (n + sub .count) cl) own beside
-
-  pub given-view : Viewed cl scratch (n + sub .count) count × (rising (transitionsIn scratch count) ≡ true)
-  given-view =
-      let f = g .table .fits in
-      let l = g .holds .lists in
-      let m = g .table .states in (
-        exact-viewed b f t m l holding inserting classed (g .table .few),
-        exact-rises b f t m l holding inserting classed,
-      )
-
-  pub given-made : {r : Made} → r ≡ madeOf (minimal (viewed cl scratch (n + sub .count) count)) → {b' : List ℕ} →
-      b' ≡ writtenTo (minimal (viewed cl scratch (n + sub .count) count)) b → (made : Made) → r ≡ made →
-      Worked (changeOf inserting (readTree s)) b b' (answerOf made)
-  given-made e w made d =
-      worked-made (changeOf inserting t) b
-      (rw (change-tree inserting t) (omega (arith, holding .exact, holding .over .runs .few)))
-      (exact-changed b (g .table .fits) t (g .table .states) (g .holds .lists) holding inserting classed) (sym d ∙ e) w
+    pub worked-done : {g : Bool} → g ≡ fitsTable (changedAutomaton inserting t (decode b)) → g ≡ true →
+        {b' : List ℕ} → b' ≡ encode (changedAutomaton inserting t (decode b)) → {r : Answer} →
+        r ≡ Done (stateCount b') (transitionCount b') → Worked (changeOf inserting t) b b' r
+    worked-done e h {b'} d {r} a =
+        let z = size-made (sym h ∙ e) in
+        let B = changed c (decode b) in
+        let new : b' ≡ encode B = d ∙ ap encode (changed-automaton inserting t (decode b)) in
+        record {
+          answer = rw z
+              (a ∙ ap₂ Done (ap stateCount new ∙ encode-states B) (ap transitionCount new ∙ encode-count B));
+          table = rw z new;
+        }
 
 -- ---- the scratch
 

@@ -1,5 +1,12 @@
-pub mod Pairs
+pub mod Classing
 pub mod Inputs
-pub mod Exact
-pub mod Answering
 pub mod SubtreeStates
+pub mod Outputs
+pub mod NameClasses
+pub mod Sizes
+pub mod Results
+pub mod Answering
+pub mod Handing
+pub mod Knowing
+pub mod Runs
+pub mod Rebuilt

@@ -2,23 +2,15 @@
 use mathlib.Core.Bool.{Bool, cond}
 use mathlib.Core.List.{List}
 use mathlib.Core.Path.{_≡_}
-use Prim.Native.Nat.{_≤_, ℕ}
+use Prim.Native.Nat.{ℕ}
 use lib.Dec.{eqb}
 use Rattle.automata.specs.Automaton.{Automaton}
 use Rattle.calls.specs.Calls.{Change, Result, changed, delete, doneWith, insert, outcome, refusedOr}
 use Rattle.calls.specs.Calls.{sizeConditions}
 use Rattle.calls.specs.declared.Answer.{Answer}
-use Rattle.format.specs.Format.{maxStates, maxTransitions}
 use Rattle.lists.specs.Conditions.{firstBroken}
-use Rattle.minimize.specs.declared.write.Made.{Made}
-use Rattle.minimize.specs.declared.write.Made.the-variants.{Table, TooBig}
 use Rattle.table.specs.Layout.{decode, encode}
 use Rattle.trees.specs.Tree.{Tree}
-
--- a table that was written holds no more states and transitions than a table can
-abbrev pub MadeFits : Made → Type 0
-MadeFits (Table n m) = (n ≤ maxStates) × (m ≤ maxTransitions)
-MadeFits TooBig = Unit {0}
 
 -- an addition, or a withdrawal
 abbrev pub changeOf : Bool → Tree → Change

@@ -1,2 +1,4 @@
 pub mod Classes
 pub mod Changing
+pub mod Given
+pub mod Between

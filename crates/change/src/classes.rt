@@ -1,16 +1,16 @@
-// The classes of the pairs of a product: those of their states, but that of the tree's own pair is set or cleared.
+// The classes of names after a change: those of their states, but that of the tree itself is set or cleared.
 ghost use mathlib.Core.Path.{_≡_};
 ghost use Prim.Native.Nat.{_+_, _≤_};
 ghost use lib.Dec.{eqb};
 ghost use lib.ListN.{length};
 ghost use Rattle.format.specs.Format.{maxNodes, maxStates, tableBytes};
-ghost use Rattle.products.specs.Pairs.{stateOf};
-ghost use Rattle.change.specs.Classes.{Classed, pairClass};
+ghost use Rattle.quotient.specs.Kept.{stateOf};
+ghost use Rattle.change.specs.Classes.{Classed, classOfName};
 use format::BYTE_VALUES;
 use format::MAX_NODES;
 use format::wide;
 
-// The state of the pair with number p.
+// The state that the name p stems from.
 fn state_of(n: usize, states: &[u8; MAX_NODES], p: usize) -> u8
     requires { ⌜ n ≤ maxStates ⌝ }
     requires { ⌜ p ≤ n + maxNodes ⌝ }
@@ -22,7 +22,7 @@ fn state_of(n: usize, states: &[u8; MAX_NODES], p: usize) -> u8
     states[p - n - 1]
 }
 
-// The class of the pair with number p.
+// The class of the name p.
 fn class_of(
     table: &[u8],
     n: usize,
@@ -34,7 +34,7 @@ fn class_of(
     requires { ⌜ length (now table) ≡ tableBytes ⌝ }
     requires { ⌜ n ≤ maxStates ⌝ }
     requires { ⌜ p ≤ n + maxNodes ⌝ }
-    ensures { λ r. ⌜ eqb r 1 ≡ pairClass (now (table .entry)) n (now (states .entry)) own inserting p ⌝ }
+    ensures { λ r. ⌜ eqb r 1 ≡ classOfName (now (table .entry)) n (now (states .entry)) own inserting p ⌝ }
 {
     if p == own {
         return own_class(inserting);
@@ -56,8 +56,8 @@ fn own_class(accepting: bool) -> u8
     0
 }
 
-// The classes of the pairs 1 to n + m, each at the byte of its number.
-pub fn pair_classes(
+// The classes of the names 1 to n + m, each at the byte of its number.
+pub fn name_classes(
     table: &[u8],
     n: usize,
     m: usize,
@@ -68,7 +68,7 @@ pub fn pair_classes(
     requires { ⌜ length (now table) ≡ tableBytes ⌝ }
     requires { ⌜ n ≤ maxStates ⌝ }
     requires { ⌜ m ≤ maxNodes ⌝ }
-    ensures { λ r. ⌜ Classed (pairClass (now (table .entry)) n (now (states .entry)) own inserting) (n + m) r ⌝ }
+    ensures { λ r. ⌜ Classed (classOfName (now (table .entry)) n (now (states .entry)) own inserting) (n + m) r ⌝ }
 {
     let mut classes = [0u8; BYTE_VALUES];
     let mut p = 1;

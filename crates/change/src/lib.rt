@@ -1,40 +1,40 @@
-// A tree put into the set of a table, or taken out: the product of the table and the tree in the scratch, the class of
-// the tree's own pair set or cleared, and the minimal automaton of that written to the table. Refusals 16 and 17.
-mod classes; // a class for each pair
+// A tree put into the set of a table, or taken out. Its subtrees get names after the change, and the new transitions stand
+// between names. Refusals 16 and 17 are found by counting, before anything is written.
+mod classes; // a class for each name
+mod rebuilding; // the new table
 
-ghost use mathlib.Core.Bool.{true};
+ghost use mathlib.Core.Bool.{Bool, true};
+ghost use mathlib.Core.List.{List};
 ghost use mathlib.Core.Path.{_≡_};
-ghost use Prim.Native.Nat.{_≤_};
+ghost use Prim.Native.Nat.{_≤_, ℕ};
 ghost use lib.ListN.{length, replicate};
-ghost use Rattle.automata.specs.Automaton.{Automaton};
-ghost use Rattle.automata.specs.Minimal.{minimal};
-ghost use Rattle.automata.specs.Order.{rising};
-ghost use Rattle.fields.specs.Fields.{HoldsTransitionsOver};
-ghost use Rattle.fields.specs.View.{Viewed, viewed};
-ghost use Rattle.format.specs.Format.{maxStates, scratchBytes, tableBytes};
-ghost use Rattle.minimize.specs.Made.{madeOf, writtenTo};
-ghost use Rattle.pairs.specs.Counts.{Setting};
-ghost use Rattle.products.specs.Pairs.{Nodes};
-ghost use Rattle.products.specs.Result.{Answers, Holds};
-ghost use Rattle.table.specs.Intake.{tableRefusal};
+ghost use Rattle.automata.specs.NamedChange.{changedAutomaton};
+ghost use Rattle.calls.specs.declared.Answer.the-variants.{Done};
+ghost use Rattle.format.specs.Format.{scratchBytes, tableBytes};
+ghost use Rattle.pairs.specs.Counts.{PairsCounted};
+ghost use Rattle.quotient.specs.Kept.{KeptAbove};
 ghost use Rattle.running.specs.Running.{HoldsStates};
-ghost use Rattle.table.specs.Layout.{decode, transitionsIn};
+ghost use Rattle.table.specs.Intake.{fitsTable, tableRefusal};
+ghost use Rattle.table.specs.Layout.{decode, stateCount, transitionCount};
 ghost use Rattle.trees.specs.Listing.{listingRefusal, readTree};
 ghost use Rattle.trees.specs.Tree.{Tree};
-ghost use Rattle.change.specs.Changing.{MadeFits, Worked, changeOf, changedOutcome, resultOf};
+ghost use Rattle.change.specs.Changing.{Worked, changeOf, changedOutcome, resultOf};
+ghost use Rattle.change.specs.Given.{Given, Named, SomeGiven};
 use calls::Answer;
-use classes::pair_classes;
-use distinguish::blank;
+use classes::name_classes;
 use fields::transition_count;
+use format::BYTE_VALUES;
 use format::HEAD_BYTES;
 use format::MAX_NODES;
 use format::wide;
-use minimize::write::Made;
-use minimize::write::write;
-use pairs::product_fits;
-use partition::distinguish;
-use products::Produced;
-use products::product;
+use naming::classes_of;
+use naming::name_all;
+use naming::uses_of;
+use pairs::Pairs;
+use pairs::count_pairs;
+use quotient::keep;
+use quotient::table_fits;
+use rebuilding::replace;
 use subtrees::Subtrees;
 use subtrees::collect;
 
@@ -49,42 +49,138 @@ fn clear(scratch: &mut [u8])
     }
 }
 
-// Writes the minimal automaton of the transitions to a table; if the table cannot hold it, leaves the table as it is.
-fn minimize(
-    transitions: &mut [u8],
+// The names of the subtrees after the change.
+fn name(
+    table: &[u8],
     count: usize,
-    classes: &[u8],
     n: usize,
-    table: &mut [u8],
-) -> Made
-    requires { ⌜ Viewed (now classes) (now transitions) n count ⌝ }
-    requires { ⌜ rising (transitionsIn (now transitions) count) ≡ true ⌝ }
-    requires { ⌜ length (now table) ≡ tableBytes ⌝ }
-    ensures { λ r. ⌜ r ≡ madeOf (minimal (viewed (now (classes .entry)) (now (transitions .entry)) n count)) ⌝ }
-    ensures { λ _. ⌜ now (table .exit) ≡
-        writtenTo (minimal (viewed (now (classes .entry)) (now (transitions .entry)) n count)) (now (table .entry)) ⌝ }
-    ensures { λ r. ⌜ MadeFits r ⌝ }
+    s: Subtrees,
+    p: Pairs,
+    inserting: bool,
+) -> [u8; MAX_NODES]
+    requires { ⌜ SomeGiven (now table) count n s ⌝ }
+    ensures { λ r. ⌜ ((t : Tree) → Given t (now (table .entry)) count n s →
+        PairsCounted (decode (now (table .entry))) t (p .fits) (p .opens) (p .weights) →
+        Named inserting t (now (table .entry)) count n s (p .opens) r) ⌝ }
 {
-    let mut marks = blank();
-    distinguish(classes, transitions, count, n, &mut marks);
-    write(transitions, count, classes, n, &marks, table)
+    let m = s.count;
+    let labels = s.labels;
+    let arities = s.arities;
+    let children = s.children;
+    let states = s.states;
+    let opens = p.opens;
+    let weights = p.weights;
+    let classes = classes_of(table, m, &states, wide(s.root), inserting);
+    let uses = uses_of(&table[HEAD_BYTES..], count);
+    name_all(
+        table,
+        &table[HEAD_BYTES..],
+        count,
+        n,
+        m,
+        &labels,
+        &arities,
+        &children,
+        &states,
+        &weights,
+        &classes,
+        &uses,
+        &opens,
+    )
 }
 
-// Writes the transitions of the product of an automaton and a tree into the scratch. They are counted first, so that
-// too many cost no time.
-fn produce(transitions: &[u8], count: usize, n: usize, s: Subtrees, scratch: &mut [u8]) -> Produced
-    requires { ⌜ HoldsTransitionsOver (now transitions) count n ⌝ }
-    requires { ⌜ n ≤ maxStates ⌝ }
-    requires { ⌜ Nodes (s .count) (s .labels) (s .arities) (s .children) ⌝ }
-    requires { ⌜ length (now scratch) ≡ scratchBytes ⌝ }
-    ensures { λ r. ⌜ ((A : Automaton) (t : Tree) → Holds A t (now (transitions .entry)) count n s →
-        Setting A (now (transitions .entry)) count → Answers A t n s (now (scratch .exit)) r) ⌝ }
+// Whether a table has room for the changed automaton. `sizes` has the number of kept names of each state.
+fn fits(
+    table: &[u8],
+    count: usize,
+    n: usize,
+    s: Subtrees,
+    names: &[u8; MAX_NODES],
+    opens: &[u8; BYTE_VALUES],
+    sizes: &[u8; BYTE_VALUES],
+) -> bool
+    requires { ⌜ SomeGiven (now table) count n s ⌝ }
+    ensures { λ r. ⌜ ((inserting : Bool) (t : Tree) (firsts nexts : List ℕ) →
+        Named inserting t (now (table .entry)) count n s (now (opens .entry)) (now (names .entry)) →
+        KeptAbove n (s .count) (now (opens .entry)) (s .states) (now (names .entry)) 0 firsts nexts (now (sizes .entry)) →
+        r ≡ fitsTable (changedAutomaton inserting t (decode (now (table .entry))))) ⌝ }
 {
+    let m = s.count;
+    let labels = s.labels;
+    let arities = s.arities;
+    let children = s.children;
     let states = s.states;
-    if !product_fits(transitions, count, s.count, &states) {
-        return Produced::TooMany;
+    table_fits(
+        &table[HEAD_BYTES..],
+        count,
+        n,
+        m,
+        &labels,
+        &arities,
+        &children,
+        &states,
+        names,
+        opens,
+        sizes,
+    )
+}
+
+// The answer of a change that was done, from the new table.
+fn done(table: &[u8]) -> Answer
+    requires { ⌜ length (now table) ≡ tableBytes ⌝ }
+    ensures { λ r. ⌜ r ≡ Done (stateCount (now (table .entry))) (transitionCount (now (table .entry))) ⌝ }
+{
+    let states = wide(table[0]) as u16;
+    let transitions = transition_count(table) as u16;
+    Answer::Done {
+        states: states,
+        transitions: transitions,
     }
-    product(transitions, count, n, s, scratch)
+}
+
+// Puts the tree in or takes it out once refusal 16 is past.
+fn apply(
+    table: &mut [u8],
+    scratch: &mut [u8],
+    count: usize,
+    n: usize,
+    s: Subtrees,
+    p: Pairs,
+    inserting: bool,
+) -> Answer
+    requires { ⌜ SomeGiven (now table) count n s ⌝ }
+    requires { ⌜ length (now scratch) ≡ scratchBytes ⌝ }
+    requires { ⌜ p .fits ≡ true ⌝ }
+    requires { ⌜ ((t : Tree) → Given t (now table) count n s →
+        PairsCounted (decode (now table)) t (p .fits) (p .opens) (p .weights)) ⌝ }
+    ensures { λ r. ⌜ ((t : Tree) → Given t (now (table .entry)) count n s →
+        Worked (changeOf inserting t) (now (table .entry)) (now (table .exit)) r) ⌝ }
+{
+    let m = s.count;
+    let states = s.states;
+    let opens = p.opens;
+    let names = name(table, count, n, s, p, inserting);
+    let kept = keep(n, m, &opens, &states, &names);
+    let firsts = kept.firsts;
+    let nexts = kept.nexts;
+    let sizes = kept.sizes;
+    if !fits(table, count, n, s, &names, &opens, &sizes) {
+        return Answer::Refused { number: 17 };
+    }
+    let own = n + wide(s.root);
+    let classes = name_classes(table, n, m, &states, own, inserting);
+    replace(
+        table,
+        scratch,
+        count,
+        n,
+        s,
+        &names,
+        &firsts,
+        &nexts,
+        &classes,
+    );
+    done(table)
 }
 
 // Puts the tree in or takes it out, and leaves anything in the scratch. `reached` has the states of the tree's nodes.
@@ -105,27 +201,12 @@ fn work(
     let n = wide(table[0]);
     let count = transition_count(table);
     let s = collect(tree, reached);
-    let m = s.count;
-    let own = n + wide(s.root);
     let states = s.states;
-    let Produced::Transitions { count: made } = produce(&table[HEAD_BYTES..], count, n, s, scratch)
-    else {
+    let p = count_pairs(&table[HEAD_BYTES..], count, s.count, &states);
+    if !p.fits {
         return Answer::Refused { number: 16 };
-    };
-    let classes = pair_classes(table, n, m, &states, own, inserting);
-    let Made::Table {
-        states: left,
-        transitions,
-    } = minimize(scratch, made, &classes, n + m, table)
-    else {
-        return Answer::Refused { number: 17 };
-    };
-    let new_states = left as u16;
-    let new_transitions = transitions as u16;
-    Answer::Done {
-        states: new_states,
-        transitions: new_transitions,
     }
+    apply(table, scratch, count, n, s, p, inserting)
 }
 
 // Puts the tree in or takes it out. `reached` has the states of the tree's nodes. The scratch is all zeros after that.

@@ -1,11 +1,11 @@
--- `change::work` meets its contract: the product in the scratch with the classes of its pairs is the changed automaton.
-use Rattle.minimize.specs.declared.write.Made.the-variants.{Table, TooBig}
+-- `change::work` meets its contract: refusal 16 by counting, then the change by names.
 use native.Mathlib.Omega.{arith}
-use Rattle.products.proofs.Joining.{lists-nodes}
+use borrow.Author.Tests.{not-false, not-true}
 use Rattle.table.specs.Layout.{decode}
 use Rattle.trees.specs.Listing.{readTree}
-use Rattle.change.proofs.Inputs.{given, passed-size}
-use Rattle.change.proofs.Answering.{given-16, given-holding, given-made, given-view, made-few}
+use Rattle.change.proofs.Answering.{worked-16}
+use Rattle.change.proofs.Inputs.{given, given-over, given-setting, passed-size}
+use Rattle.change.proofs.SubtreeStates.{states-counted}
 use borrow.Author.Needs.{needs}
 use Rattle.change.proofs.work.Statement.{statement}
 use Rattle.change.proofs.work.Tie as tie
@@ -13,7 +13,7 @@ use Rattle.change.proofs.work.Tie as tie
 slice-read-wide : tie.Need-slice-read-wide
 slice-read-wide c =
     let start = c .before .before .before .before in
-    omega (arith, passed-size (start .args .table .now) (start .pre .1 .1 .0))
+    omega (arith, (passed-size (start .args .table .now) (start .pre .1 .1 .0)))
 
 wide-requires : tie.Need-wide-requires
 wide-requires c κs = search needs
@@ -21,212 +21,108 @@ wide-requires c κs = search needs
 transition-count-requires : tie.Need-transition-count-requires
 transition-count-requires c κs =
     let start = c .before .before .before .before .before .before in
-    passed-size (start .args .table .now) (start .pre .1 .1 .0)
+    (passed-size (start .args .table .now) (start .pre .1 .1 .0))
 
 collect-requires : tie.Need-collect-requires
-collect-requires c κs =
-    let start = c .before .before .before .before .before .before .before in
-    (start .pre .0, (decode (start .args .table .now), start .pre .1 .0))
+collect-requires c κs = search needs
 
-wide-requires-2 : tie.Need-wide-requires-2
-wide-requires-2 c κs = search needs
+sub-count-pairs : tie.Need-sub-count-pairs
+sub-count-pairs c =
+    let start = c .before .before .before .before .before .before .before .before .before in
+    omega (arith, (passed-size (start .args .table .now) (start .pre .1 .1 .0)))
 
-add-own : tie.Need-add-own
-add-own c =
-    let at-collect = c .before in
-    let at-count = at-collect .before in
-    let at-wide = at-count .before .before in
-    let known = at-wide .before .before .before .before in
-    let start = known .before in
-    let A = decode (start .args .table .now) in
-    let g = given (start .args .tree .now) (start .args .table .now) (start .pre .0) (start .pre .1 .1 .0)
-    (λ i. known .shared-slice-known .given i .fits) (at-count .transition-count .result) (at-wide .wide .result)
-    (at-count .transition-count .ensures .0) (at-wide .wide .ensures) (at-collect .collect .result)
-    (at-collect .collect .ensures A (start .pre .1 .0)) in
-    omega (arith, g .table .few, c .wide2 .ensures, g .holds .lists .root-known, g .holds .lists .few)
-
-sub-produce : tie.Need-sub-produce
-sub-produce c =
+part-count-pairs-start : tie.Need-part-count-pairs-start
+part-count-pairs-start c =
     let start = c .before .before .before .before .before .before .before .before .before .before in
-    omega (arith, passed-size (start .args .table .now) (start .pre .1 .1 .0))
+    omega (arith, (passed-size (start .args .table .now) (start .pre .1 .1 .0)))
 
-part-produce-start : tie.Need-part-produce-start
-part-produce-start c =
-    let start = c .before .before .before .before .before .before .before .before .before .before .before in
-    omega (arith, passed-size (start .args .table .now) (start .pre .1 .1 .0))
+part-count-pairs-end : tie.Need-part-count-pairs-end
+part-count-pairs-end c = search needs
 
-part-produce-end : tie.Need-part-produce-end
-part-produce-end c = search needs
-
-produce-requires : tie.Need-produce-requires
-produce-requires c κs =
-    let at-collect = c .before .before .before .before .before in
-    let at-count = at-collect .before in
-    let at-wide = at-count .before .before in
-    let known = at-wide .before .before .before .before in
-    let start = known .before in
-    let A = decode (start .args .table .now) in
-    let g = given (start .args .tree .now) (start .args .table .now) (start .pre .0) (start .pre .1 .1 .0)
-    (λ i. known .shared-slice-known .given i .fits) (at-count .transition-count .result) (at-wide .wide .result)
-    (at-count .transition-count .ensures .0) (at-wide .wide .ensures) (at-collect .collect .result)
-    (at-collect .collect .ensures A (start .pre .1 .0)) in
-    (g .table .over, (g .table .few, (lists-nodes (g .holds .lists), start .pre .1 .1 .1)))
-
-enum-known-made : tie.Need-enum-known-made
-enum-known-made c = search needs
-
-enum-told : tie.Need-enum-told
-enum-told c = search needs
+count-pairs-requires : tie.Need-count-pairs-requires
+count-pairs-requires c κs =
+    let at-collect = c .before .before .before .before in
+    let at-transition-count = at-collect .before in
+    let at-wide = at-transition-count .before .before in
+    let at-slice-known = at-wide .before .before .before in
+    let at-shared-slice-known = at-slice-known .before in
+    let start = at-shared-slice-known .before in
+    let g = (given (start .args .tree .now) (start .args .table .now) (start .pre .0) (start .pre .1 .1 .0) (λ i.
+    (at-shared-slice-known .shared-slice-known) .given i .fits) (λ i. (at-slice-known .slice-known) .given i .fits)
+    (at-transition-count .transition-count .result) (at-wide .wide .result) (at-transition-count .transition-count
+    .ensures .0) (at-wide .wide .ensures) (at-collect .collect .result) (at-collect .collect .ensures (decode
+    (start .args .table .now)) (start .pre .1 .0))) in (given-over g .runs, g .lists .few)
 
 same-length : tie.Need-same-length
 same-length c = search needs
 
-same-length-2 : tie.Need-same-length-2
-same-length-2 c = search needs
-
 returns : tie.Need-returns
 returns c =
-    let at-produce = c .before .before .before .before in
-    let at-collect = c .before .before .before .before .before .before .before .before .before .before in
-    let at-count = at-collect .before in
-    let at-wide = at-count .before .before in
-    let known = at-wide .before .before .before .before in
-    let start = known .before in
-    let A = decode (start .args .table .now) in
-    let g = given (start .args .tree .now) (start .args .table .now) (start .pre .0) (start .pre .1 .1 .0)
-    (λ i. known .shared-slice-known .given i .fits) (at-count .transition-count .result) (at-wide .wide .result)
-    (at-count .transition-count .ensures .0) (at-wide .wide .ensures) (at-collect .collect .result)
-    (at-collect .collect .ensures A (start .pre .1 .0)) in
-    given-16 g (at-produce .produce .last .1 .1 .1 .1 .0) (at-produce .produce .result)
-    (at-produce .produce .ensures A (readTree (start .args .tree .now)) (g .holds) (g .table .setting)) (c .enum-told .given .1)
-    (start .args .inserting)
+    let at-count-pairs = c .before .before in
+    let at-collect = at-count-pairs .before .before .before .before .before in
+    let at-transition-count = at-collect .before in
+    let at-wide = at-transition-count .before .before in
+    let at-slice-known = at-wide .before .before .before in
+    let at-shared-slice-known = at-slice-known .before in
+    let start = at-shared-slice-known .before in
+    let g = (given (start .args .tree .now) (start .args .table .now) (start .pre .0) (start .pre .1 .1 .0) (λ i.
+    (at-shared-slice-known .shared-slice-known) .given i .fits) (λ i. (at-slice-known .slice-known) .given i .fits)
+    (at-transition-count .transition-count .result) (at-wide .wide .result) (at-transition-count .transition-count
+    .ensures .0) (at-wide .wide .ensures) (at-collect .collect .result) (at-collect .collect .ensures (decode
+    (start .args .table .now)) (start .pre .1 .0))) in worked-16 (start .args .inserting) (readTree (start .args
+    .tree .now)) (start .args .table .now) (at-count-pairs .count-pairs .ensures (decode (start .args .table .now))
+    (readTree (start .args .tree .now)) (given-setting g) (states-counted (g .lists))) (not-true _ (c .if1 .taken))
 
-pair-classes-requires : tie.Need-pair-classes-requires
-pair-classes-requires c κs =
-    let at-collect = c .before .before .before .before .before .before .before .before .before .before .before .before .before in
-    let at-count = at-collect .before in
-    let at-wide = at-count .before .before in
-    let known = at-wide .before .before .before .before in
-    let start = known .before in
-    let A = decode (start .args .table .now) in
-    let g = given (start .args .tree .now) (start .args .table .now) (start .pre .0) (start .pre .1 .1 .0)
-    (λ i. known .shared-slice-known .given i .fits) (at-count .transition-count .result) (at-wide .wide .result)
-    (at-count .transition-count .ensures .0) (at-wide .wide .ensures) (at-collect .collect .result)
-    (at-collect .collect .ensures A (start .pre .1 .0)) in
-    (passed-size (start .args .table .now) (start .pre .1 .1 .0), (g .table .few, g .holds .lists .few))
+apply-requires : tie.Need-apply-requires
+apply-requires c κs =
+    let at-if1 = c .before .before in
+    let at-count-pairs = at-if1 .before .before in
+    let at-collect = at-count-pairs .before .before .before .before .before in
+    let at-transition-count = at-collect .before in
+    let at-wide = at-transition-count .before .before in
+    let at-slice-known = at-wide .before .before .before in
+    let at-shared-slice-known = at-slice-known .before in
+    let start = at-shared-slice-known .before in (
+      (
+        (readTree (start .args .tree .now)),
+        (given (start .args .tree .now) (start .args .table .now) (start .pre
+            .0) (start .pre .1 .1 .0) (λ i. (at-shared-slice-known .shared-slice-known) .given i .fits) (λ i.
+            (at-slice-known .slice-known) .given i .fits) (at-transition-count .transition-count .result) (at-wide .wide
+            .result) (at-transition-count .transition-count .ensures .0) (at-wide .wide .ensures) (at-collect .collect
+            .result) (at-collect .collect .ensures (decode (start .args .table .now)) (start .pre .1 .0))),
+      ),
+      (
+        start .pre .1
+            .1 .1,
+        (
+          not-false _ (at-if1 .if1 .left),
+          λ t h. (at-count-pairs .count-pairs) .ensures (decode (start .args
+              .table .now)) t (given-setting h) (states-counted (h .lists)),
+        ),
+      ),
+    )
 
-slice-aggregate-minimize : tie.Need-slice-aggregate-minimize
-slice-aggregate-minimize c = search needs
-
-add-minimize : tie.Need-add-minimize
-add-minimize c =
-    let at-collect = c .before .before .before .before .before .before .before .before .before .before .before .before .before .before .before .before in
-    let at-count = at-collect .before in
-    let at-wide = at-count .before .before in
-    let known = at-wide .before .before .before .before in
-    let start = known .before in
-    let A = decode (start .args .table .now) in
-    let g = given (start .args .tree .now) (start .args .table .now) (start .pre .0) (start .pre .1 .1 .0)
-    (λ i. known .shared-slice-known .given i .fits) (at-count .transition-count .result) (at-wide .wide .result)
-    (at-count .transition-count .ensures .0) (at-wide .wide .ensures) (at-collect .collect .result)
-    (at-collect .collect .ensures A (start .pre .1 .0)) in
-    omega (arith, g .table .few, g .holds .lists .few)
-
-minimize-requires : tie.Need-minimize-requires
-minimize-requires c κs =
-    let at-pair-classes = c .before .before .before in
-    let at-made = at-pair-classes .before .before .before .before in
-    let at-produce = at-made .before .before .before .before in
-    let at-wide2 = at-produce .before .before .before .before .before in
-    let at-collect = at-wide2 .before in
-    let at-count = at-collect .before in
-    let at-wide = at-count .before .before in
-    let known = at-wide .before .before .before .before in
-    let start = known .before in
-    let A = decode (start .args .table .now) in
-    let g = given (start .args .tree .now) (start .args .table .now) (start .pre .0) (start .pre .1 .1 .0)
-    (λ i. known .shared-slice-known .given i .fits) (at-count .transition-count .result) (at-wide .wide .result)
-    (at-count .transition-count .ensures .0) (at-wide .wide .ensures) (at-collect .collect .result)
-    (at-collect .collect .ensures A (start .pre .1 .0)) in
-    let h = given-holding g (at-produce .produce .last .1 .1 .1 .1 .0) (at-produce .produce .result)
-    (at-produce .produce .ensures A (readTree (start .args .tree .now)) (g .holds) (g .table .setting)) (at-made .made .given .1) in
-    let v = given-view g h (at-wide2 .wide2 .ensures) (start .args .inserting) (at-pair-classes .pair-classes .ensures) in
-    (v .0, (v .1, g .table .size))
-
-enum-known-left : tie.Need-enum-known-left
-enum-known-left c = search needs
-
-enum-told-2 : tie.Need-enum-told-2
-enum-told-2 c = search needs
+same-length-2 : tie.Need-same-length-2
+same-length-2 c = search needs
 
 same-length-3 : tie.Need-same-length-3
 same-length-3 c = search needs
 
-same-length-4 : tie.Need-same-length-4
-same-length-4 c = search needs
-
 returns-2 : tie.Need-returns-2
 returns-2 c =
-    let at-minimize = c .before .before .before .before .before .before in
-    let at-pair-classes = c .before .before .before .before .before .before .before .before .before .before in
-    let at-made = at-pair-classes .before .before .before .before in
-    let at-produce = at-made .before .before .before .before in
-    let at-wide2 = at-produce .before .before .before .before .before in
-    let at-collect = at-wide2 .before in
-    let at-count = at-collect .before in
-    let at-wide = at-count .before .before in
-    let known = at-wide .before .before .before .before in
-    let start = known .before in
-    let A = decode (start .args .table .now) in
-    let g = given (start .args .tree .now) (start .args .table .now) (start .pre .0) (start .pre .1 .1 .0)
-    (λ i. known .shared-slice-known .given i .fits) (at-count .transition-count .result) (at-wide .wide .result)
-    (at-count .transition-count .ensures .0) (at-wide .wide .ensures) (at-collect .collect .result)
-    (at-collect .collect .ensures A (start .pre .1 .0)) in
-    let h = given-holding g (at-produce .produce .last .1 .1 .1 .1 .0) (at-produce .produce .result)
-    (at-produce .produce .ensures A (readTree (start .args .tree .now)) (g .holds) (g .table .setting)) (at-made .made .given .1) in
-    given-made g h (at-wide2 .wide2 .ensures) (start .args .inserting) (at-pair-classes .pair-classes .ensures)
-    (at-minimize .minimize .ensures .0) (at-minimize .minimize .ensures .1 .0) TooBig (c .enum-told2 .given .1)
-
-cast-new-states : tie.Need-cast-new-states
-cast-new-states c =
-    let at-minimize = c .before .before .before .before .before .before .before in
-    let few = made-few (at-minimize .minimize .ensures .1 .1) (c .before .left .given .1) in
-    omega (arith, few .0)
-
-cast-new-transitions : tie.Need-cast-new-transitions
-cast-new-transitions c =
-    let at-minimize = c .before .before .before .before .before .before .before in
-    let few = made-few (at-minimize .minimize .ensures .1 .1) (c .before .left .given .1) in
-    omega (arith, few .1)
-
-same-length-5 : tie.Need-same-length-5
-same-length-5 c = search needs
-
-same-length-6 : tie.Need-same-length-6
-same-length-6 c = search needs
-
-returns-3 : tie.Need-returns-3
-returns-3 c =
-    let at-minimize = c .before .before .before .before .before .before .before in
-    let at-pair-classes = c .before .before .before .before .before .before .before .before .before .before .before in
-    let at-made = at-pair-classes .before .before .before .before in
-    let at-produce = at-made .before .before .before .before in
-    let at-wide2 = at-produce .before .before .before .before .before in
-    let at-collect = at-wide2 .before in
-    let at-count = at-collect .before in
-    let at-wide = at-count .before .before in
-    let known = at-wide .before .before .before .before in
-    let start = known .before in
-    let A = decode (start .args .table .now) in
-    let g = given (start .args .tree .now) (start .args .table .now) (start .pre .0) (start .pre .1 .1 .0)
-    (λ i. known .shared-slice-known .given i .fits) (at-count .transition-count .result) (at-wide .wide .result)
-    (at-count .transition-count .ensures .0) (at-wide .wide .ensures) (at-collect .collect .result)
-    (at-collect .collect .ensures A (start .pre .1 .0)) in
-    let h = given-holding g (at-produce .produce .last .1 .1 .1 .1 .0) (at-produce .produce .result)
-    (at-produce .produce .ensures A (readTree (start .args .tree .now)) (g .holds) (g .table .setting)) (at-made .made .given .1) in
-    given-made g h (at-wide2 .wide2 .ensures) (start .args .inserting) (at-pair-classes .pair-classes .ensures)
-    (at-minimize .minimize .ensures .0) (at-minimize .minimize .ensures .1 .0)
-    (Table (c .before .left .given .0 .0) (c .before .left .given .0 .1 .0)) (c .before .left .given .1)
+    let at-apply = c .before .before .before .before in
+    let at-collect = at-apply .before .before .before .before .before .before .before .before .before .before in
+    let at-transition-count = at-collect .before in
+    let at-wide = at-transition-count .before .before in
+    let at-slice-known = at-wide .before .before .before in
+    let at-shared-slice-known = at-slice-known .before in
+    let start = at-shared-slice-known .before in
+    at-apply .apply .ensures (readTree (start .args .tree .now)) (given (start .args .tree .now) (start .args
+    .table .now) (start .pre .0) (start .pre .1 .1 .0) (λ i. (at-shared-slice-known .shared-slice-known) .given i
+    .fits) (λ i. (at-slice-known .slice-known) .given i .fits) (at-transition-count .transition-count .result)
+    (at-wide .wide .result) (at-transition-count .transition-count .ensures .0) (at-wide .wide .ensures)
+    (at-collect .collect .result) (at-collect .collect .ensures (decode (start .args .table .now)) (start .pre .1
+    .0)))
 
 pub work-spec : {M : Type 1} → statement M
 work-spec =
@@ -236,28 +132,13 @@ work-spec =
     wide-requires
     transition-count-requires
     collect-requires
-    wide-requires-2
-    add-own
-    sub-produce
-    part-produce-start
-    part-produce-end
-    produce-requires
-    enum-known-made
-    enum-told
+    sub-count-pairs
+    part-count-pairs-start
+    part-count-pairs-end
+    count-pairs-requires
     same-length
-    same-length-2
     returns
-    pair-classes-requires
-    slice-aggregate-minimize
-    add-minimize
-    minimize-requires
-    enum-known-left
-    enum-told-2
+    apply-requires
+    same-length-2
     same-length-3
-    same-length-4
-    returns-2
-    cast-new-states
-    cast-new-transitions
-    same-length-5
-    same-length-6
-    returns-3)
+    returns-2)

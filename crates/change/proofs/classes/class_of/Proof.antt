@@ -1,6 +1,6 @@
 -- `change::classes::class_of` meets its contract: the own class is given, every other is that of the state.
 use mathlib.Core.Path.{_∙_}
-use Rattle.change.proofs.Pairs.{class-own, class-none, class-some}
+use Rattle.change.proofs.Classing.{class-own, class-none, class-some}
 use borrow.Author.Needs.{needs}
 use Rattle.change.proofs.classes.class_of.Statement.{statement}
 use Rattle.change.proofs.classes.class_of.Tie as tie

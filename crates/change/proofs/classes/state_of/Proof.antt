@@ -1,7 +1,7 @@
 -- `change::classes::state_of` meets its contract: a state of the table, or that of a subtree.
 use native.Mathlib.Omega.{arith}
 use mathlib.Core.Path.{refl}
-use Rattle.change.proofs.Pairs.{state-low, state-high}
+use Rattle.change.proofs.Classing.{state-low, state-high}
 use borrow.Author.Needs.{needs}
 use Rattle.change.proofs.classes.state_of.Statement.{statement}
 use Rattle.change.proofs.classes.state_of.Tie as tie

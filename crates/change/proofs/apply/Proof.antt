@@ -1,0 +1,139 @@
+-- `change::apply` meets its contract: refusal 17 by counting, or the new table and its numbers.
+use mathlib.Core.Path.{_∙_}
+use native.Mathlib.Omega.{arith}
+use borrow.Author.Tests.{not-false, not-true}
+use Rattle.automata.specs.NamedChange.{changedAutomaton}
+use Rattle.table.specs.Layout.{decode}
+use Rattle.change.proofs.Answering.{worked-17, worked-done}
+use Rattle.change.proofs.Handing.{fitting, table-size}
+use Rattle.change.proofs.Inputs.{given-few, given-size}
+use borrow.Author.Needs.{needs}
+use Rattle.change.proofs.apply.Statement.{statement}
+use Rattle.change.proofs.apply.Tie as tie
+
+name-requires : tie.Need-name-requires
+name-requires c κs = search needs
+
+keep-requires : tie.Need-keep-requires
+keep-requires c κs =
+    let start = c .before .before .before .before .before .before .before .before .before in
+    (given-few (start .pre .0 .1), (start .pre .0 .1) .lists .few)
+
+fits-requires : tie.Need-fits-requires
+fits-requires c κs = search needs
+
+same-length : tie.Need-same-length
+same-length c = search needs
+
+returns : tie.Need-returns
+returns c =
+    let at-fits2 = c .before in
+    let at-keep = at-fits2 .before .before .before .before .before .before .before .before in
+    let at-name = at-keep .before .before .before .before in
+    let start = at-name .before .before .before .before .before .before in
+    λ t g. let P = start .pre .1 .1 .1 t g in worked-17 (start .args .inserting) t (start .args .table .now) P
+    (start .pre .1 .1 .0) (at-fits2 .fits2 .ensures (start .args .inserting) t (at-keep .keep .result .firsts)
+    (at-keep .keep .result .nexts) (at-name .name .ensures t g P) (at-keep .keep .ensures)) (not-true _ (c .if1
+    .taken))
+
+wide-requires : tie.Need-wide-requires
+wide-requires c κs = search needs
+
+add-own : tie.Need-add-own
+add-own c =
+    let start = c .before .before .before .before .before .before .before .before .before .before .before .before .before .before .before .before .before .before .before .before in
+    omega (
+      arith,
+      given-few (start .pre .0 .1),
+      c .wide .ensures,
+      (start .pre .0 .1) .lists .root-known,
+      (start
+          .pre .0 .1) .lists .few,
+    )
+
+name-classes-requires : tie.Need-name-classes-requires
+name-classes-requires c κs =
+    let start = c .before .before .before .before .before .before .before .before .before .before .before .before .before .before .before .before .before .before .before .before .before .before in
+    (given-size (start .pre .0 .1), (given-few (start .pre .0 .1), (start .pre .0 .1) .lists .few))
+
+replace-requires : tie.Need-replace-requires
+replace-requires c κs =
+    let at-name-classes = c .before .before .before .before .before .before in
+    let at-wide = at-name-classes .before .before .before in
+    let at-if1 = at-wide .before in
+    let at-fits2 = at-if1 .before in
+    let at-keep = at-fits2 .before .before .before .before .before .before .before .before in
+    let at-name = at-keep .before .before .before .before in
+    let start = at-name .before .before .before .before .before .before in
+    let t = start .pre .0 .0 in
+    let g = start .pre .0 .1 in
+    let N = at-name .name .ensures t g (start .pre .1 .1 .1 t g) in
+    let room = at-fits2 .fits2 .ensures (start .args .inserting) t (at-keep .keep .result .firsts) (at-keep .keep
+    .result .nexts) N (at-keep .keep .ensures) in
+    let F = fitting N (at-keep .keep .ensures) (at-wide .wide .ensures) (at-name-classes .name-classes .ensures) room
+    (not-false _ (at-if1 .if1 .left)) in (
+      (start .args .inserting, t, start .args .p .opens, at-name-classes .name-classes .result, F),
+      (
+        start .pre .1 .0,
+        at-name-classes .name-classes .ensures .size,
+      ),
+    )
+
+done-requires : tie.Need-done-requires
+done-requires c κs =
+    let at-replace = c .before .before .before .before .before in
+    let at-name-classes = at-replace .before .before .before .before .before .before .before in
+    let at-wide = at-name-classes .before .before .before in
+    let at-if1 = at-wide .before in
+    let at-fits2 = at-if1 .before in
+    let at-keep = at-fits2 .before .before .before .before .before .before .before .before in
+    let at-name = at-keep .before .before .before .before in
+    let start = at-name .before .before .before .before .before .before in
+    table-size (changedAutomaton (start .args .inserting) (start .pre .0 .0) (decode (start .args .table .now)))
+    (at-replace .replace .ensures (start .args .inserting) (start .pre .0 .0) (start .args .p .opens) (fitting
+    (at-name .name .ensures (start .pre .0 .0) (start .pre .0 .1) (start .pre .1 .1 .1 (start .pre .0 .0) (start
+    .pre .0 .1))) (at-keep .keep .ensures) (at-wide .wide .ensures) (at-name-classes .name-classes .ensures)
+    (at-fits2 .fits2 .ensures (start .args .inserting) (start .pre .0 .0) (at-keep .keep .result .firsts) (at-keep
+    .keep .result .nexts) (at-name .name .ensures (start .pre .0 .0) (start .pre .0 .1) (start .pre .1 .1 .1 (start
+    .pre .0 .0) (start .pre .0 .1))) (at-keep .keep .ensures)) (not-false _ (at-if1 .if1 .left))))
+
+same-length-2 : tie.Need-same-length-2
+same-length-2 c = search needs
+
+same-length-3 : tie.Need-same-length-3
+same-length-3 c = search needs
+
+returns-2 : tie.Need-returns-2
+returns-2 c =
+    let at-replace = c .before .before .before .before .before .before in
+    let at-name-classes = at-replace .before .before .before .before .before .before .before in
+    let at-wide = at-name-classes .before .before .before in
+    let at-if1 = at-wide .before in
+    let at-fits2 = at-if1 .before in
+    let at-keep = at-fits2 .before .before .before .before .before .before .before .before in
+    let at-name = at-keep .before .before .before .before in
+    let start = at-name .before .before .before .before .before .before in
+    λ t g. let P = start .pre .1 .1 .1 t g in let N = at-name .name .ensures t g P in let e = at-fits2 .fits2
+    .ensures (start .args .inserting) t (at-keep .keep .result .firsts) (at-keep .keep .result .nexts) N (at-keep
+    .keep .ensures) in let h = not-false _ (at-if1 .if1 .left) in worked-done (start .args .inserting) t (start
+    .args .table .now) P (start .pre .1 .1 .0) e h (at-replace .replace .ensures (start .args .inserting) t (start
+    .args .p .opens) (fitting N (at-keep .keep .ensures) (at-wide .wide .ensures) (at-name-classes .name-classes
+    .ensures) e h)) (c .done .ensures)
+
+pub apply-spec : {M : Type 1} → statement M
+apply-spec =
+    tie.close
+    (tie.spec
+    name-requires
+    keep-requires
+    fits-requires
+    same-length
+    returns
+    wide-requires
+    add-own
+    name-classes-requires
+    replace-requires
+    done-requires
+    same-length-2
+    same-length-3
+    returns-2)

@@ -1,0 +1,60 @@
+-- `change::classes::name_classes` meets its contract: the first classes stand at their numbers.
+use Prim.Native.Nat.{_+_, _-_, _≤_}
+use native.Mathlib.Omega.{arith}
+use Rattle.change.specs.Classes.{classOfName}
+use Rattle.change.proofs.Classing.{ClassedBelow, classed-end, classed-next, classed-start}
+use borrow.Author.Needs.{needs}
+use Rattle.change.proofs.classes.name_classes.Statement.{statement}
+use Rattle.change.proofs.classes.name_classes.Tie as tie
+
+abbrev Inv-loop : tie.InvT-loop
+Inv-loop table n m states own inserting classes₀ p₀ classes p =
+    (1 ≤ p) × (p ≤ n + m + 1) × ClassedBelow (classOfName table n states own inserting) classes p
+
+abbrev μ-loop : tie.MeasureT-loop
+μ-loop table n m states own inserting classes₀ p₀ classes p = n + m + 1 - p
+
+loop-holds : tie.Need-loop-holds Inv-loop μ-loop
+loop-holds c = (omega arith, omega arith, classed-start)
+
+add-loop : tie.Need-add-loop Inv-loop μ-loop
+add-loop c = search needs
+
+class-of-requires : tie.Need-class-of-requires Inv-loop μ-loop
+class-of-requires c κs = search needs
+
+array-write-classes : tie.Need-array-write-classes Inv-loop μ-loop
+array-write-classes c = search needs
+
+add-p : tie.Need-add-p Inv-loop μ-loop
+add-p c = search needs
+
+loop-less : tie.Need-loop-less Inv-loop μ-loop
+loop-less c = omega arith
+
+loop-again : tie.Need-loop-again Inv-loop μ-loop
+loop-again c =
+    let at-loop = c .before .before in (
+      omega arith,
+      omega arith,
+      classed-next (at-loop .loop .inv .2) (omega arith) (c .class-of .result) (c
+          .class-of .ensures),
+    )
+
+returns : tie.Need-returns Inv-loop μ-loop
+returns c = classed-end (c .before .loop .inv .2) (omega arith)
+
+pub name-classes-spec : {M : Type 1} → statement M
+name-classes-spec =
+    tie.close
+    (tie.spec
+    Inv-loop
+    μ-loop
+    loop-holds
+    add-loop
+    class-of-requires
+    array-write-classes
+    add-p
+    loop-less
+    loop-again
+    returns)

@@ -1,0 +1,54 @@
+-- What a change works on: a table that passed and a tree with its subtrees, their names after the change, and what is
+-- known once a table has room for the changed automaton.
+use mathlib.Core.Bool.{Bool, true}
+use mathlib.Core.List.{List}
+use mathlib.Core.Path.{_≡_}
+use Prim.Native.Nat.{_+_, ℕ}
+use Rattle.automata.specs.Change.{subtreeNumber}
+use Rattle.automata.specs.NamedChange.{changedAutomaton, changedSet}
+use Rattle.automata.specs.Searched.{Searched}
+use Rattle.format.specs.Format.{AllBytes}
+use Rattle.naming.specs.Choice.{nameIn}
+use Rattle.pairs.specs.Counts.{Open}
+use Rattle.quotient.specs.Kept.{Chained}
+use Rattle.subtrees.specs.Store.{Lists, bottomUp}
+use Rattle.subtrees.specs.declared.Subtrees.{Subtrees}
+use Rattle.table.specs.Intake.{fitsTable, tableRefusal}
+use Rattle.table.specs.Layout.{decode, stateCount, transitionCount}
+use Rattle.trees.specs.Legal.{Legal}
+use Rattle.trees.specs.Tree.{Tree}
+use Rattle.change.specs.Classes.{Classed, classOfName}
+
+-- the table b passed, with k transitions over n states, and r has the subtrees of the legal tree t
+pub record Given (t : Tree) (b : List ℕ) (k n : ℕ) (r : Subtrees) : Type 0 where
+  pub passed : tableRefusal b ≡ 0
+  pub bytes : AllBytes b
+  pub count : k ≡ transitionCount b
+  pub states : n ≡ stateCount b
+  pub lists : Lists (decode b) t (bottomUp t) r
+  pub legal : Legal t
+
+-- some tree does
+abbrev pub SomeGiven : List ℕ → ℕ → ℕ → Subtrees → Type 0
+SomeGiven b k n r = (t : Tree) × Given t b k n r
+
+-- o marks the open states, and the names of the subtrees in the set with the tree put in or taken out are found
+pub record Named (inserting : Bool) (t : Tree) (b : List ℕ) (k n : ℕ) (r : Subtrees) (o names : List ℕ) : Type 0 where
+  pub given : Given t b k n r
+  pub opens : Open (decode b) t o
+  pub searched : Searched (decode b) t (changedSet inserting (decode b) t) (subtreeNumber (bottomUp t))
+      (nameIn (bottomUp t) names)
+
+-- a table has room for the changed automaton; the kept names are chained, and cl has their classes
+pub record Fitting (inserting : Bool) (t : Tree) (b : List ℕ) (k n : ℕ) (r : Subtrees)
+    (o names firsts nexts cl : List ℕ) : Type 0 where
+  pub named : Named inserting t b k n r o names
+  pub chained : Chained n (r .count) o (r .states) names 0 firsts nexts
+  pub classed : Classed (classOfName b n (r .states) (n + r .root) inserting) (n + r .count) cl
+  pub fits : fitsTable (changedAutomaton inserting t (decode b)) ≡ true
+
+-- some change of some tree does
+abbrev pub SomeFitting : List ℕ → ℕ → ℕ → Subtrees → List ℕ → List ℕ → List ℕ → Type 0
+SomeFitting b k n r names firsts nexts =
+    (inserting : Bool) × (t : Tree) × (o : List ℕ) × (cl : List ℕ) ×
+    Fitting inserting t b k n r o names firsts nexts cl

@@ -1,0 +1,202 @@
+// The table of the changed set. Its transitions are made between names. If the numbers of the names are found at once they
+// are written with them; else they go through the scratch, and the numbers are found by the rule.
+ghost use mathlib.Core.Bool.{Bool, cond, false};
+ghost use mathlib.Core.List.{List};
+ghost use mathlib.Core.Path.{_≡_};
+ghost use Prim.Native.Nat.{_+_, _≤_, ℕ};
+ghost use lib.ListN.{length};
+ghost use Rattle.automata.specs.NamedChange.{changedAutomaton};
+ghost use Rattle.format.specs.Format.{byteValues, scratchBytes};
+ghost use Rattle.packed.specs.Heads.{Room};
+ghost use Rattle.table.specs.Layout.{decode, encode};
+ghost use Rattle.trees.specs.Tree.{Tree};
+ghost use Rattle.change.specs.Between.{Packed, Run};
+ghost use Rattle.change.specs.Given.{Fitting, SomeFitting};
+use format::BYTE_VALUES;
+use format::HEAD_BYTES;
+use format::MAX_NODES;
+use format::MAX_TRANSITIONS;
+use minimize::write::write;
+use numbering::rebuild;
+use numbering::write_run;
+use quotient::make;
+use subtrees::Subtrees;
+
+// No entries. A function of its own, so that no other proof computes with so many numbers.
+fn no_entries() -> [u64; MAX_TRANSITIONS] {
+    [0u64; MAX_TRANSITIONS]
+}
+
+// No links. For the same reason.
+fn no_links() -> [u16; MAX_TRANSITIONS] {
+    [0u16; MAX_TRANSITIONS]
+}
+
+// The transitions between names, as two numbers each, and how many they are.
+fn make_all(
+    table: &[u8],
+    count: usize,
+    n: usize,
+    s: Subtrees,
+    names: &[u8; MAX_NODES],
+    firsts: &[u8; BYTE_VALUES],
+    nexts: &[u8; BYTE_VALUES],
+    heads: &mut [u64; MAX_TRANSITIONS],
+    args: &mut [u64; MAX_TRANSITIONS],
+) -> usize
+    requires { ⌜ SomeFitting (now table) count n s (now names) (now firsts) (now nexts) ⌝ }
+    requires { ⌜ Room (now heads) (now args) ⌝ }
+    ensures { λ r. ⌜ ((inserting : Bool) (t : Tree) (o cl : List ℕ) → Fitting inserting t (now (table .entry)) count n s o
+        (now (names .entry)) (now (firsts .entry)) (now (nexts .entry)) cl →
+        Packed t (now (table .entry)) (now (names .entry)) (now (heads .exit)) (now (args .exit)) r) ⌝ }
+{
+    let m = s.count;
+    let labels = s.labels;
+    let arities = s.arities;
+    let children = s.children;
+    let states = s.states;
+    make(
+        &table[HEAD_BYTES..],
+        count,
+        n,
+        m,
+        &labels,
+        &arities,
+        &children,
+        &states,
+        names,
+        firsts,
+        nexts,
+        heads,
+        args,
+    )
+}
+
+// Writes the new table if the numbers of the names are found at once; else leaves the table as it is.
+fn rebuild_table(
+    table: &mut [u8],
+    count: usize,
+    n: usize,
+    s: Subtrees,
+    names: &[u8; MAX_NODES],
+    firsts: &[u8; BYTE_VALUES],
+    nexts: &[u8; BYTE_VALUES],
+    classes: &[u8; BYTE_VALUES],
+) -> bool
+    requires { ⌜ SomeFitting (now table) count n s (now names) (now firsts) (now nexts) ⌝ }
+    requires { ⌜ length (now classes) ≡ byteValues ⌝ }
+    ensures { λ r. ⌜ ((inserting : Bool) (t : Tree) (o : List ℕ) → Fitting inserting t (now (table .entry)) count n s o
+        (now (names .entry)) (now (firsts .entry)) (now (nexts .entry)) (now (classes .entry)) →
+        now (table .exit) ≡ cond r (encode (changedAutomaton inserting t (decode (now (table .entry)))))
+        (now (table .entry))) ⌝ }
+    ensures { λ r. ⌜ (r ≡ false → now (table .exit) ≡ now (table .entry)) ⌝ }
+{
+    let mut heads = no_entries();
+    let mut args = no_entries();
+    let mut room = no_entries();
+    let mut spare = no_entries();
+    let mut next = no_links();
+    let made = make_all(
+        table,
+        count,
+        n,
+        s,
+        names,
+        firsts,
+        nexts,
+        &mut heads,
+        &mut args,
+    );
+    rebuild(
+        &mut heads,
+        &mut args,
+        made,
+        &mut room,
+        &mut spare,
+        &mut next,
+        classes,
+        table,
+    )
+}
+
+// Writes the transitions between names into the scratch. Returns how many they are.
+fn write_scratch(
+    table: &[u8],
+    count: usize,
+    n: usize,
+    s: Subtrees,
+    names: &[u8; MAX_NODES],
+    firsts: &[u8; BYTE_VALUES],
+    nexts: &[u8; BYTE_VALUES],
+    scratch: &mut [u8],
+) -> usize
+    requires { ⌜ SomeFitting (now table) count n s (now names) (now firsts) (now nexts) ⌝ }
+    requires { ⌜ length (now scratch) ≡ scratchBytes ⌝ }
+    ensures { λ r. ⌜ ((inserting : Bool) (t : Tree) (o cl : List ℕ) → Fitting inserting t (now (table .entry)) count n s o
+        (now (names .entry)) (now (firsts .entry)) (now (nexts .entry)) cl →
+        Run t (now (table .entry)) (now (names .entry)) (now (scratch .exit)) r (n + s .count)) ⌝ }
+{
+    let mut heads = no_entries();
+    let mut args = no_entries();
+    let made = make_all(
+        table,
+        count,
+        n,
+        s,
+        names,
+        firsts,
+        nexts,
+        &mut heads,
+        &mut args,
+    );
+    write_run(scratch, 0, &heads, &args, made);
+    made
+}
+
+// Writes the new table through the scratch.
+fn renumber_table(
+    table: &mut [u8],
+    scratch: &mut [u8],
+    count: usize,
+    n: usize,
+    s: Subtrees,
+    names: &[u8; MAX_NODES],
+    firsts: &[u8; BYTE_VALUES],
+    nexts: &[u8; BYTE_VALUES],
+    classes: &[u8; BYTE_VALUES],
+)
+    requires { ⌜ SomeFitting (now table) count n s (now names) (now firsts) (now nexts) ⌝ }
+    requires { ⌜ length (now scratch) ≡ scratchBytes ⌝ }
+    ensures { λ _. ⌜ ((inserting : Bool) (t : Tree) (o : List ℕ) → Fitting inserting t (now (table .entry)) count n s o
+        (now (names .entry)) (now (firsts .entry)) (now (nexts .entry)) (now (classes .entry)) →
+        now (table .exit) ≡ encode (changedAutomaton inserting t (decode (now (table .entry))))) ⌝ }
+{
+    let m = s.count;
+    let made = write_scratch(table, count, n, s, names, firsts, nexts, scratch);
+    write(scratch, made, classes, n + m, table);
+}
+
+// Writes the new table.
+pub fn replace(
+    table: &mut [u8],
+    scratch: &mut [u8],
+    count: usize,
+    n: usize,
+    s: Subtrees,
+    names: &[u8; MAX_NODES],
+    firsts: &[u8; BYTE_VALUES],
+    nexts: &[u8; BYTE_VALUES],
+    classes: &[u8; BYTE_VALUES],
+)
+    requires { ⌜ SomeFitting (now table) count n s (now names) (now firsts) (now nexts) ⌝ }
+    requires { ⌜ length (now scratch) ≡ scratchBytes ⌝ }
+    requires { ⌜ length (now classes) ≡ byteValues ⌝ }
+    ensures { λ _. ⌜ ((inserting : Bool) (t : Tree) (o : List ℕ) → Fitting inserting t (now (table .entry)) count n s o
+        (now (names .entry)) (now (firsts .entry)) (now (nexts .entry)) (now (classes .entry)) →
+        now (table .exit) ≡ encode (changedAutomaton inserting t (decode (now (table .entry))))) ⌝ }
+{
+    if rebuild_table(table, count, n, s, names, firsts, nexts, classes) {
+        return;
+    }
+    renumber_table(table, scratch, count, n, s, names, firsts, nexts, classes);
+}
