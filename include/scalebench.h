@@ -67,7 +67,8 @@ extern "C" {
 
 /*
  * The stack that a call takes at most: add and remove; ask and intake; total, rank and unrank; read. Measured on x86-64
- * (95, 14, 31 and 38 KiB) and rounded up by about a fifth. tests/stack.c makes the calls on stacks of these sizes.
+ * (59, 15, 31 and 38 KiB) and rounded up; for add and remove by more, because they have a way that no known table takes.
+ * tests/stack.c makes the calls on stacks of these sizes.
  */
 #define SCALEBENCH_CHANGE_STACK_BYTES 122880
 #define SCALEBENCH_ASK_STACK_BYTES 16384
