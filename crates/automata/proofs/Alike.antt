@@ -63,10 +63,3 @@ module _ (A : Automaton) (fit : Fits A) (t : Tree) (S : Tree → Bool) (N : Tree
       agreeing A fit t F siblings (run A u) (run A v) (S u) (S v) (λ f. N (fill f u)) (λ f. N (fill f v)) first second,
       agreed A fit t F siblings (run A u) (run A v) (S u) (S v) (λ f. N (fill f u)) (λ f. N (fill f v)) first second,
     )
-
-    pub unlike-subtree : likeSubtree A t S N u v ≡ false →
-        (S u ≢ S v) ⊎ ((f : Frame) × (N (fill f u) ≢ N (fill f v)))
-    unfolding likeSubtree
-    unlike-subtree =
-        differing A fit t F siblings (run A u) (run A v) (S u) (S v) (λ f. N (fill f u)) (λ f. N (fill f v)) first
-        second

@@ -21,8 +21,7 @@ use Rattle.trees.specs.Tree.{Tree, node}
 use Rattle.automata.proofs.Accessible.{forest}
 use Rattle.automata.proofs.Steps.{Taken, step-view}
 use Rattle.lists.proofs.Closure.{closed, closure-all}
-use Rattle.lists.proofs.Distinct.{grid-in}
-use Rattle.lists.proofs.Positions.{eqPair-same, eqPair-true, in-grid, in-upFrom, upFrom-in}
+use Rattle.lists.proofs.Positions.{eqPair-same, eqPair-true, in-grid, in-upFrom}
 use Rattle.lists.proofs.Tests.{any-in, append-in, every-in, in-any, in-append-left, in-append-right, in-map, map-in}
 use Rattle.lists.proofs.Tests.{or-cases, or-left, or-right}
 
@@ -79,13 +78,6 @@ differs true true h = absurd (h refl)
 differs true false h = refl
 differs false true h = refl
 differs false false h = absurd (h refl)
-
--- the two of a pair are states, or 0
-pub pairs-in : (A : Automaton) (k : Pair) → k ∈ pairs A → (k .0 ≤ states A) × (k .1 ≤ states A)
-pairs-in A k i = let g = grid-in (upFrom 0 (suc (states A))) (upFrom 0 (suc (states A))) k i in (
-  omega (arith, upFrom-in 0 (suc (states A)) (k .0) (g .0)),
-  omega (arith, upFrom-in 0 (suc (states A)) (k .1) (g .1)),
-)
 
 module _ (A : Automaton) where
   -- every argument of a transition has a tree

@@ -16,7 +16,7 @@ use Rattle.lists.specs.Closure.{elem}
 use Rattle.lists.specs.Tests.{Distinct, _∈_, sameList}
 use Rattle.trees.specs.Context.{Frame, fill}
 use Rattle.trees.specs.Tree.{AllTrees, Forest, Tree, _⧺_, cons, eqForest, eqTree, nil, node}
-use Rattle.automata.proofs.Names.{in-subtree, other-in, subtree-in}
+use Rattle.automata.proofs.Names.{subtree-in}
 use Rattle.automata.proofs.Change.{subtrees-closed}
 use Rattle.automata.proofs.Nodes.{concatMap-in, in-concatMap}
 use Rattle.automata.proofs.Steps.{run-fill}

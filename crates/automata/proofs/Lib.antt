@@ -31,7 +31,6 @@ pub mod ProductLaws
 pub mod ProductBound
 pub mod ProductCounted
 pub mod ProductView
-pub mod ProductViewCount
 pub mod Leads
 pub mod Useless
 pub mod ConditionLaws

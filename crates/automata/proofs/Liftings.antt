@@ -22,7 +22,6 @@ use Rattle.lists.specs.Tests.{Distinct, _∈_}
 use Rattle.trees.specs.Context.{Frame}
 use Rattle.trees.specs.Listing.{firstTrees, laterTrees}
 use Rattle.trees.specs.Tree.{Forest, _⧺_, Tree, cons, nil}
-use Rattle.automata.proofs.Distinguishable.{slot}
 use Rattle.automata.proofs.Frames.{eqFrame-same, eqFrame-true, eqSlot-same, eqSlot-true, in-once, once-distinct}
 use Rattle.automata.proofs.Frames.{once-in}
 use Rattle.automata.proofs.Legal.{runs-count}

@@ -13,8 +13,6 @@ use Rattle.automata.specs.Canonical.{Canonical, Equivalent, Occurs, Subt
 use Rattle.automata.specs.ContextRun.{runContext}
 use Rattle.automata.specs.Distinguishable.{distinguishable, distinguishablePairs}
 use Rattle.automata.specs.Minimal.{first, merge, minimal, quotient, representative}
-use Rattle.automata.specs.Order.{rising}
-use Rattle.automata.specs.Renumber.{renumber}
 use Rattle.lists.specs.Closure.{elem}
 use Rattle.lists.specs.Positions.{eqPair, upFrom}
 use Rattle.lists.specs.Tests.{_∈_, filter}
@@ -22,8 +20,7 @@ use Rattle.trees.specs.Context.{Context}
 use Rattle.trees.specs.Tree.{Forest, Tree, cons, nil, node}
 use Rattle.automata.proofs.Accessible.{forest}
 use Rattle.automata.proofs.Distinguishable.{distinguishable-separated, run-fits, separated-distinguishable}
-use Rattle.automata.proofs.Numbering.{Exhausted, Opened-each}
-use Rattle.automata.proofs.Renumbered.{Grouping, grouping-same, ordered-canonical, renumbered-canonical}
+use Rattle.automata.proofs.Renumbered.{Grouping, renumbered-canonical}
 use Rattle.automata.proofs.Steps.{Taken, run-plug, runContext-zero, step-view}
 use Rattle.lists.proofs.Positions.{in-upFrom, upFrom-in}
 use Rattle.lists.proofs.Tests.{filter-in, in-filter, in-map, map-in}
@@ -220,20 +217,6 @@ module _ (A : Automaton) (fit : Fits A)
   group-accepting : (t : Tree) → Subtree S t → accepting A (groupOf t) ≡ S t
   unfolding EquivalentStates groupOf r
   group-accepting t p = sym (representative-equivalent (run A t) (run-fits A fit t) [])
-
-  -- any order of the representatives by the rule, and any sorted list of their transitions, from any list
-  -- with the members of the quotient
-  pub same-quotient-canonical : (R : List Transition) →
-      ((τ : Transition) → τ ∈ quotient A (distinguishablePairs A) → τ ∈ R) →
-      ((τ : Transition) → τ ∈ R → τ ∈ quotient A (distinguishablePairs A)) → (O : List ℕ) →
-      Opened-each R O → Exhausted R O → (L : List Transition) → rising L ≡ true →
-      ((τ : Transition) → τ ∈ L → τ ∈ map (renumber O) R) →
-      ((τ : Transition) → τ ∈ map (renumber O) R → τ ∈ L) →
-      Canonical S (record { classes = map (accepting A) O; transitions = L })
-  same-quotient-canonical R there back =
-      ordered-canonical S groupOf R
-      (grouping-same S groupOf (quotient A (distinguishablePairs A)) R there back grouped) (accepting A)
-      group-accepting
 
   pub minimal-canonical : Canonical (accepts A) (minimal A)
   unfolding minimal

@@ -11,12 +11,7 @@ use Rattle.automata.proofs.Nodes.{concatMap-in, in-concatMap}
 use Rattle.automata.proofs.TotalsLists.{concatMap-distinct, concatMap-length}
 use Rattle.lists.proofs.Distinct.{map-distinct}
 use Rattle.lists.proofs.Tests.{in-map, map-in}
-
-first-same : (x y : ℕ) (xs ys : List ℕ) → (x ∷ xs) ≡ (y ∷ ys) → x ≡ y
-first-same x y xs ys e = cc
-
-rest-same : (x y : ℕ) (xs ys : List ℕ) → (x ∷ xs) ≡ (y ∷ ys) → xs ≡ ys
-rest-same x y xs ys e = cc
+use Rattle.lists.proofs.Heads.{head-same, tail-same}
 
 module _ (K : ℕ → List ℕ) where
   -- a name for the first state, before a choice for the others
@@ -44,7 +39,7 @@ module _ (K : ℕ → List ℕ) where
   choices-distinct [] h = (λ i. i, tt)
   choices-distinct (q ∷ qs) h =
       concatMap-distinct (λ x. map (λ ys. x ∷ ys) (choices K qs)) (K q) (h q (inl refl))
-      (λ x i. map-distinct (λ ys. x ∷ ys) (choices K qs) (λ xs ys j k. rest-same x x xs ys)
+      (λ x i. map-distinct (λ ys. x ∷ ys) (choices K qs) (λ xs ys j k. tail-same x x xs ys)
       (choices-distinct qs (λ p i. h p (inr i))))
       apart
     where
@@ -52,4 +47,4 @@ module _ (K : ℕ → List ℕ) where
           zs ∈ map (λ ys. y ∷ ys) (choices K qs) → x ≡ y
       apart x y zs i j =
           let (xs, _, d) = map-in (λ ys. x ∷ ys) (choices K qs) zs i in
-          let (ys, _, e) = map-in (λ ys. y ∷ ys) (choices K qs) zs j in first-same x y xs ys (sym d ∙ e)
+          let (ys, _, e) = map-in (λ ys. y ∷ ys) (choices K qs) zs j in head-same x y xs ys (sym d ∙ e)

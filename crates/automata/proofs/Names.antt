@@ -19,7 +19,6 @@ use Rattle.automata.proofs.CanonicalRun.{run-group, run-or-subtree}
 use Rattle.automata.proofs.Change.{subtrees-closed}
 use Rattle.automata.proofs.Renumbered.{Grouping, renumbered-canonical}
 use Rattle.automata.proofs.SubtreeContexts.{subtrees-exact}
-use Rattle.automata.proofs.Unique.{unique}
 use Rattle.lists.proofs.Closure.{elem-in, in-elem}
 use Rattle.lists.proofs.Tests.{test}
 use Rattle.trees.proofs.Trees.{all-here, depth-plug, depths-here, eqTree-same, eqTree-true}
@@ -219,24 +218,3 @@ module _ (S₀ : Tree → Bool) (A : Automaton) (X : Canonical S₀ A) (t : Tree
     pub names-canonical : (W : List Transition) → QuotientOf N W → (cls : ℕ → Bool) →
         ((u : Tree) → Subtree S u → cls (N u) ≡ S u) → Canonical S (renumbered cls W)
     names-canonical W Q cls right = renumbered-canonical S N W (names-grouping W Q) cls right
-
--- the automaton of the transitions between names is that of the changed set
-module _ (S : Tree → Bool) (A : Automaton) (X : Canonical S A) (t : Tree) (N : Tree → ℕ) (W : List Transition)
-    (Q : QuotientOf N W) (cls : ℕ → Bool) where
-  pub names-insert : Naming A t (λ v. S v || eqTree v t) N →
-      ((u : Tree) → Subtree (λ v. S v || eqTree v t) u → cls (N u) ≡ (S u || eqTree u t)) →
-      renumbered cls W ≡ insertTree t A
-  names-insert M right =
-      unique (λ v. S v || eqTree v t) (renumbered cls W) (insertTree t A)
-      (names-canonical S A X t (λ v. S v || eqTree v t) (λ v e. ap (λ (b : Bool). S v || b) e ∙ or-false (S v)) N M W Q
-      cls right)
-      (insert-kept S A X t)
-
-  pub names-delete : Naming A t (λ v. S v && not (eqTree v t)) N →
-      ((u : Tree) → Subtree (λ v. S v && not (eqTree v t)) u → cls (N u) ≡ (S u && not (eqTree u t))) →
-      renumbered cls W ≡ deleteTree t A
-  names-delete M right =
-      unique (λ v. S v && not (eqTree v t)) (renumbered cls W) (deleteTree t A)
-      (names-canonical S A X t (λ v. S v && not (eqTree v t))
-      (λ v e. ap (λ (b : Bool). S v && not b) e ∙ and-true (S v)) N M W Q cls right)
-      (delete-kept S A X t)

@@ -19,10 +19,6 @@ pub node-states-length : (A : Automaton) (t : Tree) → length (nodeStates A t) 
 unfolding nodeStates
 node-states-length A t = length-map (preorder t) (run A)
 
-pub forest-states-length : (A : Automaton) (f : Forest) → length (forestStates A f) ≡ length (preorders f)
-unfolding forestStates
-forest-states-length A f = length-map (preorders f) (run A)
-
 -- entry i is the state that the subtree at node i of the listing runs to
 pub node-state : (A : Automaton) (t : Tree) (i : ℕ) → i < length (preorder t) →
     getD (nodeStates A t) i 0 ≡ run A (readTree (drop (nodeBytes * i) (listing t)))

@@ -1,6 +1,6 @@
 -- Open states: marks that hold all states without subtrees and all whose nodes over subtrees are too many, and that
 -- go from arguments to outputs, are exactly the open states, if no such marks are fewer.
-use mathlib.Core.Bool.{Bool, _||_, false, not, true, true≢false}
+use mathlib.Core.Bool.{Bool, false, not, true, true≢false}
 use mathlib.Core.List.{List, [], _∷_}
 use mathlib.Core.Logic.{_⊎_, inl, inr}
 use mathlib.Core.Path.{_∙_, _≡_, ap, refl, subst, sym}

@@ -1,14 +1,14 @@
 -- The nodes over pairs for which an automaton has a transition: how many they are, and that none stands twice.
 use mathlib.Core.Bool.{true}
-use mathlib.Core.List.{List, [], _++_, _∷_, map}
+use mathlib.Core.List.{List, [], _∷_, map}
 use mathlib.Core.Path.{_∙_, _≡_, ap, refl, subst, sym}
-use Prim.Native.Nat.{_*_, _+_, ℕ}
+use Prim.Native.Nat.{_*_, ℕ}
 use native.Mathlib.Omega.{arith}
 use lib.Dec.{eqb}
 use lib.ListN.{length, length-append, length-map}
 use Rattle.automata.specs.Automaton.{Transition}
 use Rattle.automata.specs.Order.{key, lex, rising}
-use Rattle.automata.specs.Product.{Node, concatMap, lists, nodesOf}
+use Rattle.automata.specs.Product.{Node, lists, nodesOf}
 use Rattle.automata.specs.Totals.{productOver}
 use Rattle.lists.specs.Positions.{Pair}
 use Rattle.lists.specs.Tests.{Distinct, _∈_, filter}

@@ -1,20 +1,18 @@
 -- The product of an automaton and a tree with its pairs numbered in another way: δ gives the pair of a number,
 -- acc says which numbers are in use. A tree runs in it to the number of its pair.
-use mathlib.Core.Bool.{Bool, _&&_, _||_, false, not, true, true≢false}
+use mathlib.Core.Bool.{Bool, _&&_, _||_, false, not, true}
 use mathlib.Core.List.{List, [], _∷_, map}
 use mathlib.Core.Logic.{_⊎_, inl, inr}
 use mathlib.Core.Path.{_∙_, _≡_, ap, fun-ext, refl, subst, sym}
-use Prim.Native.Nat.{_≤_, ℕ}
+use Prim.Native.Nat.{ℕ}
 use lib.Dec.{eqb}
-use Rattle.automata.specs.Accessible.{ArgsAccessible}
-use Rattle.automata.specs.Automaton.{Automaton, Fits, Transition, accepting, accepts, run, states}
+use Rattle.automata.specs.Automaton.{Automaton, Fits, Transition, accepting, accepts, run}
 use Rattle.automata.specs.Canonical.{Canonical}
 use Rattle.automata.specs.Change.{deleteTree, insertTree, productWith, subtreeAutomaton, subtreeNumber}
 use Rattle.automata.specs.Change.{subtrees}
 use Rattle.automata.specs.Minimal.{minimal}
 use Rattle.automata.specs.Product.{live, outPair, product}
 use Rattle.automata.specs.ProductView.{ProductView}
-use Rattle.automata.specs.Valid.{inRange, statesInRange}
 use Rattle.lists.specs.Positions.{Pair}
 use Rattle.lists.specs.Tests.{_∈_, every}
 use Rattle.trees.specs.Tree.{Tree}
@@ -25,8 +23,7 @@ use Rattle.automata.proofs.Product.{accepts-product, product-accessible
 use Rattle.automata.proofs.ProductLaws.{pairs-exact}
 use Rattle.automata.proofs.Subtrees.{run-subtree}
 use Rattle.automata.proofs.Unique.{unique}
-use Rattle.automata.proofs.Valid.{range-in, ranged-fits}
-use Rattle.lists.proofs.Tests.{and-both, every-in, in-every}
+use Rattle.lists.proofs.Tests.{and-both}
 
 module _ (A : Automaton) (fit : Fits A) (t : Tree) (δ : ℕ → Pair) (acc : ℕ → Bool) (P : Automaton)
     (W : ProductView A t δ acc P) where
@@ -86,37 +83,6 @@ module _ (A : Automaton) (fit : Fits A) (t : Tree) (δ : ℕ → Pair) (acc : �
           accepts P u ≡ cls (run A u, subtreeNumber (subtrees t) u)
       go (inl (n, e)) = ap (accepting P) n ∙ sym (ap cls e ∙ z)
       go (inr (n, e)) = h (run P u) n ∙ ap cls e
-
-  -- some tree runs to each number in use
-  pub view-tree : (p : ℕ) → acc p ≡ true → (u : Tree) × (run P u ≡ p)
-  view-tree p h = let (_, (u, e)) = pairs-exact A fit t (δ p) .0 (W .sound p h .2) in (u, go u e (view-run u))
-    where
-      go : (u : Tree) → (run A u, subtreeNumber (subtrees t) u) ≡ δ p →
-          NumberOrNone A B Number (run P u) (run A u, subtreeNumber (subtrees t) u) → run P u ≡ p
-      go u e (inl (_, z)) = absurd (true≢false (sym (used-live p h) ∙ ap live (sym e ∙ z)))
-      go u e (inr (n, d)) = W .injective (run P u) p n h (d ∙ e)
-
-  -- each argument is a state that some tree runs to
-  pub view-args-positive : (τ : Transition) → τ ∈ P .transitions → (q : ℕ) → q ∈ τ .args →
-      (1 ≤ q) × ((u : Tree) × (run P u ≡ q))
-  view-args-positive τ i q j = let h = every-in acc (τ .args) (W .only τ i .0) q j in
-      (W .sound q h .0, view-tree q h)
-
-  pub view-args : ArgsAccessible P
-  view-args τ i q j = view-args-positive τ i q j .1
-
-  pub view-ranged : statesInRange P ≡ true
-  view-ranged =
-      in-every (λ τ. every (inRange (states P)) (τ .args) && inRange (states P) (τ .out)) (P .transitions)
-      (λ τ i. let (h, o, _) = W .only τ i in
-      and-both (in-every (inRange (states P)) (τ .args) (λ q j. used q (every-in acc (τ .args) h q j)))
-      (used (τ .out) o))
-    where
-      used : (p : ℕ) → acc p ≡ true → inRange (states P) p ≡ true
-      used p h = let (l, m, _) = W .sound p h in range-in (states P) p l m
-
-  pub view-fits : Fits P
-  view-fits = ranged-fits P view-ranged
 
   -- what is canonical for the trees that it accepts is the product minimised
   pub view-minimal : (cls : Pair → Bool) → cls (0, 0) ≡ false →

@@ -1,7 +1,7 @@
 -- The listed transitions are those between names, no key stands twice, and they are counted without making them
 -- (01, refusal 17).
 use mathlib.Core.Bool.{_&&_, false, not, true}
-use mathlib.Core.List.{List, _++_, _∷_, map}
+use mathlib.Core.List.{List, _++_, map}
 use mathlib.Core.Logic.{_⊎_, _≢_, inl, inr}
 use mathlib.Core.Path.{_∙_, _≡_, ap, refl, subst, sym}
 use Prim.Native.Nat.{_+_, _≤_, suc, zero, ℕ}
@@ -10,7 +10,7 @@ use lib.Dec.{eqb}
 use lib.ListN.{length, length-append, length-map}
 use borrow.Author.Tests.{eq-eqb, eqb-false, eqb-true, ne-eqb, not-false, not-true}
 use Rattle.automata.specs.Automaton.{Automaton, Transition, run}
-use Rattle.automata.specs.Canonical.{eachTree, transitionOf}
+use Rattle.automata.specs.Canonical.{transitionOf}
 use Rattle.automata.specs.Change.{subtrees}
 use Rattle.automata.specs.Names.{isSubtree}
 use Rattle.automata.specs.OpenStates.{sumOver}
@@ -24,8 +24,7 @@ use Rattle.trees.specs.Tree.{Forest, Tree, node}
 use Rattle.automata.proofs.Names.{other-in, subtree-in}
 use Rattle.automata.proofs.QuotientNodes.{OwnTop, Passing, in-passing, made, own-top, own-transition-inj}
 use Rattle.automata.proofs.QuotientNodes.{passing, passing-distinct, passing-in, passing-length, top-own}
-use Rattle.automata.proofs.Representatives.{Reps, other-name, reps-name, reps-run, subtree-name}
-use Rattle.automata.proofs.Sorting.{OneTransition}
+use Rattle.automata.proofs.Representatives.{Reps, other-name, reps-run, subtree-name}
 use Rattle.automata.proofs.Valid.{ranged-fits}
 use Rattle.lists.proofs.Distinct.{append-distinct, distinct-length, filter-distinct, map-distinct}
 use Rattle.lists.proofs.Tests.{and-both, and-left, and-right, append-in, filter-in, in-append-left, in-append-right}
@@ -160,19 +159,6 @@ module _ (A : Automaton) (t : Tree) (ts : List Tree) (ν : Tree → ℕ) where
             (in-new (node a g) (i, e, λ z. h (n ∙ z), c))))
 
     -- ---- no key twice
-
-    pub quotient-one : OneTransition (quotientList A t ts ν)
-    unfolding Top
-    quotient-one σ τ i j e = go (list-in σ i) (list-in τ j)
-      where
-        go : Top σ → Top τ → σ ≡ τ
-        go (a, g, p, _, x) (b, h, q, _, y) =
-            let z : a ≡ b = cc in
-            let w : eachTree N g ≡ eachTree N h = cc in
-            cc (
-              reps-name A t ts ν (ranged-fits A ranged) listed a g h p q w,
-              ap (λ (c : ℕ). N (node c h)) z,
-            )
 
     pub quotient-distinct : Distinct (quotientList A t ts ν)
     unfolding quotientList chosen passing made Passing OwnTop Added

@@ -1,7 +1,7 @@
 -- The listed transitions are those between names: a name that is not 0 has a representative, and the children of a node
 -- may be exchanged for representatives of their names.
 use mathlib.Core.Bool.{Bool, false, true}
-use mathlib.Core.List.{List, _∷_}
+use mathlib.Core.List.{List}
 use mathlib.Core.Logic.{_⊎_, _≢_, inl, inr}
 use mathlib.Core.Path.{_∙_, _≡_, refl, subst, sym}
 use Prim.Native.Nat.{ℕ}
@@ -21,7 +21,6 @@ use Rattle.automata.proofs.Names.{other-in, subtree-in}
 use Rattle.automata.proofs.Quotient.{Top, in-list, list-in, positive}
 use Rattle.automata.proofs.Representatives.{Rep, other-name, subtree-name}
 use Rattle.automata.proofs.StatePairs.{open-tree}
-use Rattle.automata.proofs.SubtreeContexts.{subtrees-exact}
 use Rattle.automata.proofs.Valid.{ranged-fits}
 use Rattle.lists.proofs.Tests.{test}
 use Rattle.trees.proofs.Trees.{snoc-append}
@@ -109,7 +108,3 @@ module _ (A : Automaton) (t : Tree) (ts : List Tree) (ν : Tree → ℕ) (ranged
 
       only′ : (τ : Transition) → Top A t ts ν τ → BetweenNames N τ
       only′ τ (a, g, p, h, e) = (a, g, h, e)
-
--- the subtrees in the order in which they are defined
-pub subtrees-listed : (t : Tree) → Exactly (λ u. u ∈ subtrees t) (subtrees t)
-subtrees-listed t = record { once = subtrees-exact t .once; members = λ u. (λ i. i, λ i. i) }

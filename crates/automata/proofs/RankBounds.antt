@@ -112,15 +112,7 @@ module _ (A : Automaton) (ranged : statesInRange A ≡ true) (rises : rising (A 
   all-finite : (q : ℕ) → IsState A q → FinitelyMany A q
   all-finite q s = acyclic-many A ranged ac q (s .0)
 
-  pub acyclic-transition-within : (τ : Transition) → τ ∈ A .transitions →
-      productOver (treesOf A) (τ .args) ≤ treesOf A (τ .out)
-  acyclic-transition-within = transition-within A ranged rises all-finite
-
   -- 02, order 4: nothing overflows if the total does not
   module _ (reached : allAccessible A ≡ true) (used : allCoaccessible A ≡ true) where
     pub acyclic-state-below : (q : ℕ) → IsState A q → treesOf A q ≤ total A
     acyclic-state-below = state-below A ranged rises all-finite reached used
-
-    pub acyclic-transition-below : (τ : Transition) → τ ∈ A .transitions →
-        productOver (treesOf A) (τ .args) ≤ total A
-    acyclic-transition-below = transition-below A ranged rises all-finite reached used

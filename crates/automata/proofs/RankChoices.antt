@@ -2,20 +2,17 @@
 use mathlib.Core.Bool.{Bool, cond, false, true}
 use mathlib.Core.List.{List, [], _∷_}
 use mathlib.Core.Logic.{inl, inr}
-use mathlib.Core.Path.{_∙_, _≡_, ap, refl, subst, sym}
+use mathlib.Core.Path.{_∙_, _≡_, ap, refl, sym}
 use Prim.Native.Nat.{_+_, _-_, _<_, _≤_, suc, zero, ℕ}
 use native.Mathlib.Omega.{arith}
 use lib.Dec.{eqb, ltb}
 use borrow.Author.Tests.{eq-eqb, eqb-true, le-ltb, lt-ltb, ltb-false, ltb-true}
 use Rattle.automata.specs.Automaton.{Automaton, Transition, accepting, lookup, matches}
-use Rattle.automata.specs.Order.{key, lex, rising}
 use Rattle.automata.specs.Ranks.{Chosen, stateOf, sumBefore, transitionOf}
 use Rattle.automata.specs.Totals.{productOver, sumAccepting, sumInto}
 use Rattle.lists.specs.Positions.{upFrom}
 use Rattle.lists.specs.Tests.{_∈_}
-use Rattle.automata.proofs.Order.{key-equal, lex-irrefl, rising-head, rising-tail}
 use Rattle.automata.proofs.Steps.{matches-true}
-use Rattle.lists.proofs.Tests.{and-both, eqb-same, sameList-refl}
 
 -- ---- transitions
 
@@ -47,36 +44,6 @@ module _ (w : ℕ → ℕ) (q : ℕ) where
       go ih false e =
           let r = ih (omega (arith, ltb-false k (treesAt τ) e)) in
           record { member = inr (r .member); out = r .out; less = r .less }
-
-  -- the number is that of the trees at the transitions before, and what is left
-  pub transition-number : (τs : List Transition) → rising τs ≡ true → (k : ℕ) → k < sumInto w q τs →
-      k ≡ sumBefore w q (transitionOf w q k τs .what .label) (transitionOf w q k τs .what .args) τs
-      + transitionOf w q k τs .left
-  transition-number [] r k h = absurd (omega arith)
-  transition-number (τ ∷ τs) r k h =
-      go (λ l. transition-number τs (rising-tail τ τs r) (k - treesAt τ) l) (ltb k (treesAt τ)) refl
-    where
-      -- another transition has another label or other arguments
-      apart : (σ : Transition) → σ ∈ τs → (b : Bool) → matches (σ .label) (σ .args) τ ≡ b → b ≡ false
-      apart σ i true e =
-          let (l, a) = matches-true (σ .label) (σ .args) τ e in
-          absurd (lex-irrefl (key σ)
-          (subst (λ (ks : List ℕ). lex ks (key σ) ≡ true) (key-equal τ σ l a) (rising-head τ τs r σ i)))
-      apart σ i false e = refl
-
-      go : (k - treesAt τ < sumInto w q τs → k - treesAt τ ≡
-          sumBefore w q (transitionOf w q (k - treesAt τ) τs .what .label)
-          (transitionOf w q (k - treesAt τ) τs .what .args) τs + transitionOf w q (k - treesAt τ) τs .left) →
-          (b : Bool) → ltb k (treesAt τ) ≡ b →
-          let c = cond b (record { what = τ; left = k }) (transitionOf w q (k - treesAt τ) τs) in
-          k ≡ sumBefore w q (c .what .label) (c .what .args) (τ ∷ τs) + c .left
-      go ih true e = rw (and-both (eqb-same (τ .label)) (sameList-refl (τ .args))) (omega arith)
-      go ih false e =
-          let l = ltb-false k (treesAt τ) e in
-          let m : k - treesAt τ < sumInto w q τs = omega arith in
-          let σ = transitionOf w q (k - treesAt τ) τs .what in
-          rw (apart σ (transition-chosen τs (k - treesAt τ) m .member) (matches (σ .label) (σ .args) τ) refl)
-          (omega (arith, ih m))
 
   -- the transition of label a over arguments qs
   module _ (a : ℕ) (qs : List ℕ) (some : 1 ≤ q) where
@@ -123,28 +90,6 @@ module _ (A : Automaton) (w : ℕ → ℕ) where
   -- how many accepted trees a state has
   abbrev pub acceptedAt : ℕ → ℕ
   acceptedAt q = cond (accepting A q) (w q) 0
-
-  -- an accepting state, and a number within it
-  pub record StateChosen (qs : List ℕ) (c : Chosen ℕ) : Type 0 where
-    pub member : c .what ∈ qs
-    pub accepts : accepting A (c .what) ≡ true
-    pub less : c .left < w (c .what)
-
-  pub state-chosen : (qs : List ℕ) (k : ℕ) → k < sumAccepting A w qs → StateChosen qs (stateOf A w k qs)
-  state-chosen [] k h = absurd (omega arith)
-  state-chosen (q ∷ qs) k h = go (λ l. state-chosen qs (k - acceptedAt q) l) (ltb k (acceptedAt q)) refl
-    where
-      here : (b : Bool) → accepting A q ≡ b → k < cond b (w q) 0 → StateChosen (q ∷ qs) (record { what = q; left = k })
-      here true e l = record { member = inl refl; accepts = e; less = l }
-      here false e l = absurd (omega arith)
-
-      go : (k - acceptedAt q < sumAccepting A w qs → StateChosen qs (stateOf A w (k - acceptedAt q) qs)) →
-          (b : Bool) → ltb k (acceptedAt q) ≡ b →
-          StateChosen (q ∷ qs) (cond b (record { what = q; left = k }) (stateOf A w (k - acceptedAt q) qs))
-      go ih true e = here (accepting A q) refl (ltb-true k (acceptedAt q) e)
-      go ih false e =
-          let r = ih (omega (arith, ltb-false k (acceptedAt q) e)) in
-          record { member = inr (r .member); accepts = r .accepts; less = r .less }
 
   -- the accepted trees of a state and of those before it are among all
   pub state-within : (m s n : ℕ) → m < n → accepting A (s + m) ≡ true →

@@ -1,7 +1,7 @@
 -- One accepted tree comes before another exactly if its number is less, so the number of a tree is how many accepted
 -- trees come before it (02, order 4).
 use mathlib.Core.Bool.{Bool, false, true}
-use mathlib.Core.List.{List, _∷_, map}
+use mathlib.Core.List.{map}
 use mathlib.Core.Logic.{_↔_, _⊎_, inl, inr}
 use mathlib.Core.Path.{_∙_, _≡_, ap, refl, subst, sym}
 use Prim.Native.Nat.{_*_, _+_, _-_, _<_, ℕ}
@@ -28,6 +28,7 @@ use Rattle.lists.proofs.Distinct.{map-distinct, upFrom-distinct}
 use Rattle.lists.proofs.Intervals.{in-tabulated, length-tabulated, tabulated-in}
 use Rattle.lists.proofs.Positions.{upFrom-in}
 use Rattle.lists.proofs.Radix.{radix-before}
+use Rattle.lists.proofs.Heads.{head-same, tail-same}
 
 less-same-more : (m n : ℕ) → (m < n) ⊎ ((m ≡ n) ⊎ (n < m))
 less-same-more m n = go (ltb m n) (ltb n m) refl refl
@@ -36,12 +37,6 @@ less-same-more m n = go (ltb m n) (ltb n m) refl refl
     go true c d e = inl (ltb-true m n d)
     go false true d e = inr (inr (ltb-true n m e))
     go false false d e = inr (inl (omega (arith, ltb-false m n d, ltb-false n m e)))
-
-head-same : (p q : ℕ) (ps qs : List ℕ) → (p ∷ ps) ≡ (q ∷ qs) → p ≡ q
-head-same p q ps qs e = cc
-
-tail-same : (p q : ℕ) (ps qs : List ℕ) → (p ∷ ps) ≡ (q ∷ qs) → ps ≡ qs
-tail-same p q ps qs e = cc
 
 module _ (A : Automaton) (ranged : statesInRange A ≡ true) (rises : rising (A .transitions) ≡ true) where
   -- how many trees of a node's state stand at transitions before its own
@@ -245,10 +240,6 @@ module _ (A : Automaton) (ranged : statesInRange A ≡ true) (rises : rising (A 
 -- automata in which no state comes back
 module _ (A : Automaton) (ranged : statesInRange A ≡ true) (rises : rising (A .transitions) ≡ true)
     (ac : acyclic A ≡ true) where
-  pub acyclic-before-iff : (t u : Tree) → accepts A t ≡ true → accepts A u ≡ true →
-      Before A t u ↔ (rank A t < rank A u)
-  acyclic-before-iff = before-iff A ranged rises (accepting-many A ranged rises ac)
-
   pub acyclic-rank-counted : (t : Tree) → accepts A t ≡ true →
       Counts (λ u. (accepts A u ≡ true) × Before A u t) (rank A t)
   acyclic-rank-counted = rank-counted A ranged rises (accepting-many A ranged rises ac)

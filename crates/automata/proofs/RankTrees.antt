@@ -1,10 +1,9 @@
 -- The number of a tree within its state is below the number of the state's trees, and the tree of that number is the
 -- tree. So every number below has its tree, and the depth to which it is worked out does not matter.
 use mathlib.Core.Bool.{Bool, cond, false, true}
-use mathlib.Core.List.{List, [], _∷_}
-use mathlib.Core.Logic.{inl, inr}
+use mathlib.Core.List.{List}
 use mathlib.Core.Path.{_∙_, _≡_, ap, refl, subst, sym}
-use Prim.Native.Nat.{_%_, _+_, _/_, _<_, _≤_, suc, zero, ℕ}
+use Prim.Native.Nat.{_+_, _<_, _≤_, suc, zero, ℕ}
 use native.Mathlib.Omega.{arith}
 use lib.Dec.{eqb}
 use Rattle.automata.specs.Automaton.{Automaton, Transition, lookup, run, runs, states, step}
@@ -12,14 +11,14 @@ use Rattle.automata.specs.Order.{rising}
 use Rattle.automata.specs.Ranks.{Chosen, childrenOf, rankIn, ranksIn, sumBefore, transitionOf, treeOf}
 use Rattle.automata.specs.Totals.{productOver, sumInto, treesOf}
 use Rattle.automata.specs.Valid.{statesInRange}
-use Rattle.lists.specs.Tests.{_∈_, any}
+use Rattle.lists.specs.Tests.{any}
 use Rattle.trees.specs.Tree.{AllTrees, Forest, Tree, cons, depth, depths, nil, node}
 use Rattle.automata.proofs.RankChoices.{block-within, transition-at}
 use Rattle.automata.proofs.RankFinite.{Finite, FiniteTree, finite-children}
 use Rattle.automata.proofs.Totals.{trees-counted, trees-sum}
 use Rattle.automata.proofs.TotalsFinite.{depth-states}
 use Rattle.lists.proofs.Numberings.{number-onto}
-use Rattle.lists.proofs.Radix.{digit-first, digit-second, radix-first, radix-less, radix-second}
+use Rattle.lists.proofs.Radix.{radix-first, radix-less, radix-second}
 
 -- a step to a state is what the table says
 pub step-lookup : (A : Automaton) (a : ℕ) (qs : List ℕ) → 1 ≤ step A a qs →
@@ -136,14 +135,3 @@ module _ (A : Automaton) (ranged : statesInRange A ≡ true) (rises : rising (A 
           (transitionOf (treesOf A) q k (A .transitions) .what .args)
           (transitionOf (treesOf A) q k (A .transitions) .left))
       treeOf-step = sym (treeOf-depth (suc (states A)) (omega arith))
-
-  -- the children of a number below the product run to the arguments
-  pub childrenOf-runs : (qs : List ℕ) → ((q : ℕ) → q ∈ qs → Finite A q) → (k : ℕ) → k < productOver (treesOf A) qs →
-      runs A (childrenOf (treeOf A (treesOf A) (states A)) (treesOf A) qs k) ≡ qs
-  childrenOf-runs [] F k h = refl
-  childrenOf-runs (q ∷ qs) F k h =
-      let m = productOver (treesOf A) qs in
-      cc (
-        treeOf-run q (F q (inl refl)) (k / m) (digit-first k (treesOf A q) m h),
-        childrenOf-runs qs (λ p i. F p (inr i)) (k % m) (digit-second k (treesOf A q) m h),
-      )

@@ -5,14 +5,14 @@ use mathlib.Core.Logic.{_⊎_, inl, inr}
 use mathlib.Core.Path.{_∙_, _≡_, ap, refl, subst, sym}
 use Prim.Native.Nat.{_<_, _≤_, suc, zero, ℕ}
 use native.Mathlib.Omega.{arith}
-use lib.Dec.{eqb, leb, ltb}
+use lib.Dec.{eqb}
 use lib.ListN.{getD, length, length-map, take}
 use borrow.Author.Tests.{eq-eqb, not-true}
 use Rattle.automata.specs.Automaton.{Automaton, Transition, accepting}
 use Rattle.automata.specs.Canonical.{Canonical, Equivalent, Occurs, Subtree, eachTree, transitionOf}
 use Rattle.automata.specs.Numbered.{firstOpen, opens}
 use Rattle.automata.specs.Order.{key, lex, precedes, rising}
-use Rattle.automata.specs.Renumber.{numberOf, numbering, ready, renumber, renumberBy, renumbered, sort}
+use Rattle.automata.specs.Renumber.{numberOf, numbering, renumber, renumberBy, renumbered, sort}
 use Rattle.lists.specs.Closure.{elem}
 use Rattle.lists.specs.Positions.{upFrom}
 use Rattle.lists.specs.Tests.{_∈_, every}
@@ -25,8 +25,9 @@ use Rattle.automata.proofs.Sorting.{OneTransition, in-sort, sort-in, so
 use Rattle.automata.proofs.Unique.{children}
 use Rattle.lists.proofs.Intervals.{getD-map}
 use Rattle.lists.proofs.Positions.{upFrom-in}
-use Rattle.lists.proofs.Tests.{and-both, and-left, and-right, in-every, in-map, map-in}
+use Rattle.lists.proofs.Tests.{and-both, and-right, in-every, in-map, map-in}
 use Rattle.trees.proofs.Trees.{snoc-append}
+use Rattle.lists.proofs.Heads.{head-same, tail-same}
 
 and-not : (a b : Bool) → a ≡ true → (a && not b) ≡ false → b ≡ true
 and-not true true e s = refl
@@ -38,22 +39,6 @@ pub record Grouping (S : Tree → Bool) (g : Tree → ℕ) (Q : List Transition)
   pub separates : (t u : Tree) → Subtree S t → Subtree S u → g t ≡ g u → Equivalent S t u
   pub occurs : (a : ℕ) (f : Forest) → Subtree S (node a f) → transitionOf g a f ∈ Q
   pub only : (l : Transition) → l ∈ Q → Occurs S g l
-
--- what the groups say depends on the members of the list alone
-pub grouping-same : (S : Tree → Bool) (g : Tree → ℕ) (Q R : List Transition) →
-    ((τ : Transition) → τ ∈ Q → τ ∈ R) → ((τ : Transition) → τ ∈ R → τ ∈ Q) → Grouping S g Q → Grouping S g R
-grouping-same S g Q R there back G = record {
-  joins = G .joins;
-  separates = G .separates;
-  occurs = λ a f p. there (transitionOf g a f) (G .occurs a f p);
-  only = λ τ i. G .only τ (back τ i);
-}
-
-head-same : (x y : ℕ) (xs ys : List ℕ) → (x ∷ xs) ≡ (y ∷ ys) → x ≡ y
-head-same x y xs ys e = cc
-
-tail-same : (x y : ℕ) (xs ys : List ℕ) → (x ∷ xs) ≡ (y ∷ ys) → xs ≡ ys
-tail-same x y xs ys e = cc
 
 module _ (S : Tree → Bool) (g : Tree → ℕ) (Q : List Transition) (G : Grouping S g Q) where
   -- children of the same groups make alike parts

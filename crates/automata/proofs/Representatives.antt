@@ -180,15 +180,6 @@ module _ (A : Automaton) (t : Tree) (ts : List Tree) (ν : Tree → ℕ) where
             (listed .members u .0 j)))
             ∙ sym e ∙ sym (other-name (node a f) (other-in t (node a f) d))
 
-    -- the names of representatives decide the name of the node
-    pub reps-name : (a : ℕ) (f g : Forest) → Reps f → Reps g → eachTree N f ≡ eachTree N g →
-        nameOf A t ν (node a f) ≡ nameOf A t ν (node a g)
-    reps-name a f g p q e =
-        let r : run A (node a g) ≡ run A (node a f) = rw (reps-run f g p q e) in
-        sym (node-name a f p (run A (node a f)) refl)
-        ∙ ap (λ (xs : List ℕ). nodeName A ts ν a xs (run A (node a f)) ts) e
-        ∙ node-name a g q (run A (node a f)) r
-
     -- ---- kept names are those of representatives
 
     pub kept-rep : (q : ℕ) → 1 ≤ q → (x : ℕ) → x ∈ keptNames A t ts ν q → RepAt q x

@@ -1,9 +1,9 @@
 -- The pairs of a state: one for each subtree that runs to it, and one more if it is open.
-use mathlib.Core.Bool.{Bool, _&&_, cond, false, not, true, true≢false}
+use mathlib.Core.Bool.{Bool, _&&_, cond, false, not, true}
 use mathlib.Core.List.{List, [], _++_, _∷_, map}
 use mathlib.Core.Logic.{_⊎_, inl, inr}
 use mathlib.Core.Path.{_∙_, _≡_, ap, refl, subst, sym}
-use Prim.Native.Nat.{_+_, _≤_, suc, zero, ℕ}
+use Prim.Native.Nat.{_≤_, suc, zero, ℕ}
 use native.Mathlib.Omega.{arith}
 use lib.Dec.{eqb}
 use lib.ListN.{length, length-append, length-map}
@@ -24,7 +24,7 @@ use Rattle.lists.proofs.Distinct.{append-distinct, distinct-length, filter-dist
 use Rattle.lists.proofs.Positions.{eqPair-same, eqPair-true, position-inj, position-none}
 use Rattle.lists.proofs.Tests.{append-in, filter-in, in-append-left, in-append-right, in-filter, in-map, map-in}
 use Rattle.trees.proofs.Trees.{eqTree-same, eqTree-true}
-use Rattle.automata.specs.OpenStates.{atState, openState, pairsOf, subtreesAt}
+use Rattle.automata.specs.OpenStates.{openState, pairsOf, subtreesAt}
 use Rattle.automata.proofs.SubtreeNodes.{at-distinct, at-in, in-at}
 
 pub live-first : (q j : ℕ) → 1 ≤ q → live (q, j) ≡ true

@@ -11,7 +11,7 @@ use Rattle.automata.specs.Automaton.{Automaton, Transition, run, runs, s
 use Rattle.automata.specs.Change.{subtrees}
 use Rattle.automata.specs.Order.{key, lex, rising}
 use Rattle.automata.specs.Valid.{statesInRange}
-use Rattle.lists.specs.Tests.{Distinct, _∈_, filter}
+use Rattle.lists.specs.Tests.{Distinct, _∈_}
 use Rattle.trees.specs.Tree.{AllTrees, Forest, Tree, cons, nil, node}
 use Rattle.automata.proofs.Change.{subtrees-closed}
 use Rattle.automata.proofs.Order.{key-equal, lex-irrefl, lookup-transition, rising-head, rising-tail}

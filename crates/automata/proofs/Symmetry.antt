@@ -1,7 +1,7 @@
 -- Distinguishing states goes both ways, and 0 is not separated from itself.
 use mathlib.Core.Bool.{Bool, Bool·beq, not, true}
 use mathlib.Core.Logic.{_⊎_, inl, inr}
-use mathlib.Core.Path.{_∙_, _≡_, ap, refl, subst, sym}
+use mathlib.Core.Path.{_≡_, sym}
 use Prim.Native.Nat.{suc, ℕ}
 use Rattle.automata.specs.Automaton.{Automaton, accepting, states}
 use Rattle.automata.specs.Distinguishable.{distinguishable, distinguishablePairs, distinguishableRule, pairs}
@@ -11,7 +11,6 @@ use Rattle.lists.specs.Closure.{elem}
 use Rattle.lists.specs.Positions.{Pair, eqPair, upFrom}
 use Rattle.lists.specs.Tests.{_∈_, any}
 use Rattle.automata.proofs.Distinguishable.{differ, differs}
-use Rattle.automata.proofs.Steps.{step-zero}
 use Rattle.lists.proofs.Closure.{closed, closure-all}
 use Rattle.lists.proofs.Distinct.{grid-in}
 use Rattle.lists.proofs.Positions.{eqPair-same, eqPair-true, in-grid}
@@ -48,26 +47,3 @@ module _ (A : Automaton) where
               or-right (not (Bool·beq (accepting A (k .1)) (accepting A (k .0)))) _
               (in-any (λ s. distinguishable A (stepSlot A s (k .1)) (stepSlot A s (k .0))) (slots (A .transitions)) s j
               (ih (stepSlot A s (k .0), stepSlot A s (k .1)) f))
-
-  -- 0 is not separated from itself
-  pub zero-not-separated : distinguishable A 0 0 ≡ true → ⊥
-  zero-not-separated e =
-      closure-all eqPair eqPair-true eqPair-same (distinguishableRule A) (pairs A) Other made (0, 0) e refl
-    where
-      Other : Pair → Type 0
-      Other k = k ≡ (0, 0) → ⊥
-
-      made : (m : Pair → Bool) → ((j : Pair) → m j ≡ true → Other j) → (k : Pair) → k ∈ pairs A →
-          distinguishableRule A m k ≡ true → Other k
-      made m ih k i e z = go (or-cases (not (Bool·beq (accepting A (k .0)) (accepting A (k .1)))) _ e)
-        where
-          go : (not (Bool·beq (accepting A (k .0)) (accepting A (k .1))) ≡ true) ⊎
-              (any (λ s. m (stepSlot A s (k .0), stepSlot A s (k .1))) (slots (A .transitions)) ≡ true) → ⊥
-          go (inl d) = differ (accepting A 0) (accepting A 0) (subst (λ (j : Pair). not (Bool·beq (accepting A (j .0))
-              (accepting A (j .1))) ≡ true) z d) refl
-          go (inr d) =
-              let (s, j, f) = any-in (λ s. m (stepSlot A s (k .0), stepSlot A s (k .1))) (slots (A .transitions)) d in
-              let u : stepSlot A s 0 ≡ 0 = step-zero A (s .label) (s .before) (s .after) in
-              let x : stepSlot A s (k .0) ≡ 0 = ap (λ (j : Pair). stepSlot A s (j .0)) z ∙ u in
-              let y : stepSlot A s (k .1) ≡ 0 = ap (λ (j : Pair). stepSlot A s (j .1)) z ∙ u in
-              ih (stepSlot A s (k .0), stepSlot A s (k .1)) f (λ i. (x i, y i))

@@ -6,7 +6,6 @@ use mathlib.Core.Path.{_∙_, _≡_, ap, refl, subst, sym}
 use Prim.Native.Nat.{_≤_, suc, zero, ℕ}
 use native.Mathlib.Omega.{arith}
 use lib.ListN.{length, length-append}
-use Rattle.automata.specs.Accessible.{allAccessible}
 use Rattle.automata.specs.Acyclic.{Bounded, acyclic}
 use Rattle.automata.specs.Automaton.{Automaton, IsState, accepting, accepts, run, states}
 use Rattle.automata.specs.Canonical.{Canonical}
@@ -24,7 +23,7 @@ use Rattle.automata.proofs.Distinguishable.{run-fits}
 use Rattle.automata.proofs.TotalsFinite.{acyclic-many, depth-states}
 use Rattle.automata.proofs.TotalsWithin.{treeList, treeList-exactly, treesWithin-length, treesWithin-suc}
 use Rattle.automata.proofs.TotalsWithin.{within-counted}
-use Rattle.automata.proofs.Valid.{in-states, ranged-fits, state-tree, states-in}
+use Rattle.automata.proofs.Valid.{in-states, ranged-fits, states-in}
 use Rattle.lists.proofs.Counts.{counts-same, counts-unique, exactly-counts, exactly-same}
 use Rattle.lists.proofs.Distinct.{append-distinct, upFrom-distinct}
 use Rattle.lists.proofs.Tests.{append-in, in-append-left, in-append-right, length-if}
@@ -161,11 +160,6 @@ module _ (A : Automaton) (ranged : statesInRange A ≡ true) (rises : rising (A 
 
   pub acyclic-sum : (q : ℕ) → IsState A q → treesOf A q ≡ sumInto (treesOf A) q (A .transitions)
   acyclic-sum q s = trees-sum A ranged rises q s (acyclic-many A ranged ac q (s .0))
-
-  pub acyclic-some : allAccessible A ≡ true → (q : ℕ) → IsState A q → 1 ≤ treesOf A q
-  acyclic-some reached q s =
-      let (t, e) = state-tree A ranged rises reached q s in
-      trees-some A ranged rises q s (acyclic-many A ranged ac q (s .0)) t e
 
   pub acyclic-total : Counts (λ t. accepts A t ≡ true) (total A)
   acyclic-total = total-counted A ranged rises (λ q e. acyclic-many A ranged ac q (accepting-some A q e))

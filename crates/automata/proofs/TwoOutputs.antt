@@ -3,7 +3,7 @@
 use mathlib.Core.Bool.{_||_, false, false≢true, true}
 use mathlib.Core.List.{List, [], _∷_}
 use mathlib.Core.Logic.{_⊎_, inl, inr}
-use mathlib.Core.Path.{_∙_, _≡_, ap, fun-ext, refl, subst, sym}
+use mathlib.Core.Path.{_∙_, _≡_, ap, refl, subst, sym}
 use Prim.Native.Nat.{_<_, suc, zero, ℕ}
 use native.Mathlib.Omega.{arith}
 use lib.Dec.{eqb}
@@ -11,7 +11,6 @@ use lib.ListN.{length}
 use borrow.Author.Tests.{eqb-true}
 use Rattle.automata.specs.AnyAutomaton.{Accepts, AtLeast, HasStates, Recognizes, RunEach, RunsTo}
 use Rattle.automata.specs.Automaton.{Fits, Transition, accepting, accepts, emptyAutomaton, run, states}
-use Rattle.automata.specs.Canonical.{Canonical}
 use Rattle.automata.specs.Change.{insertTree, productWith, subtreeAutomaton}
 use Rattle.automata.specs.Example.{inserted, leaf, transition}
 use Rattle.automata.specs.Minimal.{merge, minimal, quotient, representative}
@@ -63,13 +62,6 @@ in-inserted (t ∷ ts) u (inl e) =
     ∙ or-right (accepts (inserted ts) u) (eqTree u t) (rw e (eqTree-same t))
 in-inserted (t ∷ ts) u (inr i) =
     inserted-one t ts u ∙ or-left (accepts (inserted ts) u) (eqTree u t) (in-inserted ts u i)
-
--- what is inserted one by one is canonical for its set
-pub inserted-canonical : (t : Tree) (ts : List Tree) →
-    Canonical (accepts (inserted (t ∷ ts))) (inserted (t ∷ ts))
-inserted-canonical t ts =
-    subst (λ S. Canonical S (inserted (t ∷ ts))) (sym (fun-ext (inserted-one t ts)))
-    (insert-canonical t (inserted ts) (inserted-fits ts))
 
 -- ---- the automaton with two outputs
 

@@ -1,6 +1,6 @@
 -- Names of all trees from names of the subtrees of a tree t.
 use mathlib.Core.Bool.{cond, true}
-use mathlib.Core.List.{List, _∷_}
+use mathlib.Core.List.{List}
 use mathlib.Core.Logic.{_⊎_}
 use mathlib.Core.Path.{_≡_}
 use Prim.Native.Nat.{ℕ}

@@ -2,12 +2,12 @@
 use mathlib.Core.Bool.{Bool, true}
 use mathlib.Core.List.{List}
 use mathlib.Core.Logic.{_⊎_, inl, inr}
-use mathlib.Core.Path.{_∙_, _≡_, ap, ap₂, fun-ext, refl, subst, sym}
+use mathlib.Core.Path.{_≡_, ap, fun-ext, subst, sym}
 use Prim.Native.Nat.{ℕ}
 use Rattle.automata.specs.Acyclic.{Bounded}
 use Rattle.automata.specs.Automaton.{Automaton, accepts}
 use Rattle.automata.specs.Canonical.{Canonical}
-use Rattle.calls.specs.Calls.{Change, Response, changed, changedTree, delete, insert}
+use Rattle.calls.specs.Calls.{Change, changed, changedTree, delete, insert}
 use Rattle.calls.specs.Series.{Call, Model, add, canonicalOf, changedSet, member, modelConditions}
 use Rattle.calls.specs.Series.{modelRefusal, query, remove, respond, withChange}
 use Rattle.trees.specs.Legal.{Legal}

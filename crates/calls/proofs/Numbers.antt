@@ -20,7 +20,6 @@ use Rattle.calls.specs.declared.Answer.{Answer}
 use Rattle.calls.specs.declared.Answer.the-variants.{Approved, NotAt, NotPart, Refused, Serial}
 use Rattle.format.specs.Format.{numberLimit}
 use Rattle.lists.specs.Conditions.{firstBroken}
-use Rattle.lists.specs.Tests.{Counts}
 use Rattle.table.specs.Intake.{tableRefusal}
 use Rattle.table.specs.Layout.{decode}
 use Rattle.trees.specs.Listing.{listingRefusal, readTree}

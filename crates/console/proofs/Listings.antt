@@ -4,7 +4,7 @@ use mathlib.Core.List.{List, [], _++_, _∷_}
 use mathlib.Core.Path.{_∙_, _≡_, ap, subst, sym}
 use Prim.Native.Nat.{_%_, _/_, _<_, _≤_, suc, zero, ℕ}
 use native.Mathlib.Omega.{arith}
-use lib.ListN.{getD, length, length-append, replicate}
+use lib.ListN.{length, length-append, replicate}
 use Rattle.format.specs.Format.{AllBytes, byteValues, labelWritten, maxLine}
 use Rattle.text.proofs.LineMeaning.{line-formed}
 use Rattle.text.proofs.Sizes.{forest-size}

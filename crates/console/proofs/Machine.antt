@@ -1,7 +1,7 @@
 -- What the bench program prints for an input is what the model prints: SERIES, line by line.
 use mathlib.Core.Bool.{Bool, _||_, cond, false, true}
 use mathlib.Core.List.{List, [], _++_, _∷_}
-use mathlib.Core.Path.{_∙_, _≡_, ap, ap₂, refl, sym}
+use mathlib.Core.Path.{_∙_, _≡_, ap, ap₂, refl}
 use Prim.Native.Nat.{_≤_, suc, ℕ}
 use native.Mathlib.Omega.{arith}
 use lib.Dec.{eqb, leb}
@@ -11,7 +11,7 @@ use Rattle.automata.specs.Automaton.{Automaton}
 use Rattle.calls.proofs.Series.{in-step-meaning, one-call, zero-in-step}
 use Rattle.calls.specs.Calls.{Response, addResult, changeResult, intakeAnswer, outcome, removeResult}
 use Rattle.calls.specs.Claim.{InStep}
-use Rattle.calls.specs.Series.{BringsBytes, Model, emptyModel, perform, query, queryResult, respond}
+use Rattle.calls.specs.Series.{BringsBytes, Model, emptyModel, perform, query, queryResult}
 use Rattle.calls.specs.Series.{total}
 use Rattle.format.specs.Format.{AllBytes, maxLine, scratchBytes, tableBytes}
 use Rattle.report.specs.declared.Outcome.the-variants.{Answered}

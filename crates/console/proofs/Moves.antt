@@ -1,17 +1,16 @@
 -- The console in the code's buffers: a byte kept, a line ended, a part of the input fed, and the end.
-use mathlib.Core.Bool.{Bool, cond, false, true}
-use mathlib.Core.List.{List, [], _++_, _∷_, append-assoc}
-use mathlib.Core.Path.{_∙_, _≡_, ap, ap₂, refl, subst, sym}
+use mathlib.Core.Bool.{Bool, cond, false}
+use mathlib.Core.List.{List, [], _++_, _∷_}
+use mathlib.Core.Path.{_∙_, _≡_, ap, refl, sym}
 use Prim.Native.Nat.{_+_, _-_, _<_, _≤_, suc, zero, ℕ}
 use native.Mathlib.Numerals.{add-one}
 use native.Mathlib.Omega.{arith}
-use lib.Dec.{eqb, ltb}
 use lib.ListN.{drop, getD, length, length-set, length-take, set, take}
 use lib.Seq.{take-suc-set}
 use borrow.Author.Tests.{eq-eqb, le-ltb, lt-ltb, ne-eqb}
 use Rattle.report.specs.Printing.{Printed, Put, lineBytes}
 use Rattle.serving.specs.Answering.{Serves}
-use Rattle.serving.specs.Serving.{Served, closing, served}
+use Rattle.serving.specs.Serving.{closing}
 use Rattle.console.specs.Buffers.{ClosedTo, FedTo, LineKept, Moved, Buffered, ProgressRoom, outBytes, console}
 use Rattle.console.specs.Input.{isEmpty, newline}
 use Rattle.console.specs.Console.{Console, after, closed, fed, heldBytes, holding, inputEnded, kept, lineEnded}

@@ -12,7 +12,7 @@ use Rattle.format.specs.Format.{maxLine, scratchBytes, tableBytes}
 use Rattle.serving.specs.Serving.{closing, handled, reported, served}
 use Rattle.text.proofs.LineMeaning.{line-long}
 use Rattle.text.specs.Reader.{Line, readLine}
-use Rattle.console.specs.Input.{isEmpty, linesFrom, linesOf, newline}
+use Rattle.console.specs.Input.{linesFrom, linesOf, newline}
 use Rattle.console.specs.Console.{Console, after, closed, fed, heldBytes, holding, inputEnded, kept, lineEnded}
 use Rattle.console.specs.Console.{printed, printedFrom, start, stepped}
 

@@ -1,7 +1,6 @@
 -- A console in the code: numbers by value, and buffers that are lent.
 use mathlib.Core.List.{List}
 use mathlib.Core.Path.{_≡_}
-use mathlib.Core.Logic.{_⊎_}
 use Prim.Native.Nat.{_*_, _+_, _<_, _^_, _≤_, ℕ}
 use lib.ListN.{length, replicate, take}
 use Rattle.format.specs.Format.{scratchBytes, tableBytes}

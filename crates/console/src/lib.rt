@@ -1,11 +1,11 @@
 // The bench program as a console, without its input and output: the input's bytes come in parts of any length, and what
 // is printed goes to a buffer that the caller writes out. A console's numbers go by value, and its buffers are lent.
 ghost use mathlib.Core.Path.{_≡_};
-ghost use Prim.Native.Nat.{_+_, _<_, _^_, _≤_};
+ghost use Prim.Native.Nat.{_+_, _<_, _≤_};
 ghost use lib.ListN.{length};
 ghost use Rattle.console.specs.Buffers.{ClosedTo, FedTo, LineKept, Moved, Buffered, ProgressRoom, emptyScratch};
 ghost use Rattle.console.specs.Buffers.{emptyTable};
-ghost use Rattle.console.specs.Buffers.{outBytes, console};
+ghost use Rattle.console.specs.Buffers.{console};
 ghost use Rattle.console.specs.Console.{heldBytes, inputEnded, lineEnded, stepped};
 use format::MAX_LINE;
 use format::SCRATCH_BYTES;

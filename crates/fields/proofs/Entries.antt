@@ -1,15 +1,13 @@
 -- The fields of an entry: each field put alone, the transition that they make, and an entry copied byte by byte.
 use mathlib.Core.Bool.{Bool, cond, false, true}
 use mathlib.Core.List.{List, [], _∷_, map}
-use mathlib.Core.Path.{_∙_, _≡_, ap, ap₂, refl, sym}
-use Prim.Native.Nat.{_%_, _+_, _-_, _/_, _<_, _≤_, suc, zero, ℕ}
-use native.Mathlib.Nat.{zero-add}
+use mathlib.Core.Path.{_∙_, _≡_, ap, ap₂, refl}
+use Prim.Native.Nat.{_%_, _+_, _/_, _<_, _≤_, suc, zero, ℕ}
 use native.Mathlib.Omega.{arith}
 use lib.Dec.{eqb}
 use lib.ListN.{getD, getD-replicate, length, length-set, replicate, set, take}
 use lib.Seq.{getD-set-other, getD-set-same}
 use borrow.Author.Tests.{eq-eqb, eqb-false, eqb-true, ne-eqb}
-use Rattle.automata.specs.Automaton.{Transition}
 use Rattle.fields.specs.Entries.{HasFields, noArg, putAt}
 use Rattle.format.specs.Format.{argsAt, arityAt, byteValues, labelBytes, labelFrom, labelWritten, maxArity}
 use Rattle.format.specs.Format.{outAt, transitionBytes}
@@ -118,15 +116,6 @@ put-other f k q j h = rw (ne-eqb j k h)
 
 -- a field put into an entry whose fields are known
 module _ {e : List ℕ} {a n : ℕ} {f : ℕ → ℕ} {q : ℕ} (is : HasFields e a n f q) {e′ : List ℕ} where
-  pub then-label : {x : ℕ} → HasFields e′ x (arityOf e 0) (argOf e 0) (outOf e 0) → HasFields e′ x n f q
-  then-label to = record {
-    size = to .size;
-    label = to .label;
-    arity = to .arity ∙ is .arity;
-    arg = λ k h. to .arg k h ∙ is .arg k h;
-    out = to .out ∙ is .out;
-  }
-
   pub then-arity : {x : ℕ} → HasFields e′ (labelOf e 0) x (argOf e 0) (outOf e 0) → HasFields e′ a x f q
   then-arity to = record {
     size = to .size;
@@ -163,14 +152,6 @@ module _ {e : List ℕ} {a n : ℕ} {f : ℕ → ℕ} {q : ℕ} (is : HasFields 
   fields-args =
       ap (λ i. map (argOf e 0) (upFrom 0 i)) (is .arity) ∙
       map-upFrom (argOf e 0) f 0 n (λ k h l. is .arg k (omega arith))
-
-  pub fields-transition : (τ : Transition) → τ .label ≡ a → τ .args ≡ map f (upFrom 0 n) → τ .out ≡ q →
-      transitionAt e 0 ≡ τ
-  fields-transition τ x y z =
-      let label = is .label ∙ sym x in
-      let args = fields-args ∙ sym y in
-      let out = is .out ∙ sym z in
-      λ i. record { label = label i; args = args i; out = out i }
 
 -- ---- an entry copied byte by byte
 

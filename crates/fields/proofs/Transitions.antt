@@ -11,6 +11,7 @@ use Rattle.fields.specs.Fields.{InTable, Readable, HoldsTransitions, Hol
 use Rattle.format.specs.Format.{headBytes, maxTransitions, tableBytes, transitionBytes}
 use Rattle.lists.specs.Positions.{upFrom}
 use Rattle.lists.specs.Tests.{_∈_, every}
+use Rattle.table.specs.Intake.{tableRefusal}
 use Rattle.table.specs.Layout.{argOf, arityOf, body, layoutFits, nthTransition, stateCount, transitionAt}
 use Rattle.table.specs.Layout.{transitionCount, transitionsIn}
 use Rattle.lists.proofs.Intervals.{getD-tabulated, length-tabulated, tabulated-suc}
@@ -18,6 +19,7 @@ use Rattle.lists.proofs.Loops.{EveryFrom, every-start}
 use Rattle.lists.proofs.Parts.{part, part-drop}
 use Rattle.lists.proofs.Positions.{upFrom-in}
 use Rattle.lists.proofs.Tests.{every-mapped, map-in}
+use Rattle.table.proofs.Intake.{unrefused-passes}
 use Rattle.table.proofs.Laid.{Laid, LaidTransition, layout-laid}
 
 -- the part of a table that code hands on is its body
@@ -94,6 +96,10 @@ layout-in-table b size fits =
       out-some = λ i h. at i h .out .0;
       out-state = λ i h. at i h .out .1;
     }
+
+-- a table that passes the check is one
+pub passed-table : (b : List ℕ) → tableRefusal b ≡ 0 → InTable b
+passed-table b e = let p = unrefused-passes b e in layout-in-table b (p .length) (p .layout)
 
 pub layout-runs : (b : List ℕ) → length b ≡ tableBytes → layoutFits b ≡ true → HoldsTransitions (body b) (transitionCount b)
 layout-runs b size fits = layout-in-table b size fits .over .runs

@@ -1,7 +1,6 @@
 -- What the loops that fill a table of fingerprints know: what is there and what is to come make the whole.
 use mathlib.Core.Bool.{Bool, cond, false, true}
 use mathlib.Core.List.{List, [], _++_, _∷_, map}
-use mathlib.Core.Logic.{inl, inr}
 use mathlib.Core.Path.{_∙_, _≡_, ap, ap₂, refl, subst, sym}
 use Prim.Native.Nat.{_%_, _*_, _+_, _-_, _<_, _^_, _≤_, suc, zero, ℕ}
 use native.Mathlib.Omega.{arith}
@@ -10,23 +9,19 @@ use lib.Dec.{eqb}
 use lib.ListN.{getD, length-replicate, length-set, replicate, set}
 use lib.Seq.{getD-set-other, getD-set-same}
 use borrow.Author.Tests.{eqb-false, eqb-true}
-use Rattle.automata.specs.Automaton.{Transition, accepting}
-use Rattle.automata.specs.Coaccessible.{coaccessible}
+use Rattle.automata.specs.Automaton.{accepting}
 use Rattle.automata.specs.Distinguishable.{Slot}
-use Rattle.fields.specs.Fields.{HoldsTransitionsOver}
 use Rattle.fields.specs.View.{viewed}
-use Rattle.fingerprints.specs.Fingerprints.{ClassPrints, FirstRound, Gained, Prints, Round, UsefulMarks}
-use Rattle.fingerprints.specs.Fingerprints.{always, fingerprint, gain, gains, mixed, multiplier, only, places}
-use Rattle.fingerprints.specs.Fingerprints.{printOf, salted, slotValue, spread, total, usefulGain, valueAt, xored}
+use Rattle.fingerprints.specs.Fingerprints.{ClassPrints, Fingerprinted, Gained, Prints, fingerprint}
+use Rattle.fingerprints.specs.Fingerprints.{gain, gains, mixed, multiplier, only, places, printOf}
+use Rattle.fingerprints.specs.Fingerprints.{salted, slotValue, spread, total, valueAt, xored}
 use Rattle.format.specs.Format.{byteValues, transitionBytes}
 use Rattle.lists.specs.Positions.{upFrom}
-use Rattle.lists.specs.Tests.{_∈_, bit}
-use Rattle.marking.specs.Marks.{marked}
+use Rattle.lists.specs.Tests.{bit}
 use Rattle.table.specs.Layout.{argOf, arityOf, classAt, labelOf, nthTransition, outOf, transitionAt, transitionsIn}
 use Rattle.lists.proofs.Intervals.{getD-zeros}
 use Rattle.lists.proofs.Loops.{upFrom-next, upFrom-none}
 use Rattle.fields.proofs.Views.{viewed-class, viewed-states}
-use Rattle.table.proofs.Decoded.{transitionsIn-in}
 use Rattle.fingerprints.proofs.Arguments.{argsFrom, argsFrom-next, argsFrom-none, argsTo, argsTo-next, without}
 use Rattle.lists.proofs.Filling.{set-next-from}
 
@@ -131,55 +126,25 @@ module _ (s : List ℕ) (at : ℕ) where
 
 -- ---- the transitions of a run
 
-pub gained-none : {g : ℕ → ℕ} (m : List ℕ) → Prints m → ((q : ℕ) → g q ≡ 0) → Gained g m m
-gained-none m p e = record { prints = p; each = λ q. let s = p .small q in let z = e q in omega arith }
-
-module _ (s : List ℕ) (u : ℕ → Bool) (h : ℕ → ℕ) (i : ℕ) {o : ℕ} (out : o ≡ outOf s (transitionBytes * i)) where
-  pub useless-gain : u o ≡ false → (q : ℕ) → usefulGain (nthTransition s i) u h q ≡ 0
-  useless-gain e q = rw (ap u (sym out) ∙ e)
-
-  pub useful-gain : u o ≡ true → {m m' : List ℕ} → Gained (gain (nthTransition s i) (h o)) m m' →
-      Gained (usefulGain (nthTransition s i) u h) m m'
-  useful-gain e {m} g = record {
-    prints = g .prints;
-    each =
-        λ q. g .each q ∙ ap (λ (x : ℕ). (printOf m q + x) % 2 ^ 64) (same q);
-  }
-    where
-      same : (q : ℕ) → gain (nthTransition s i) (h o) q ≡ usefulGain (nthTransition s i) u h q
-      same q = rw (ap u (sym out) ∙ e) (ap (λ (x : ℕ). gain (nthTransition s i) (h x) q) out)
-
 -- what q gains from transition i on
-abbrev pub gainsFrom : List ℕ → ℕ → (ℕ → Bool) → (ℕ → ℕ) → ℕ → ℕ → ℕ
-gainsFrom s c u h i q = gains (map (nthTransition s) (upFrom i (c - i))) u h q
+abbrev pub gainsFrom : List ℕ → ℕ → ℕ → ℕ → ℕ
+gainsFrom s c i q = gains (map (nthTransition s) (upFrom i (c - i))) q
 
-module _ (s : List ℕ) (c : ℕ) (u : ℕ → Bool) (h : ℕ → ℕ) where
-  pub gains-start : (q : ℕ) → gainsFrom s c u h 0 q ≡ gains (transitionsIn s c) u h q
+module _ (s : List ℕ) (c : ℕ) where
+  pub gains-start : (q : ℕ) → gainsFrom s c 0 q ≡ gains (transitionsIn s c) q
   unfolding transitionsIn
   gains-start q =
-      let e : c - 0 ≡ c = omega arith in ap (λ (n : ℕ). gains (map (nthTransition s) (upFrom 0 n)) u h q) e
+      let e : c - 0 ≡ c = omega arith in ap (λ (n : ℕ). gains (map (nthTransition s) (upFrom 0 n)) q) e
 
-  pub gains-next : (i : ℕ) → i < c → (q : ℕ) →
-      gainsFrom s c u h i q ≡ usefulGain (nthTransition s i) u h q + gainsFrom s c u h (i + 1) q
-  gains-next i l q = ap (λ (js : List ℕ). gains (map (nthTransition s) js) u h q) (upFrom-next i c l)
+  -- the output's number is o, and x stands for it
+  pub gains-next : (i : ℕ) → i < c → {o x : ℕ} → o ≡ outOf s (transitionBytes * i) → x ≡ spread o → (q : ℕ) →
+      gainsFrom s c i q ≡ gain (nthTransition s i) x q + gainsFrom s c (i + 1) q
+  gains-next i l e f q =
+      ap (λ (js : List ℕ). gains (map (nthTransition s) js) q) (upFrom-next i c l)
+      ∙ ap (λ (y : ℕ). gain (nthTransition s i) y q + gainsFrom s c (i + 1) q) (sym (f ∙ ap spread e))
 
-  pub gains-end : (i : ℕ) → c ≤ i → (q : ℕ) → gainsFrom s c u h i q ≡ 0
-  gains-end i l q = ap (λ (js : List ℕ). gains (map (nthTransition s) js) u h q) (upFrom-none i c l)
-
--- the output's number is o, and x stands for it
-pub first-gain : (s : List ℕ) (i : ℕ) {o x : ℕ} → o ≡ outOf s (transitionBytes * i) → x ≡ spread o →
-    {m m' : List ℕ} → Gained (gain (nthTransition s i) x) m m' →
-    Gained (usefulGain (nthTransition s i) always spread) m m'
-first-gain s i e f {m} {m'} g =
-    subst (λ (x : ℕ). Gained (gain (nthTransition s i) x) m m') (f ∙ ap spread e) g
-
--- tests that agree on the outputs
-pub gains-same : (u v : ℕ → Bool) (h : ℕ → ℕ) (q : ℕ) (τs : List Transition) →
-    ((τ : Transition) → τ ∈ τs → u (τ .out) ≡ v (τ .out)) → gains τs u h q ≡ gains τs v h q
-gains-same u v h q [] e = refl
-gains-same u v h q (τ ∷ τs) e =
-    ap₂ (λ (b : Bool) (g : ℕ). cond b (gain τ (h (τ .out)) q) 0 + g) (e τ (inl refl))
-    (gains-same u v h q τs (λ υ i. e υ (inr i)))
+  pub gains-end : (i : ℕ) → c ≤ i → (q : ℕ) → gainsFrom s c i q ≡ 0
+  gains-end i l q = ap (λ (js : List ℕ). gains (map (nthTransition s) js) q) (upFrom-none i c l)
 
 -- ---- classes
 
@@ -210,32 +175,16 @@ class-next {cl} {q} {m} {r} c a h e = record {
 pub class-end : {cl : List ℕ} {q n : ℕ} {m : List ℕ} → ClassBelow cl q m → n < q → ClassPrints cl n m
 class-end c h = record { prints = c .prints; none = c .none; each = λ p a b. c .each p a (omega arith) }
 
--- ---- a round
+-- ---- the class and the uses
 
 module _ (cl s : List ℕ) (n c : ℕ) {m : List ℕ} (k : ClassPrints cl n m) where
   class : (q : ℕ) → q ≤ n → printOf m q ≡ bit (accepting (viewed cl s n c) q)
   class zero l = k .none
   class (suc q) l = k .each (suc q) (omega arith) l ∙ ap bit (sym (viewed-class cl s n c (suc q) (omega arith) l))
 
-  pub first-is : {m' : List ℕ} → Gained (gains (transitionsIn s c) always spread) m m' → FirstRound (viewed cl s n c) m'
-  first-is g = record {
-    each = λ q b. g .each q ∙ ap (λ (x : ℕ). (x + gains (transitionsIn s c) always spread q) % 2 ^ 64)
+  pub fingerprinted : {m' : List ℕ} → Gained (gains (transitionsIn s c)) m m' → Fingerprinted (viewed cl s n c) m'
+  unfolding fingerprint
+  fingerprinted g = record {
+    each = λ q b. g .each q ∙ ap (λ (x : ℕ). (x + gains (transitionsIn s c) q) % 2 ^ 64)
         (class q (omega (arith, viewed-states cl s n c)));
   }
-
-  pub round-is : (u : List ℕ) (h : ℕ → ℕ) {m' : List ℕ} → HoldsTransitionsOver s c n →
-      UsefulMarks (viewed cl s n c) u → Gained (gains (transitionsIn s c) (marked u) h) m m' →
-      Round (viewed cl s n c) h m'
-  unfolding fingerprint
-  round-is u h over useful g = record {
-    each = λ q b. g .each q ∙ ap₂ (λ (x y : ℕ). (x + y) % 2 ^ 64) (class q (omega (arith, viewed-states cl s n c)))
-        (gains-same (marked u) (coaccessible (viewed cl s n c)) h q (transitionsIn s c)
-        (λ τ i. agree τ (transitionsIn-in s c τ i)));
-  }
-    where
-      agree : (τ : Transition) → (i : ℕ) × (i < c) × (τ ≡ nthTransition s i) →
-          marked u (τ .out) ≡ coaccessible (viewed cl s n c) (τ .out)
-      agree τ (i, l, e) =
-          let o : τ .out ≡ outOf s (transitionBytes * i) = ap (λ (υ : Transition). υ .out) e in
-          useful .each (τ .out) (omega (arith, o, over .out-some i l))
-          (omega (arith, o, over .out-state i l, viewed-states cl s n c))

@@ -1,4 +1,4 @@
--- Fingerprints at the start, and what follows if all differ.
+-- What follows if all fingerprints differ.
 use mathlib.Core.Bool.{Bool, false, false≢true, not, true}
 use mathlib.Core.List.{List}
 use mathlib.Core.Logic.{_≢_}
@@ -6,15 +6,9 @@ use mathlib.Core.Path.{_∙_, _≡_, ap, refl, sym}
 use Prim.Native.Nat.{_-_, _<_, _≤_, ℕ}
 use native.Mathlib.Omega.{arith}
 use lib.Dec.{ltb}
-use lib.ListN.{replicate}
 use borrow.Author.Tests.{eq-eqb, ltb-false, ltb-true}
-use Rattle.automata.specs.Automaton.{Automaton, states}
-use Rattle.fingerprints.specs.Fingerprints.{Sound, allDiffer, differs, differsBelow, printOf}
-use Rattle.lists.proofs.Intervals.{every-at, getD-zeros}
-
--- at first all fingerprints are 0
-pub sound-start : (A : Automaton) (n : ℕ) → Sound A (printOf (replicate n 0))
-sound-start A n = record { equal = λ p q b e d. getD-zeros n p ∙ sym (getD-zeros n q) }
+use Rattle.fingerprints.specs.Fingerprints.{allDiffer, differs, differsBelow, printOf}
+use Rattle.lists.proofs.Intervals.{every-at}
 
 -- different states differ
 module _ (m : List ℕ) (n : ℕ) (e : allDiffer m n ≡ true) where

@@ -1,14 +1,14 @@
 -- The last 16 bits of a fingerprint: the class, and before it the number of uses, as long as that has 15 bits.
 use mathlib.Core.Bool.{Bool, false, true}
 use mathlib.Core.List.{List, [], _∷_}
-use mathlib.Core.Path.{_≡_, refl}
+use mathlib.Core.Path.{_∙_, _≡_, refl, sym}
 use Prim.Native.Nat.{_%_, _*_, _+_, _-_, _^_, _≤_, ℕ}
 use native.Mathlib.Omega.{arith}
 use lib.ListN.{length, length-append}
 use Rattle.automata.specs.Automaton.{Automaton, Transition, accepting, states}
 use Rattle.automata.specs.Distinguishable.{Slot}
-use Rattle.fingerprints.specs.Fingerprints.{FirstRound, always, gains, mixed, places, printOf, slotValue, spread}
-use Rattle.fingerprints.specs.Fingerprints.{total, valueAt}
+use Rattle.fingerprints.specs.Fingerprints.{Fingerprinted, fingerprint, gains, mixed, places, printOf}
+use Rattle.fingerprints.specs.Fingerprints.{slotValue, spread, total, valueAt}
 use Rattle.lists.specs.Tests.{bit}
 use Rattle.fingerprints.proofs.Uses.{uses}
 
@@ -23,14 +23,13 @@ total-counts : (zs : List Slot) (x : ℕ) → total zs (valueAt x) % 65536 ≡ (
 total-counts [] x = refl
 total-counts (z ∷ zs) x = omega (arith, value-counts z x, total-counts zs x)
 
-gains-count : (τs : List Transition) (h : ℕ → ℕ) (q : ℕ) → gains τs always h q % 65536 ≡
-    (2 * length (uses τs q)) % 65536
-gains-count [] h q = refl
-gains-count (τ ∷ τs) h q =
+gains-count : (τs : List Transition) (q : ℕ) → gains τs q % 65536 ≡ (2 * length (uses τs q)) % 65536
+gains-count [] q = refl
+gains-count (τ ∷ τs) q =
     omega (
       arith,
-      total-counts (places (τ .args) [] (τ .label) q) (h (τ .out)),
-      gains-count τs h q,
+      total-counts (places (τ .args) [] (τ .label) q) (spread (τ .out)),
+      gains-count τs q,
       length-append (places (τ .args) [] (τ .label) q) (uses τs q),
     )
 
@@ -42,9 +41,27 @@ small : (b : Bool) → bit b ≤ 1
 small true = omega arith
 small false = omega arith
 
-pub print-counts : (A : Automaton) (m : List ℕ) → FirstRound A m → (q : ℕ) → q ≤ states A →
+pub print-counts : (A : Automaton) (m : List ℕ) → Fingerprinted A m → (q : ℕ) → q ≤ states A →
     length (uses (A .transitions) q) ≤ 32767 →
     printOf m q % 65536 ≡ bit (accepting A q) + 2 * length (uses (A .transitions) q)
+unfolding fingerprint
 print-counts A m first q b few =
-    counted (bit (accepting A q)) (gains (A .transitions) always spread q) (length (uses (A .transitions) q))
-    (first .each q b) (small (accepting A q)) (gains-count (A .transitions) spread q) few
+    counted (bit (accepting A q)) (gains (A .transitions) q) (length (uses (A .transitions) q))
+    (first .each q b) (small (accepting A q)) (gains-count (A .transitions) q) few
+
+-- ---- the class is the last bit
+
+same-bit : (a b : Bool) (g k x y : ℕ) → g % 65536 ≡ (2 * x) % 65536 → k % 65536 ≡ (2 * y) % 65536 →
+    (bit a + g) % 2 ^ 64 ≡ (bit b + k) % 2 ^ 64 → a ≡ b
+same-bit true true g k x y d e f = refl
+same-bit true false g k x y d e f = absurd (omega arith)
+same-bit false true g k x y d e f = absurd (omega arith)
+same-bit false false g k x y d e f = refl
+
+pub print-class : (A : Automaton) (m : List ℕ) → Fingerprinted A m → (p q : ℕ) → p ≤ states A → q ≤ states A →
+    printOf m p ≡ printOf m q → accepting A p ≡ accepting A q
+unfolding fingerprint
+print-class A m first p q a b e =
+    same-bit (accepting A p) (accepting A q) _ _ (length (uses (A .transitions) p)) (length (uses (A .transitions) q))
+    (gains-count (A .transitions) p) (gains-count (A .transitions) q)
+    (sym (first .each p a) ∙ e ∙ first .each q b)

@@ -3,8 +3,8 @@ pub mod Arguments
 pub mod Uses
 pub mod Equivalent
 pub mod AllDiffer
-pub mod OneRound
+pub mod Separating
 pub mod Adding
-pub mod FirstRound
+pub mod Shown
 pub mod Buckets
 pub mod Counting

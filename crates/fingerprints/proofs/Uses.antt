@@ -12,7 +12,7 @@ use Rattle.automata.specs.Automaton.{Transition}
 use Rattle.automata.specs.Distinguishable.{Slot}
 use Rattle.automata.specs.Order.{key, lex, rising}
 use Rattle.fingerprints.specs.Fingerprints.{places, total}
-use Rattle.lists.specs.Tests.{Distinct, _∈_, filter}
+use Rattle.lists.specs.Tests.{Distinct, _∈_}
 use Rattle.automata.proofs.Order.{key-equal, lex-irrefl, rising-head, rising-tail}
 use Rattle.lists.proofs.Distinct.{append-distinct}
 use Rattle.lists.proofs.Tests.{append-in, eqb-same, in-append-left, in-append-right, in-split}
@@ -198,18 +198,3 @@ total-members (x ∷ xs) ys f d e h k =
             side : z ∈ (x ∷ xs) → z ∈ xs
             side (inl q) = absurd (removed-distinct l x r split .1 (subst (λ (y : Slot). y ∈ (l ++ r)) q i))
             side (inr j) = j
-
-pub total-zero : (xs : List Slot) → total xs (λ z. 0) ≡ 0
-total-zero [] = refl
-total-zero (x ∷ xs) = omega (arith, total-zero xs)
-
--- what a test leaves of a list
-pub total-filter : (p : Slot → Bool) (f : Slot → ℕ) (xs : List Slot) → total xs (λ z. cond (p z) (f z) 0) ≡
-    total (filter p xs) f
-total-filter p f [] = refl
-total-filter p f (x ∷ xs) = go (p x) (total-filter p f xs)
-  where
-    go : (b : Bool) → total xs (λ z. cond (p z) (f z) 0) ≡ total (filter p xs) f →
-        cond b (f x) 0 + total xs (λ z. cond (p z) (f z) 0) ≡ total (cond b (x ∷ filter p xs) (filter p xs)) f
-    go true e = ap (λ (a : ℕ). f x + a) e
-    go false e = omega (arith, e)

@@ -1,7 +1,7 @@
--- Fingerprints of states: numbers that equivalent states have in common. A state's fingerprint is a sum over its uses,
--- the slots in which transitions to coaccessible states have it, of a number that depends on the slot and on the
--- fingerprint that the output had a round before. Nothing is claimed of how well the numbers spread: if two states
--- share a fingerprint, nothing follows.
+-- Fingerprints of states: numbers that states of one class have in common if every slot takes them to one state. A
+-- state's fingerprint is its class and a sum over its uses, the slots in which transitions have it, of a number that
+-- depends on the slot and on the output. Nothing is claimed of how well the numbers spread: if two states share a
+-- fingerprint, nothing follows but that they share the class.
 use mathlib.Core.Bool.{Bool, cond, not, true}
 use mathlib.Core.List.{List, [], _++_, _∷_}
 use mathlib.Core.Path.{_≡_}
@@ -11,8 +11,8 @@ use lib.Dec.{eqb}
 use lib.ListN.{getD, length}
 use Rattle.automata.specs.Acyclic.{acyclic}
 use Rattle.automata.specs.Automaton.{Automaton, Transition, accepting, states}
-use Rattle.automata.specs.Coaccessible.{allCoaccessible, coaccessible}
-use Rattle.automata.specs.Distinguishable.{Slot, allDistinguishable, distinguishable}
+use Rattle.automata.specs.Coaccessible.{allCoaccessible}
+use Rattle.automata.specs.Distinguishable.{Slot, allDistinguishable}
 use Rattle.lists.specs.Positions.{upFrom}
 use Rattle.lists.specs.Tests.{bit, every}
 use Rattle.marking.specs.Marks.{marked}
@@ -30,7 +30,7 @@ abbrev pub xored : List ℕ → ℕ → ℕ → ℕ
 xored [] k y = y
 xored (q ∷ qs) k y = xored qs (k + 1) (bitXor y (q * multiplier k))
 
--- what a label and the fingerprint of an output give
+-- what a label and what stands for an output give
 unfoldable pub salted : ℕ → ℕ → ℕ
 salted a x = bitXor (bitXor (a * 9223372037) (x % 4294967296 * 3935559001)) (x / 4294967296 * 2654435769)
 
@@ -40,7 +40,7 @@ unfoldable pub mixed : ℕ → ℕ
 mixed y =
     y % 4294967296 * (y / 4294967296) - y % 4294967296 * (y / 4294967296) % 65536 + 2
 
--- what a slot adds to the fingerprint of a state that stands in it, if its output's fingerprint is x
+-- what a slot adds to the fingerprint of a state that stands in it, x for its output
 unfoldable pub slotValue : Slot → ℕ → ℕ
 slotValue z x = mixed (xored (z .after) (length (z .before) + 1) (xored (z .before) 0 (salted (z .label) x)))
 
@@ -60,30 +60,22 @@ abbrev pub total : List Slot → (Slot → ℕ) → ℕ
 total [] f = 0
 total (z ∷ zs) f = f z + total zs f
 
--- what q gains from its uses in one transition, if its output's fingerprint is x
+-- what q gains from its uses in one transition, x for its output
 abbrev pub gain : Transition → ℕ → ℕ → ℕ
 gain τ x q = total (places (τ .args) [] (τ .label) q) (valueAt x)
 
--- if the output is useful, h the fingerprints a round before
-abbrev pub usefulGain : Transition → (ℕ → Bool) → (ℕ → ℕ) → ℕ → ℕ
-usefulGain τ u h q = cond (u (τ .out)) (gain τ (h (τ .out)) q) 0
-
--- and in all of a list
-abbrev pub gains : List Transition → (ℕ → Bool) → (ℕ → ℕ) → ℕ → ℕ
-gains [] u h q = 0
-gains (τ ∷ τs) u h q = usefulGain τ u h q + gains τs u h q
-
--- the fingerprint of a state: its class and what it gains
-unfoldable pub fingerprint : Automaton → (ℕ → ℕ) → ℕ → ℕ
-fingerprint A h q = (bit (accepting A q) + gains (A .transitions) (coaccessible A) h q) % 2 ^ 64
-
--- in a first round every transition counts
-abbrev pub always : ℕ → Bool
-always q = true
-
--- and this stands for the fingerprint of an output
+-- what stands for an output
 abbrev pub spread : ℕ → ℕ
 spread q = q * 50159747054999923
+
+-- what q gains in all transitions of a list
+abbrev pub gains : List Transition → ℕ → ℕ
+gains [] q = 0
+gains (τ ∷ τs) q = gain τ (spread (τ .out)) q + gains τs q
+
+-- the fingerprint of a state: its class and what it gains
+unfoldable pub fingerprint : Automaton → ℕ → ℕ
+fingerprint A q = (bit (accepting A q) + gains (A .transitions) q) % 2 ^ 64
 
 -- ---- tables of fingerprints
 
@@ -109,22 +101,9 @@ pub record ClassPrints (cl : List ℕ) (n : ℕ) (m : List ℕ) : Type 0 where
   pub none : printOf m 0 ≡ 0
   pub each : (q : ℕ) → 1 ≤ q → q ≤ n → printOf m q ≡ bit (classAt cl q)
 
--- the marks of states are the coaccessible ones
-pub record UsefulMarks (A : Automaton) (u : List ℕ) : Type 0 where
-  pub each : (q : ℕ) → 1 ≤ q → q ≤ states A → marked u q ≡ coaccessible A q
-
--- m has the fingerprints of the states of A and of 0, h those a round before
-pub record Round (A : Automaton) (h : ℕ → ℕ) (m : List ℕ) : Type 0 where
-  pub each : (q : ℕ) → q ≤ states A → printOf m q ≡ fingerprint A h q
-
--- m has the fingerprints of a first round
-pub record FirstRound (A : Automaton) (m : List ℕ) : Type 0 where
-  pub each : (q : ℕ) → q ≤ states A → printOf m q ≡
-      (bit (accepting A q) + gains (A .transitions) always spread q) % 2 ^ 64
-
--- states that nothing separates have one fingerprint, 0 among them
-pub record Sound (A : Automaton) (h : ℕ → ℕ) : Type 0 where
-  pub equal : (p q : ℕ) → p ≤ states A → q ≤ states A → (distinguishable A p q ≡ true → ⊥) → h p ≡ h q
+-- m has the fingerprints of the states of A and of 0
+pub record Fingerprinted (A : Automaton) (m : List ℕ) : Type 0 where
+  pub each : (q : ℕ) → q ≤ states A → printOf m q ≡ fingerprint A q
 
 -- ---- different fingerprints
 
@@ -158,7 +137,7 @@ pub record TakenBelow (m : List ℕ) (q : ℕ) (f : List ℕ) : Type 0 where
   pub size : length f ≡ buckets
   pub each : (p : ℕ) → 1 ≤ p → p < q → marked f (bucketOf (printOf m p)) ≡ true
 
--- ---- what a first round may show
+-- ---- what fingerprints may show
 
 -- of an automaton without loops: every state is useful, and all are separated
 pub record Settled (A : Automaton) : Type 0 where

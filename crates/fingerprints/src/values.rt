@@ -8,8 +8,7 @@ ghost use Rattle.fingerprints.specs.Fingerprints.{mixed, multiplier, sal
 use fields::arg_of;
 use fields::arity_of;
 
-// What the label and the fingerprint x of the output give. The last bits of a fingerprint may be all that differs, so
-// both halves are spread.
+// What the label and x, which stands for the output, give. Both halves of x count.
 pub fn salt(label: usize, x: usize) -> usize
     requires { ⌜ label ≤ 65535 ⌝ }
     ensures { λ r. ⌜ r ≡ salted label x ⌝ }

@@ -4,7 +4,7 @@ use mathlib.Core.Bool.{Bool, false, not, true}
 use mathlib.Core.List.{List, []}
 use mathlib.Core.Logic.{_≢_}
 use mathlib.Core.Path.{_∙_, _≡_, ap, ap₂, refl, subst, subst₂, sym}
-use Prim.Native.Nat.{_-_, suc, ℕ}
+use Prim.Native.Nat.{suc, ℕ}
 use native.Mathlib.Omega.{arith}
 use lib.Dec.{eqb}
 use lib.ListN.{length}

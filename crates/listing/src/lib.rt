@@ -68,7 +68,7 @@ pub fn children(s: &[u8], count: usize) -> Read
 }
 
 // Whether the length is that of 1 to 48 nodes (01, refusal 1).
-pub fn whole_nodes(s: &[u8]) -> bool
+fn whole_nodes(s: &[u8]) -> bool
     ensures { λ r. ⌜ r ≡ wholeNodes (now (s .entry)) ⌝ }
 {
     if s.len() < NODE_BYTES {
@@ -81,7 +81,7 @@ pub fn whole_nodes(s: &[u8]) -> bool
 }
 
 // Whether no label is 0, also after the first tree (01, refusal 2).
-pub fn all_labelled(s: &[u8]) -> bool
+fn all_labelled(s: &[u8]) -> bool
     ensures { λ r. ⌜ r ≡ allLabelled (now (s .entry)) ⌝ }
 {
     let nodes = s.len() / NODE_BYTES;
@@ -96,7 +96,7 @@ pub fn all_labelled(s: &[u8]) -> bool
 }
 
 // Whether no child count is above 8, also after the first tree (01, refusal 3).
-pub fn all_narrow(s: &[u8]) -> bool
+fn all_narrow(s: &[u8]) -> bool
     ensures { λ r. ⌜ r ≡ allNarrow (now (s .entry)) ⌝ }
 {
     let nodes = s.len() / NODE_BYTES;
@@ -111,7 +111,7 @@ pub fn all_narrow(s: &[u8]) -> bool
 }
 
 // Whether the bytes are one tree and no more (01, refusal 4).
-pub fn one_tree(s: &[u8]) -> bool
+fn one_tree(s: &[u8]) -> bool
     ensures { λ r. ⌜ r ≡ oneTree (now (s .entry)) ⌝ }
 {
     let Read::Node { len } = tree(s) else {

@@ -81,20 +81,6 @@ module _ {A : Type 0} (p : A → Bool) where
       go ih false t (suc i) e =
           let (j, f, g) = shift-least (firstPlace p xs) (suc i) e in later i (ih i (omega arith)) t
 
-  -- no other place is the first
-  pub at-first : (xs : List A) (d : A) (i : ℕ) → FirstAt xs d i → firstPlace p xs ≡ suc i
-  at-first [] d i F = absurd (omega (arith, F .within))
-  at-first (x ∷ xs) d zero F = rw (F .passes)
-  at-first (x ∷ xs) d (suc i) F =
-      rw (
-        F .first 0 (omega arith),
-        at-first xs d i (record {
-          within = omega (arith, F .within);
-          passes = F .passes;
-          first = λ j h. F .first (suc j) (omega arith);
-        }),
-      )
-
   pub first-length : (xs : List A) → firstPlace p xs ≤ length xs
   first-length [] = omega arith
   first-length (x ∷ xs) = go (first-length xs) (firstPlace p xs) refl (p x)

@@ -14,3 +14,4 @@ pub mod Clearing
 pub mod Filling
 pub mod Parts
 pub mod Decimal
+pub mod Heads

@@ -2,7 +2,7 @@
 use mathlib.Core.Path.{_∙_, _≡_}
 use Prim.Native.Nat.{_%_, _*_, _+_, _/_, _<_, _≤_, suc, zero, ℕ}
 use native.Mathlib.Nat.{div-eq-of-lt, div-lt-iff-lt-mul, mod-eq-of-lt, mod-lt, mul-add-div-right}
-use native.Mathlib.Nat.{mul-add-mod-self-right, mul-le-mul-right, mul-zero, suc-mul, zero-mul}
+use native.Mathlib.Nat.{mul-add-mod-self-right, mul-le-mul-right, mul-zero, suc-mul}
 use native.Mathlib.Omega.{arith}
 
 -- a lesser first digit is less, whatever the second ones are
@@ -21,11 +21,6 @@ radix-first x y m l =
 
 pub radix-second : (x y m : ℕ) → y < m → (x * m + y) % m ≡ y
 radix-second x y m l = mul-add-mod-self-right x m y ∙ mod-eq-of-lt l
-
--- a product that is not 0 has no factor 0
-pub factor-first : (x y : ℕ) → 1 ≤ x * y → 1 ≤ x
-factor-first zero y h = absurd (omega (arith, zero-mul y))
-factor-first (suc x) y h = omega arith
 
 pub factor-second : (x y : ℕ) → 1 ≤ x * y → 1 ≤ y
 factor-second x zero h = absurd (omega (arith, mul-zero x))

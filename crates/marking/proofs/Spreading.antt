@@ -3,7 +3,7 @@
 use mathlib.Core.Bool.{Bool, _||_, false, false≢true, true}
 use mathlib.Core.List.{List}
 use mathlib.Core.Path.{_∙_, _≡_, ap, refl, subst, sym}
-use Prim.Native.Nat.{_+_, _-_, _<_, _≤_, ℕ}
+use Prim.Native.Nat.{_+_, _-_, _<_, ℕ}
 use native.Mathlib.Omega.{arith}
 use lib.ListN.{length, length-replicate, replicate, set}
 use Rattle.marking.specs.Marks.{marked, marks, nonzero}
@@ -40,11 +40,6 @@ spread-next C i s t = record {
   sound = λ p h w. t .sound p (h i (omega arith)) (s .sound p (λ j l. h j (omega arith)) w);
 }
 
-pub spread-end : (C : ℕ → Rule) (i n : ℕ) → i ≤ n → n ≤ i → {m m' : List ℕ} {r : Bool} → Spread (UpTo C i) m m' r →
-    Spread (UpTo C n) m m' r
-spread-end C i n h l {m} {m'} {r} s =
-    let e : i ≡ n = omega arith in subst (λ (j : ℕ). Spread (UpTo C j) m m' r) e s
-
 -- a loop from the last step on
 pub spread-back : (C : ℕ → Rule) (n : ℕ) {m m' : List ℕ} {r : Bool} → Spread (UpTo (fromLast C n) n) m m' r →
     Spread (UpTo C n) m m' r
@@ -77,10 +72,6 @@ led-then f g = record {
 
 pub led-spread : {C : Rule} {m m' : List ℕ} {r : Bool} → Spread C m m' r → Led C m m'
 led-spread s = record { size = s .swept .size; kept = s .swept .kept; sound = s .sound }
-
--- a part of the rule was led
-pub led-part : {C D : Rule} {m m' : List ℕ} → ((p : ℕ → Bool) → D p → C p) → Led C m m' → Led D m m'
-led-part f s = record { size = s .size; kept = s .kept; sound = λ p d h. s .sound p (f p d) h }
 
 -- ---- n entries with marks that a closed set covers, and that grow until nothing changes
 

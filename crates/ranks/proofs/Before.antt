@@ -2,7 +2,7 @@
 use mathlib.Core.Bool.{false, true}
 use mathlib.Core.List.{List, _∷_, map}
 use mathlib.Core.Path.{_∙_, _≡_, ap, refl}
-use Prim.Native.Nat.{_+_, _-_, _<_, _≤_, ℕ}
+use Prim.Native.Nat.{_+_, _<_, _≤_, ℕ}
 use native.Mathlib.Nat.{sub-zero}
 use native.Mathlib.Omega.{arith}
 use Rattle.automata.specs.Automaton.{matches}

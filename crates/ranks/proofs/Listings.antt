@@ -18,7 +18,7 @@ use Rattle.table.specs.Layout.{arityOf, labelOf, transitionAt, transitionsIn}
 use Rattle.trees.specs.Listing.{listing, listings}
 use Rattle.trees.specs.Preorder.{preorder}
 use Rattle.trees.specs.Tree.{Forest, Tree, _⧺_, cons, count, nil, node}
-use Rattle.trees.proofs.Forests.{first-whole, later-whole, listings-split}
+use Rattle.trees.proofs.Forests.{listings-append}
 use Rattle.trees.proofs.ListingRefusal.{listing-least}
 use Rattle.trees.proofs.Preorder.{preorder-bytes}
 use Rattle.calls.specs.Calls.{fitsListing, paddedListing}
@@ -27,11 +27,6 @@ use Rattle.ranks.specs.declared.choosing.Choice.{Choice}
 use Rattle.ranks.proofs.Pending.{from-count, from-same, from-split}
 
 -- ---- listings of some trees
-
-listings-both : (f g : Forest) → listings (f ⧺ g) ≡ listings f ++ listings g
-listings-both f g =
-    sym (listings-split (count f) (f ⧺ g)) ∙ ap₂ (λ (h k : Forest). listings h ++ listings k) (first-whole f g)
-    (later-whole f g)
 
 listings-least : (f : Forest) → nodeBytes * count f ≤ length (listings f)
 listings-least nil = omega arith
@@ -253,7 +248,7 @@ module _ {w : ℕ → ℕ} {s : List ℕ} {c n q k : ℕ} where
                   ∙ sym (append-assoc (x .written) own
                   (listings (children T) ++ listings (later T)))
                   ∙ ap (λ (l : List ℕ). (x .written ++ own) ++ l)
-                  (sym (ap listings together ∙ listings-both (children T) (later T)))
+                  (sym (ap listings together ∙ listings-append (children T) (later T)))
                 where
                   together : treesFrom T qs' ks' top' (maxNodes - top') ≡ children T ⧺ later T
                   together =

@@ -6,7 +6,7 @@ use Prim.Native.Nat.{_*_, _+_, _-_, _<_, _≤_, suc, zero, ℕ}
 use native.Mathlib.Nat.{add-mul, mul-assoc, one-mul}
 use native.Mathlib.Omega.{arith}
 use lib.ListN.{drop, drop-of-length-le, getD, length, length-set, set, take}
-use lib.Seq.{drop-cons, drop-drop, drop-set-lt, getD-set-same}
+use lib.Seq.{drop-drop}
 use Rattle.automata.specs.Automaton.{Automaton, Transition, run, runs}
 use Rattle.automata.specs.Ranks.{rankIn, ranksIn, sumBefore}
 use Rattle.automata.specs.Totals.{productOver}
@@ -21,6 +21,7 @@ use Rattle.trees.specs.Listing.{childrenAt, firstTree, firstTrees, labelAt, lat
 use Rattle.trees.specs.Tree.{Forest, Tree, cons, count, nil, node}
 use Rattle.trees.proofs.Forests.{later-count}
 use Rattle.trees.proofs.Suffixes.{Passed, children-there, nodes-end, nodesFrom, read-next, read-whole}
+use Rattle.lists.proofs.Heads.{drop-set}
 
 -- ---- trees split into the first c and the others
 
@@ -34,10 +35,6 @@ module _ (A : Automaton) where
   runs-later zero f = refl
   runs-later (suc c) nil = refl
   runs-later (suc c) (cons t f) = runs-later c f
-
-  runs-count : (f : Forest) → length (runs A f) ≡ count f
-  runs-count nil = refl
-  runs-count (cons t f) = ap suc (runs-count f)
 
   module _ (w : ℕ → ℕ) where
     product-split : (c : ℕ) (f : Forest) → productOver w (runs A f) ≡
@@ -100,12 +97,6 @@ ranking-start τs w {s} ok bs {stack} e =
         number = total-is (ap (ranksIn A w) (sym z)) (rw z (omega arith));
       };
     }
-
-drop-set : (s : List ℕ) (p v : ℕ) → p < length s → drop p (set s p v) ≡ v ∷ drop (p + 1) s
-drop-set s p v h =
-    let z : suc p ≡ p + 1 = omega arith in
-    drop-cons (set s p v) p 0 (rw (length-set s p v) h)
-    ∙ rw (getD-set-same s p v 0 h, z, drop-set-lt (p + 1) s p v (omega arith))
 
 module _ {τs : List Transition} {w : ℕ → ℕ} {s bs stack : List ℕ} {top i : ℕ} {r : Total} (ok : Passed s)
     (done : Ranking τs w s bs stack top i r) (more : 0 < i) where

@@ -20,6 +20,7 @@ use Rattle.trees.specs.Tree.{Forest, Tree, _⧺_, cons, count, nil}
 use Rattle.trees.proofs.Trees.{snoc-append}
 use Rattle.ranks.specs.Steps.{ChildrenPut, treesFrom}
 use Rattle.ranks.proofs.Worth.{divided-number, remainder-number, some-worth}
+use Rattle.trees.proofs.Forests.{append-none}
 
 -- ---- trees to come
 
@@ -53,10 +54,6 @@ module _ (T : ℕ → ℕ → Tree) where
     pub from-count : (m i : ℕ) → count (treesFrom T qs ks i m) ≡ m
     from-count zero i = refl
     from-count (suc m) i = ap suc (from-count m (suc i))
-
-append-none : (f : Forest) → f ⧺ nil ≡ f
-append-none nil = refl
-append-none (cons t f) = ap (cons t) (append-none f)
 
 -- ---- the children of a node
 

@@ -2,16 +2,16 @@
 use mathlib.Core.Bool.{false, true}
 use mathlib.Core.List.{List, []}
 use mathlib.Core.Path.{_∙_, _≡_, ap, ap₂, refl, sym}
-use Prim.Native.Nat.{_*_, _<_, _≤_, ℕ}
+use Prim.Native.Nat.{_<_, _≤_, ℕ}
 use native.Mathlib.Omega.{arith}
 use lib.Dec.{leb}
-use lib.ListN.{drop, getD, getD-replicate, length, replicate}
+use lib.ListN.{getD, getD-replicate, length, replicate}
 use lib.Seq.{length-sets, sets}
 use borrow.Author.Tests.{le-leb}
 use Rattle.automata.specs.Automaton.{Automaton, Fits, Transition, accepting, accepts, run, states}
 use Rattle.automata.specs.NodeStates.{nodeStates}
 use Rattle.fields.specs.Fields.{InTable}
-use Rattle.format.specs.Format.{headBytes, maxArity, maxNodes, nodeBytes}
+use Rattle.format.specs.Format.{headBytes, maxArity, maxNodes}
 use Rattle.lists.specs.Tests.{_∈_}
 use Rattle.running.specs.Running.{HoldsStates, Rows, Steps, over}
 use Rattle.table.specs.Layout.{classAt, decode, stateCount, transitionCount, transitionsIn}

@@ -4,3 +4,5 @@ pub mod Moved
 pub mod Placed
 pub mod Inserted
 pub mod Overwritten
+pub mod Slots
+pub mod Stepping

@@ -4,7 +4,7 @@ use mathlib.Core.List.{List}
 use mathlib.Core.Path.{_∙_, _≡_, ap, ap₂, refl}
 use Prim.Native.Nat.{_%_, _*_, _+_, _-_, _/_, _<_, _≤_, ℕ}
 use native.Mathlib.Omega.{arith}
-use lib.ListN.{List·getD-eq-default, getD, length}
+use lib.ListN.{getD, length}
 use lib.Seq.{getD-drop}
 use borrow.Author.Tests.{le-ltb, lt-ltb, ne-eqb}
 use Rattle.lists.specs.Tests.{bit}
@@ -33,9 +33,6 @@ encode-length A = length-tabulated (byteAt A) 0 tableBytes
 pub encode-byte : (A : Automaton) (i : ℕ) → i < tableBytes → getD (encode A) i 0 ≡ byteAt A i
 unfolding encode
 encode-byte A i h = let e : 0 + i ≡ i = omega arith in getD-tabulated (byteAt A) 0 tableBytes i 0 h ∙ ap (byteAt A) e
-
-pub encode-beyond : (A : Automaton) (i : ℕ) → tableBytes ≤ i → getD (encode A) i 0 ≡ 0
-encode-beyond A i h = List·getD-eq-default (encode A) 0 (omega (arith, encode-length A))
 
 -- ---- the head
 

@@ -2,20 +2,18 @@
 -- automaton is in the layout.
 use mathlib.Core.Bool.{Bool, _&&_, false, true}
 use mathlib.Core.List.{List, map}
-use mathlib.Core.Path.{_∙_, _≡_, ap, refl, subst, subst₂, sym}
-use Prim.Native.Nat.{_%_, _*_, _+_, _-_, _/_, _<_, _≤_, suc, zero, ℕ}
+use mathlib.Core.Path.{_∙_, _≡_, ap, subst, subst₂, sym}
+use Prim.Native.Nat.{_%_, _*_, _+_, _<_, _≤_, suc, zero, ℕ}
 use native.Mathlib.Omega.{arith}
-use lib.Dec.{eqb, ltb}
 use lib.ListN.{List·getD-eq-default, getD, length}
-use borrow.Author.Tests.{ltb-false, ltb-true}
 use Rattle.automata.specs.Automaton.{Automaton, Transition, accepting, states}
 use Rattle.automata.specs.Valid.{inRange, statesInRange}
-use Rattle.format.specs.Format.{AllBytes, argsAt, countAt, headBytes, labelBytes, labelWritten, maxLabel}
-use Rattle.format.specs.Format.{maxTransitions, outAt, tableBytes, transitionBytes}
+use Rattle.format.specs.Format.{AllBytes, headBytes}
+use Rattle.format.specs.Format.{maxTransitions, transitionBytes}
 use Rattle.lists.specs.Positions.{upFrom}
 use Rattle.lists.specs.Tests.{_∈_, bit, every}
 use Rattle.table.specs.Intake.{WithinLimits}
-use Rattle.table.specs.Layout.{argOf, arityOf, blank, body, byteAt, decode, encode, layoutFits}
+use Rattle.table.specs.Layout.{argOf, arityOf, blank, body, decode, encode, layoutFits}
 use Rattle.table.specs.Layout.{nthTransition, outOf, stateCount, transitionAt, transitionByte, transitionCount}
 use Rattle.trees.specs.Legal.{LegalNode}
 use Rattle.format.proofs.Bytes.{drop-bytes}
@@ -23,7 +21,7 @@ use Rattle.format.proofs.Labels.{from-most}
 use Rattle.automata.proofs.Valid.{InRange, range-in, ranged-transition}
 use Rattle.lists.proofs.Intervals.{getD-in, length-tabulated, tabulated-in}
 use Rattle.lists.proofs.Tests.{and-both, in-every}
-use Rattle.table.proofs.Bytes.{cond-all, encode-arg, encode-arity, encode-beyond, encode-body, encode-byte}
+use Rattle.table.proofs.Bytes.{encode-arg, encode-arity, encode-body}
 use Rattle.table.proofs.Bytes.{encode-class, encode-count, encode-label, encode-out, encode-states}
 use Rattle.table.proofs.Decoded.{decoded-count, decoded-in, decoded-states}
 use Rattle.table.proofs.Laid.{Laid, LaidTransition, laid-layout, layout-laid}
@@ -85,11 +83,6 @@ layout-in-range b fits = laid-in-range b (layout-laid b fits)
 
 -- ---- the table of an automaton
 
-label-byte : (a r : ℕ) → a ≤ maxLabel → getD (labelWritten a) r 0 < 256
-label-byte a zero h = omega arith
-label-byte a (suc zero) h = omega arith
-label-byte a (suc (suc r)) h = omega arith
-
 bit-bound : (t : Bool) → bit t ≤ 1
 bit-bound true = omega arith
 bit-bound false = omega arith
@@ -146,48 +139,3 @@ module _ (A : Automaton) (within : WithinLimits A) (ranged : statesInRange A ≡
 
   pub encode-layout : layoutFits (encode A) ≡ true
   encode-layout = laid-layout (encode A) encode-laid
-
-  -- every argument is a state, or 0 beyond the last
-  arg-byte : (i k : ℕ) → i < length (A .transitions) → getD (nth i .args) k 0 < 256
-  arg-byte i k h = go (ltb k (length (nth i .args))) refl
-    where
-      go : (t : Bool) → ltb k (length (nth i .args)) ≡ t → getD (nth i .args) k 0 < 256
-      go true e =
-          let m = getD-in (nth i .args) k 0 (ltb-true k (length (nth i .args)) e) in
-          omega (arith, nth-range i h .args (getD (nth i .args) k 0) m, within .states)
-      go false e =
-          omega (arith, List·getD-eq-default (nth i .args) 0 (ltb-false k (length (nth i .args)) e))
-
-  nth-byte : (i r : ℕ) → transitionByte (nth i) r < 256
-  nth-byte i r = go (ltb i (length (A .transitions))) refl
-    where
-      go : (t : Bool) → ltb i (length (A .transitions)) ≡ t → transitionByte (nth i) r < 256
-      go true e =
-          let h = ltb-true i (length (A .transitions)) e in
-          let legal = nth-legal A within i h in
-          cond-all (λ x. x < 256) (ltb r labelBytes) (λ _. label-byte (nth i .label) r (legal .label .1))
-          (λ _. cond-all (λ x. x < 256) (ltb r argsAt) (λ _. omega (arith, legal .arity))
-          (λ _. cond-all (λ x. x < 256) (ltb r outAt) (λ _. arg-byte i (r - argsAt) h)
-          (λ _. omega (arith, nth-range i h .out, within .states))))
-      go false e =
-          omega (
-            arith,
-            ap (λ (τ : Transition). transitionByte τ r)
-                (List·getD-eq-default (A .transitions) blank (ltb-false i (length (A .transitions)) e)),
-            blank-byte r,
-          )
-
-  byteAt-bound : (i : ℕ) → byteAt A i < 256
-  byteAt-bound i =
-      cond-all (λ x. x < 256) (eqb i 0) (λ _. omega (arith, within .states))
-      (λ _. cond-all (λ x. x < 256) (ltb i countAt) (λ _. omega (arith, bit-bound (accepting A i)))
-      (λ _. cond-all (λ x. x < 256) (eqb i countAt) (λ _. omega (arith, within .transitions))
-      (λ _. cond-all (λ x. x < 256) (ltb i headBytes) (λ _. omega arith)
-      (λ _. nth-byte ((i - headBytes) / transitionBytes) ((i - headBytes) % transitionBytes)))))
-
-  pub encode-bytes : AllBytes (encode A)
-  encode-bytes i = go (ltb i tableBytes) refl
-    where
-      go : (t : Bool) → ltb i tableBytes ≡ t → getD (encode A) i 0 < 256
-      go true e = omega (arith, encode-byte A i (ltb-true i tableBytes e), byteAt-bound i)
-      go false e = omega (arith, encode-beyond A i (ltb-false i tableBytes e))

@@ -3,7 +3,7 @@
 use mathlib.Core.Bool.{false, true}
 use mathlib.Core.List.{List, [], _++_, _∷_, append-assoc}
 use mathlib.Core.Logic.{_⊎_, inl, inr}
-use mathlib.Core.Path.{_∙_, _≡_, ap, refl, subst}
+use mathlib.Core.Path.{_∙_, _≡_, refl, subst}
 use Prim.Native.Nat.{_%_, _+_, _-_, _/_, _<_, _≤_, suc, zero, ℕ}
 use native.Mathlib.Nat.{add-zero}
 use native.Mathlib.Numerals.{add-one}
@@ -21,6 +21,7 @@ use Rattle.lists.proofs.Decimal.{decimal-digit}
 use Rattle.lists.proofs.Tests.{test}
 use Rattle.text.proofs.Labels.{Extends, digit-true, label-extended, true-extends}
 use Rattle.trees.proofs.Trees.{snoc-append}
+use Rattle.trees.proofs.Forests.{append-none}
 
 -- ---- the text of a tree is scanned to its end
 
@@ -68,10 +69,6 @@ module _ (os : List Open) where
 
   pub scan-label : (a : ℕ) → a ≤ maxLabel → Scanned a
   scan-label a l = scan-label-below (suc a) a (omega arith) l
-
-append-none : (f : Forest) → f ⧺ nil ≡ f
-append-none nil = refl
-append-none (cons t f) = ap (cons t) (append-none f)
 
 -- after a label children are read as after a child
 naming-children : (f : Forest) (s : List ℕ) (n a : ℕ) (os : List Open) →

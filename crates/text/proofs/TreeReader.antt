@@ -8,8 +8,6 @@ use native.Mathlib.Omega.{arith}
 use lib.Dec.{ltb}
 use lib.ListN.{drop, getD, length, length-append, length-drop, set, take-append-drop}
 use lib.Seq.{drop-cons, drop-drop, getD-drop, length-sets, length-take-le, sets}
-use mir.Syntax.{w64}
-use mir.Val.{Fits}
 use borrow.Author.Tests.{eq-eqb, ltb-false, ltb-true, ne-eqb}
 use Rattle.format.specs.Format.{labelBytes, labelWritten, listingBytes, maxLabel, maxLine, nodeBytes}
 use Rattle.text.specs.Contracts.{ChildrenRead, ChildrenText, LabelRead, LabelTo, NoChildren, ReaderAt, TreeRead}

@@ -9,9 +9,8 @@ use Rattle.automata.specs.Acyclic.{acyclic}
 use Rattle.automata.specs.Automaton.{Automaton}
 use Rattle.automata.specs.Order.{rising}
 use Rattle.automata.specs.Totals.{sumAccepting, total}
-use Rattle.fields.specs.Fields.{InTable}
 use Rattle.fields.specs.View.{Viewed, viewed}
-use Rattle.fields.proofs.Transitions.{layout-in-table, part-body}
+use Rattle.fields.proofs.Transitions.{part-body, passed-table}
 use Rattle.format.specs.Format.{headBytes, maxTransitions, tableBytes}
 use Rattle.lists.specs.Positions.{upFrom}
 use Rattle.lists.proofs.Parts.{part}
@@ -26,9 +25,6 @@ use Rattle.totals.proofs.Accepting.{viewed-total}
 pub passed-length : (b : List ℕ) → tableRefusal b ≡ 0 → length b ≡ tableBytes
 passed-length b passed = unrefused-passes b passed .length
 
-passed-layout : (b : List ℕ) → tableRefusal b ≡ 0 → InTable b
-passed-layout b passed = layout-in-table b (passed-length b passed) (unrefused-passes b passed .layout)
-
 module _ (b : List ℕ) {n k : ℕ} (count : k ≡ transitionCount b) (states : n ≡ stateCount b) where
   -- the automaton that code sees is the table's
   pub seen-decoded : viewed b (part b headBytes) n k ≡ decode b
@@ -42,7 +38,7 @@ module _ (b : List ℕ) {n k : ℕ} (count : k ≡ transitionCount b) (states : 
       ((rising (transitionsIn (part b headBytes) k) ≡ true) × ((k ≤ maxTransitions) ×
       (acyclic (viewed b (part b headBytes) n k) ≡ true)))
   passed-seen passed =
-      let t = passed-layout b passed in
+      let t = passed-table b passed in
       let p = unrefused-passes b passed in (
         rw (part-body b, count, states)
             (record { over = t .over; states = omega arith; classes = omega arith }),

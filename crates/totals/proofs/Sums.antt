@@ -2,7 +2,7 @@
 use mathlib.Core.Bool.{Bool, cond, false, true}
 use mathlib.Core.List.{List, [], _++_, _∷_, map}
 use mathlib.Core.Path.{_∙_, _≡_, ap, refl, subst, sym}
-use Prim.Native.Nat.{_*_, _+_, _-_, _<_, _≤_, min, suc, ℕ}
+use Prim.Native.Nat.{_*_, _+_, _<_, _≤_, min, suc, ℕ}
 use native.Mathlib.Nat.{mul-assoc, mul-one, one-mul}
 use native.Mathlib.Numerals.{add-one}
 use native.Mathlib.Omega.{arith}

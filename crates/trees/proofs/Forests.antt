@@ -7,9 +7,13 @@ use native.Mathlib.Omega.{arith}
 use Rattle.trees.specs.Listing.{firstTrees, laterTrees, listing, listings}
 use Rattle.trees.specs.Tree.{Forest, _⧺_, cons, count, nil}
 
-listings-append : (f g : Forest) → listings (f ⧺ g) ≡ listings f ++ listings g
+pub listings-append : (f g : Forest) → listings (f ⧺ g) ≡ listings f ++ listings g
 listings-append nil g = refl
 listings-append (cons t f) g = rw (listings-append f g) (sym (append-assoc (listing t) (listings f) (listings g)))
+
+pub append-none : (f : Forest) → f ⧺ nil ≡ f
+append-none nil = refl
+append-none (cons t f) = ap (cons t) (append-none f)
 
 pub first-later : (k : ℕ) (f : Forest) → firstTrees k f ⧺ laterTrees k f ≡ f
 first-later zero f = refl
@@ -28,16 +32,6 @@ pub later-count : (k : ℕ) (f : Forest) → count (laterTrees k f) ≡ count f 
 later-count zero f = sym (sub-zero (count f))
 later-count (suc k) nil = omega arith
 later-count (suc k) (cons t f) = omega (arith, later-count k f)
-
-pub first-append : (k : ℕ) (f g : Forest) → k ≤ count f → firstTrees k (f ⧺ g) ≡ firstTrees k f
-first-append zero f g h = refl
-first-append (suc k) nil g h = absurd (omega arith)
-first-append (suc k) (cons t f) g h = ap (cons t) (first-append k f g (omega arith))
-
-pub later-append : (k : ℕ) (f g : Forest) → k ≤ count f → laterTrees k (f ⧺ g) ≡ laterTrees k f ⧺ g
-later-append zero f g h = refl
-later-append (suc k) nil g h = absurd (omega arith)
-later-append (suc k) (cons t f) g h = later-append k f g (omega arith)
 
 -- a forest before others
 pub first-whole : (f g : Forest) → firstTrees (count f) (f ⧺ g) ≡ f

@@ -1,6 +1,6 @@
 -- Reading undoes listing, listing undoes reading, and what passes 1 to 4 is the listing of a legal tree.
 use mathlib.Core.Bool.{false≢true, true}
-use mathlib.Core.List.{List, [], _++_, _∷_, append-assoc}
+use mathlib.Core.List.{List, [], _++_, _∷_, append-assoc, append-nil}
 use mathlib.Core.Path.{_∙_, _≡_, ap, ap₂, refl, subst, subst₂, sym}
 use Prim.Native.Nat.{_%_, _*_, _+_, _/_, _<_, suc, zero, ℕ}
 use native.Mathlib.Nat.{suc-add, zero-add}
@@ -36,13 +36,9 @@ mutual
           readTrees ((listing t ++ listings f) ++ s) ≡ cons t (f ⧺ readTrees s)
       go d e = rw append-assoc (d ∙ ap (cons t) e)
 
-pub append-none : (s : List ℕ) → s ++ [] ≡ s
-append-none [] = refl
-append-none (x ∷ s) = rw (append-none s)
-
 -- the reader gives back the tree that was listed
 pub read-listing : (t : Tree) → readTree (listing t) ≡ t
-read-listing t = ap (λ (s : List ℕ). readTree s) (sym (append-none (listing t))) ∙ ap firstTree (read-tree t [])
+read-listing t = ap (λ (s : List ℕ). readTree s) (sym (append-nil (listing t))) ∙ ap firstTree (read-tree t [])
 
 mutual
   tree-lists : (t : Tree) (s : List ℕ) (k : ℕ) → listsTrees (listing t ++ s) (suc k) ≡ listsTrees s k
@@ -61,7 +57,7 @@ mutual
 -- the listing of a tree lists exactly one tree
 pub listing-one : (t : Tree) → oneTree (listing t) ≡ true
 unfolding oneTree
-listing-one t = ap (λ (s : List ℕ). listsTrees s 1) (sym (append-none (listing t))) ∙ tree-lists t [] 0
+listing-one t = ap (λ (s : List ℕ). listsTrees s 1) (sym (append-nil (listing t))) ∙ tree-lists t [] 0
 
 -- ---- listing undoes reading
 
@@ -109,7 +105,7 @@ listings-read (h ∷ l ∷ c ∷ s) (suc k) b e =
 
 one-listing : (f : Forest) → count f ≡ 1 → listing (firstTree f) ≡ listings f
 one-listing nil e = absurd (omega arith)
-one-listing (cons t nil) e = sym (append-none (listing t))
+one-listing (cons t nil) e = sym (append-nil (listing t))
 one-listing (cons t (cons u f)) e = absurd (omega arith)
 
 -- the tree that is read has the bytes as its listing

@@ -1,7 +1,7 @@
 -- Refusals 1 to 4 in 01's words: bytes pass exactly when they are the listing of a legal tree of at most
 -- 48 nodes.
 use mathlib.Core.Bool.{_&&_, not, true}
-use mathlib.Core.List.{List, []}
+use mathlib.Core.List.{List, [], append-nil}
 use mathlib.Core.Logic.{_↔_}
 use mathlib.Core.Path.{_≡_, ap, refl, subst, sym}
 use Prim.Native.Nat.{_%_, _*_, _+_, _<_, _≤_, ℕ}
@@ -22,7 +22,7 @@ use Rattle.format.proofs.Labels.{from-most}
 use Rattle.lists.proofs.Conditions.{AllHold, FromOne, hold-unbroken, unbroken-hold}
 use Rattle.lists.proofs.Positions.{in-upFrom, upFrom-in}
 use Rattle.lists.proofs.Tests.{and-both, and-left, and-right, every-in, in-every}
-use Rattle.trees.proofs.Listing.{LegalAt, LegalNodes, append-none, index-nodes, listing-one, listing-read}
+use Rattle.trees.proofs.Listing.{LegalAt, LegalNodes, index-nodes, listing-one, listing-read}
 use Rattle.trees.proofs.Listing.{nodes-index, read-count, read-legal, tree-nodes}
 
 pub listing-from-one : (s : List ℕ) → FromOne (listingConditions s)
@@ -51,7 +51,7 @@ passed-legal s b (w, (l, (n, (o, u)))) =
     (read-legal s 1 o (index-nodes s (node-legal s b l n)))
 
 legal-nodes : (t : Tree) → Legal t → LegalNodes (listing t)
-legal-nodes t h = subst LegalNodes (append-none (listing t)) (tree-nodes t [] h tt)
+legal-nodes t h = subst LegalNodes (append-nil (listing t)) (tree-nodes t [] h tt)
 
 mutual
   listing-even : (t : Tree) → length (listing t) % nodeBytes ≡ 0

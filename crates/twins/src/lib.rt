@@ -1,6 +1,8 @@
 // Condition 12 of a table without loops. If two states are equivalent, some two are twins: of one class, and every slot
-// takes them to one state. Twins have one fingerprint in a first round, so only states that share one are compared.
+// takes them to one state. Twins have one fingerprint, so only states that share one are compared.
 // `transitions` has `count` sorted transitions over the states 1 to n; `classes` has the class of state q at byte q.
+mod swapping; // one state for another
+
 ghost use mathlib.Core.Bool.{true};
 ghost use mathlib.Core.Path.{_≡_};
 ghost use Prim.Native.Nat.{_≤_};
@@ -12,34 +14,12 @@ ghost use Rattle.fields.specs.Fields.{HoldsTransitionsOver};
 ghost use Rattle.fields.specs.View.{Viewed, viewed};
 ghost use Rattle.sorted.specs.Sorted.{Sorted};
 ghost use Rattle.table.specs.Layout.{transitionsIn};
-ghost use Rattle.twins.specs.Twins.{aloneBelow, areTwins, joined, joinedParts, noneTwins};
-use fingerprints::first_round;
+ghost use Rattle.twins.specs.Twins.{aloneBelow, areTwins, noneTwins};
+use fingerprints::state_prints;
 use format::BYTE_VALUES;
-use partition::parts_agree;
+use swapping::are_interchangeable;
 
-// The part of x, if q is of p's part and every other state of its own.
-fn part_of(p: usize, q: usize, x: usize) -> usize
-    ensures { λ r. ⌜ r ≡ joined p q x ⌝ }
-{
-    if x == q {
-        return p;
-    }
-    x
-}
-
-fn joined_parts(p: usize, q: usize) -> [usize; BYTE_VALUES]
-    ensures { λ r. ⌜ r ≡ joinedParts p q ⌝ }
-{
-    let mut parts = [0usize; BYTE_VALUES];
-    let mut x = 0;
-    while x < BYTE_VALUES {
-        parts[x] = part_of(p, q, x);
-        x += 1;
-    }
-    parts
-}
-
-// Whether p and q share a fingerprint and every transition leads to the same with one for the other.
+// Whether p and q share a fingerprint and stand for each other.
 fn are_twins(
     transitions: &[u8],
     count: usize,
@@ -50,15 +30,14 @@ fn are_twins(
 ) -> bool
     requires { ⌜ Sorted (now transitions) count ⌝ }
     requires { ⌜ HoldsTransitionsOver (now transitions) count n ⌝ }
-    requires { ⌜ n ≤ 255 ⌝ }
     requires { ⌜ q ≤ 255 ⌝ }
     requires { ⌜ p ≤ 255 ⌝ }
-    ensures { λ r. ⌜ r ≡ areTwins (now (transitions .entry)) count n (now (prints .entry)) q p ⌝ }
+    ensures { λ r. ⌜ r ≡ areTwins (now (transitions .entry)) count (now (prints .entry)) q p ⌝ }
 {
     if prints[q] != prints[p] {
         return false;
     }
-    parts_agree(transitions, count, n, &joined_parts(q, p))
+    are_interchangeable(transitions, count, n, q, p)
 }
 
 // Whether q is no twin of a state below it.
@@ -74,7 +53,7 @@ fn alone_below(
     requires { ⌜ n ≤ 255 ⌝ }
     requires { ⌜ 1 ≤ q ⌝ }
     requires { ⌜ q ≤ n ⌝ }
-    ensures { λ r. ⌜ r ≡ aloneBelow (now (transitions .entry)) count n (now (prints .entry)) q ⌝ }
+    ensures { λ r. ⌜ r ≡ aloneBelow (now (transitions .entry)) count (now (prints .entry)) q ⌝ }
 {
     let mut p = 1;
     while p < q {
@@ -91,7 +70,7 @@ fn none_twins(transitions: &[u8], count: usize, n: usize, prints: &[usize; BYTE_
     requires { ⌜ Sorted (now transitions) count ⌝ }
     requires { ⌜ HoldsTransitionsOver (now transitions) count n ⌝ }
     requires { ⌜ n ≤ 255 ⌝ }
-    ensures { λ r. ⌜ r ≡ noneTwins (now (transitions .entry)) count n (now (prints .entry)) ⌝ }
+    ensures { λ r. ⌜ r ≡ noneTwins (now (transitions .entry)) count (now (prints .entry)) n ⌝ }
 {
     let mut q = 1;
     while q < n + 1 {
@@ -111,6 +90,6 @@ pub fn all_distinguishable(classes: &[u8], transitions: &[u8], count: usize, n: 
     requires { ⌜ acyclic (viewed (now classes) (now transitions) n count) ≡ true ⌝ }
     ensures { λ r. ⌜ r ≡ allDistinguishable (viewed (now (classes .entry)) (now (transitions .entry)) n count) ⌝ }
 {
-    let prints = first_round(classes, transitions, count, n);
+    let prints = state_prints(classes, transitions, count, n);
     none_twins(transitions, count, n, &prints)
 }

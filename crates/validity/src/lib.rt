@@ -8,7 +8,6 @@ mod ranks; // numbers that rise from arguments to outputs
 mod grounding; // condition 11
 
 pub use grounding::acyclic;
-pub use marks::all_marked;
 pub use marks::args_marked;
 pub use numbering::Ruling;
 pub use numbering::all_seen;
@@ -17,4 +16,3 @@ pub use numbering::leads_to;
 pub use numbering::ruled;
 pub use reaching::all_accessible;
 pub use usefulness::all_coaccessible;
-pub use usefulness::useful;

@@ -3,7 +3,7 @@
 ghost use mathlib.Core.Path.{_≡_};
 ghost use Prim.Native.Nat.{_*_, _+_, _<_, _≤_};
 ghost use lib.Dec.{ltb};
-ghost use lib.ListN.{getD, length};
+ghost use lib.ListN.{length};
 ghost use Rattle.fields.specs.Fields.{Readable, HoldsTransitions};
 ghost use Rattle.format.specs.Format.{byteValues, maxTransitions};
 ghost use Rattle.lists.specs.Tests.{every};

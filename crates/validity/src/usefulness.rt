@@ -101,7 +101,7 @@ fn accepting_marks(classes: &[u8], n: usize) -> [u8; BYTE_VALUES]
 }
 
 // The states that some subtree of an accepted tree runs to, marked.
-pub fn useful(classes: &[u8], transitions: &[u8], count: usize, n: usize) -> [u8; BYTE_VALUES]
+fn useful(classes: &[u8], transitions: &[u8], count: usize, n: usize) -> [u8; BYTE_VALUES]
     requires { ⌜ Viewed (now classes) (now transitions) n count ⌝ }
     ensures { λ r. ⌜ Exactly (coaccessible (viewed (now (classes .entry)) (now (transitions .entry)) n count)) r ⌝ }
 {

@@ -1,5 +1,4 @@
 -- `bench::read_some` meets its contract: what a read brought was taken.
-use native.Mathlib.Omega.{arith}
 use lib.ListN.{length-take}
 use Rattle.bench.proofs.Parts.{came-taken, stayed}
 use borrow.Author.Needs.{needs}

@@ -1,5 +1,4 @@
 -- `console::feed` meets its contract: the first `i` bytes of the part were taken.
-use native.Mathlib.Omega.{arith}
 use mathlib.Core.Path.{_≡_, refl}
 use Prim.Native.Nat.{_-_}
 use lib.ListN.{length}

@@ -1,5 +1,4 @@
 -- `console::keep` meets its contract: a byte that has no room is dropped.
-use native.Mathlib.Omega.{arith}
 use Rattle.console.proofs.Moves.{kept-full, kept-more}
 use borrow.Author.Needs.{needs}
 use Rattle.console.proofs.keep.Statement.{statement}

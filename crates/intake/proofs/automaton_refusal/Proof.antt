@@ -3,12 +3,6 @@ use Rattle.intake.proofs.Checks.{passes}
 use borrow.Author.Needs.{needs}
 use Rattle.intake.proofs.automaton_refusal.Statement.{statement}
 use Rattle.intake.proofs.automaton_refusal.Tie as tie
-use Rattle.intake.proofs.automaton_refusal.Reads as reads
-use Rattle.intake.proofs.automaton_refusal.Lts as lts
-use Rattle.fingerprints.proofs.settled.Reads as settled-reads
-use Rattle.intake.proofs.loopless.Reads as loopless-reads
-use Rattle.intake.proofs.searched_refusal.Reads as searched-refusal-reads
-use Rattle.validity.proofs.ruled.Reads as ruled-reads
 
 -- src/lib.rt:94:9
 ruled-requires : tie.Need-ruled-requires

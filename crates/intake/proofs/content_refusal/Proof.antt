@@ -1,8 +1,6 @@
 -- `intake::content_refusal` meets its contract: 7 and 8 first, then those of the automaton.
-use mathlib.Core.Path.{_∙_, ap, ap₂, subst, sym}
-use Rattle.fields.proofs.Transitions.{part-body}
 use Rattle.listing.proofs.Checks.{kept}
-use Rattle.intake.proofs.Checks.{content-rest, refused-7, refused-8, table-padded, table-rises, table-seen}
+use Rattle.intake.proofs.Checks.{refused-7, refused-8, table-padded, table-rises, table-seen}
 use Rattle.intake.proofs.Checks.{table-answer}
 use borrow.Author.Needs.{needs}
 use Rattle.intake.proofs.content_refusal.Statement.{statement}

@@ -4,9 +4,6 @@ use mathlib.Core.Path.{_∙_, sym}
 use Rattle.intake.proofs.Checks.{numbered-reached}
 use Rattle.intake.proofs.reached.Statement.{statement}
 use Rattle.intake.proofs.reached.Tie as tie
-use Rattle.intake.proofs.reached.Reads as reads
-use Rattle.intake.proofs.reached.Lts as lts
-use Rattle.validity.proofs.all_accessible.Reads as all-accessible-reads
 
 -- src/lib.rt:36:9
 returns : tie.Need-returns

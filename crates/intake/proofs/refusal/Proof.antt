@@ -3,9 +3,6 @@ use Rattle.intake.proofs.Checks.{refused-5, right-length}
 use borrow.Author.Needs.{needs}
 use Rattle.intake.proofs.refusal.Statement.{statement}
 use Rattle.intake.proofs.refusal.Tie as tie
-use Rattle.intake.proofs.refusal.Reads as reads
-use Rattle.intake.proofs.refusal.Lts as lts
-use Rattle.intake.proofs.content_refusal.Reads as content-refusal-reads
 
 -- src/lib.rt:100:9
 returns : tie.Need-returns

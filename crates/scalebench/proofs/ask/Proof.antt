@@ -1,7 +1,8 @@
 -- `scalebench::ask` meets its contract: refused, or what the states of the nodes say.
 use mathlib.Core.Path.{_∙_, sym}
 use Rattle.calls.proofs.Conditions.{ask-passed}
-use Rattle.scalebench.proofs.Reading.{ask-answered, ask-refused, passed-table}
+use Rattle.fields.proofs.Transitions.{passed-table}
+use Rattle.scalebench.proofs.Reading.{ask-answered, ask-refused}
 use borrow.Author.Needs.{needs}
 use Rattle.scalebench.proofs.ask.Statement.{statement}
 use Rattle.scalebench.proofs.ask.Tie as tie

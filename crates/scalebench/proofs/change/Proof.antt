@@ -5,7 +5,7 @@ use Rattle.trees.specs.Listing.{readTree}
 use Rattle.running.proofs.Tables.{root-byte}
 use Rattle.scalebench.proofs.Changing.{change-given, change-refused, change-settled, input-broken, input-passed}
 use Rattle.scalebench.proofs.Changing.{presence-left, presence-read}
-use Rattle.scalebench.proofs.Reading.{passed-table}
+use Rattle.fields.proofs.Transitions.{passed-table}
 use borrow.Author.Needs.{needs}
 use Rattle.scalebench.proofs.change.Statement.{statement}
 use Rattle.scalebench.proofs.change.Tie as tie

@@ -1,7 +1,8 @@
 -- `scalebench::take_in` meets its contract: refused, or the numbers in the head of the table.
 use native.Mathlib.Omega.{arith}
 use mathlib.Core.Path.{_∙_, sym}
-use Rattle.scalebench.proofs.Reading.{passed-table, take-answered, take-refused}
+use Rattle.fields.proofs.Transitions.{passed-table}
+use Rattle.scalebench.proofs.Reading.{take-answered, take-refused}
 use borrow.Author.Needs.{needs}
 use Rattle.scalebench.proofs.take_in.Statement.{statement}
 use Rattle.scalebench.proofs.take_in.Tie as tie

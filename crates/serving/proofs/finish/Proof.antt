@@ -1,5 +1,5 @@
 -- `serving::finish` meets its contract: the numbers printed last are those that intake reports.
-use mathlib.Core.Path.{_∙_, ap, refl, sym}
+use mathlib.Core.Path.{_∙_, refl, sym}
 use Rattle.serving.proofs.Handled.{printed-closing, other-closing}
 use borrow.Author.Needs.{needs}
 use Rattle.serving.proofs.finish.Statement.{statement}

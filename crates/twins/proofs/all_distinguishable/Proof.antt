@@ -5,19 +5,19 @@ use borrow.Author.Needs.{needs}
 use Rattle.twins.proofs.all_distinguishable.Statement.{statement}
 use Rattle.twins.proofs.all_distinguishable.Tie as tie
 
-first-round-requires : tie.Need-first-round-requires
-first-round-requires c κs = search needs
+state-prints-requires : tie.Need-state-prints-requires
+state-prints-requires c κs = search needs
 
 none-twins-requires : tie.Need-none-twins-requires
 none-twins-requires c κs = search needs
 
 returns : tie.Need-returns
 returns c =
-    let at-first = c .before .before in
-    let start = at-first .before .before .before in
+    let at-prints = c .before .before in
+    let start = at-prints .before .before .before in
     c .none-twins .ensures ∙ none-exact (start .args .classes .now) (start .args .transitions .now) (start .args .n)
-    (start .args .count) (start .pre .0) (start .pre .1 .0) (start .pre .1 .1 .0) (at-first .first-round .result)
-    (at-first .first-round .ensures) (start .pre .1 .1 .1)
+    (start .args .count) (start .pre .0) (start .pre .1 .0) (start .pre .1 .1 .0) (at-prints .state-prints .result)
+    (at-prints .state-prints .ensures) (start .pre .1 .1 .1)
 
 pub all-distinguishable-spec : {M : Type 1} → statement M
-all-distinguishable-spec = tie.close (tie.spec first-round-requires none-twins-requires returns)
+all-distinguishable-spec = tie.close (tie.spec state-prints-requires none-twins-requires returns)

@@ -1,7 +1,7 @@
 -- `twins::alone_below` meets its contract: none of the states before `p` is a twin.
 use mathlib.Core.Bool.{not}
 use mathlib.Core.Path.{_∙_, ap, sym}
-use Prim.Native.Nat.{_-_}
+use Prim.Native.Nat.{_-_, _≤_}
 use native.Mathlib.Omega.{arith}
 use Rattle.lists.proofs.Loops.{EveryFrom, every-broken, every-end, every-next, every-start}
 use Rattle.twins.specs.Twins.{aloneBelow, notTwins}
@@ -11,7 +11,7 @@ use Rattle.twins.proofs.alone_below.Tie as tie
 
 abbrev Inv-loop : tie.InvT-loop
 Inv-loop transitions count n prints q p₀ p =
-    EveryFrom (aloneBelow transitions count n prints q) (notTwins transitions count n prints q) q p
+    EveryFrom (aloneBelow transitions count prints q) (notTwins transitions count prints q) q p
 
 abbrev μ-loop : tie.MeasureT-loop
 μ-loop transitions count n prints q p₀ p = q - p
@@ -21,19 +21,9 @@ loop-holds c = every-start (c .before .args .q - 1) (omega (arith, c .before .pr
 
 are-twins-requires : tie.Need-are-twins-requires Inv-loop μ-loop
 are-twins-requires c κs =
-    let start = c .before .before .before in (
-      start .pre .0,
-      (
-        start .pre .1 .0,
-        (
-          start .pre .1 .1 .0,
-          (
-            omega (arith, start .pre .1 .1 .0, start .pre .1 .1 .1 .1),
-            omega (arith, start .pre .1 .1 .0, start .pre .1 .1 .1 .1),
-          ),
-        ),
-      ),
-    )
+    let start = c .before .before .before in
+    let small : start .args .q ≤ 255 = omega (arith, start .pre .1 .1 .0, start .pre .1 .1 .1 .1) in
+    (start .pre .0, (start .pre .1 .0, (small, omega (arith, small))))
 
 returns : tie.Need-returns Inv-loop μ-loop
 returns c =

@@ -13,8 +13,8 @@ use Rattle.twins.proofs.none_twins.Tie as tie
 
 abbrev Inv-loop : tie.InvT-loop
 Inv-loop transitions count n prints q₀ q =
-    (1 ≤ q) × EveryFrom (every (aloneBelow transitions count n prints) (upFrom 1 n))
-    (aloneBelow transitions count n prints) (n + 1) q
+    (1 ≤ q) × EveryFrom (every (aloneBelow transitions count prints) (upFrom 1 n))
+    (aloneBelow transitions count prints) (n + 1) q
 
 abbrev μ-loop : tie.MeasureT-loop
 μ-loop transitions count n prints q₀ q = n + 1 - q

@@ -3,7 +3,6 @@ use Rattle.lists.proofs.Filling.{FilledTo, filled-next, filled-start}
 use Rattle.lists.specs.Positions.{byteFrom}
 use Rattle.format.specs.Format.{transitionBytes}
 use Prim.Native.Nat.{_-_}
-use native.Mathlib.Omega.{arith}
 use mathlib.Core.Path.{refl}
 use Rattle.fields.proofs.Entries.{fields-copied}
 use borrow.Author.Needs.{needs}

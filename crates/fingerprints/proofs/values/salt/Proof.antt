@@ -3,8 +3,6 @@ use Rattle.fingerprints.specs.Fingerprints.{salted}
 use borrow.Author.Needs.{needs}
 use Rattle.fingerprints.proofs.values.salt.Statement.{statement}
 use Rattle.fingerprints.proofs.values.salt.Tie as tie
-use Rattle.fingerprints.proofs.values.salt.Reads as reads
-use Rattle.fingerprints.proofs.values.salt.Lts as lts
 
 -- src/values.rt:17:5
 mul-result : tie.Need-mul-result

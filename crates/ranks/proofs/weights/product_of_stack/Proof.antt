@@ -1,7 +1,7 @@
 -- `ranks::weights::product_of_stack` meets its contract: the number is the product over the states from `k` on.
 use native.Mathlib.Omega.{arith}
 use mathlib.Core.Path.{sym}
-use Prim.Native.Nat.{_-_, _≤_}
+use Prim.Native.Nat.{_≤_}
 use Rattle.totals.specs.Numbers.{numberIn}
 use Rattle.ranks.proofs.Products.{ProductOn, on-end, on-next, on-start}
 use borrow.Author.Needs.{needs}

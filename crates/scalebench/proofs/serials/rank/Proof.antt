@@ -4,7 +4,7 @@ use Rattle.table.specs.Layout.{decode}
 use Rattle.trees.specs.Listing.{readTree}
 use Rattle.calls.proofs.Conditions.{ask-passed}
 use Rattle.running.proofs.Tables.{root-byte}
-use Rattle.scalebench.proofs.Reading.{passed-table}
+use Rattle.fields.proofs.Transitions.{passed-table}
 use Rattle.scalebench.proofs.Numbering.{rank-answered, rank-refused, ranked-other}
 use borrow.Author.Needs.{needs}
 use Rattle.scalebench.proofs.serials.rank.Statement.{statement}

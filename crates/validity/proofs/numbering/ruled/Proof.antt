@@ -2,7 +2,7 @@
 -- all states are numbered, and whether all transitions climb.
 use mathlib.Core.Bool.{false≢true}
 use mathlib.Core.Path.{_∙_, _≡_, subst, sym}
-use Prim.Native.Nat.{_+_, _-_, _≤_, ℕ}
+use Prim.Native.Nat.{_+_, _-_, ℕ}
 use native.Mathlib.Omega.{arith}
 use lib.ListN.{length, length-replicate}
 use borrow.Author.Needs.{needs}

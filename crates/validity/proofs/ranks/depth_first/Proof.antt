@@ -5,10 +5,6 @@ use Rattle.format.specs.Format.{byteValues}
 use borrow.Author.Needs.{needs}
 use Rattle.validity.proofs.ranks.depth_first.Statement.{statement}
 use Rattle.validity.proofs.ranks.depth_first.Tie as tie
-use Rattle.validity.proofs.ranks.depth_first.Reads as reads
-use Rattle.validity.proofs.ranks.depth_first.Lts as lts
-use Rattle.validity.proofs.ranks.link.Reads as link-reads
-use Rattle.validity.proofs.ranks.rank_all.Reads as rank-all-reads
 
 -- src/ranks.rt:195:9
 returns : tie.Need-returns

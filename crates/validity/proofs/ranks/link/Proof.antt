@@ -1,10 +1,8 @@
 -- `validity::ranks::link` meets its contract: every link stays within the tables.
 use mathlib.Core.Path.{_≡_}
 use Prim.Native.Nat.{_-_, _≤_}
-use native.Mathlib.Omega.{arith}
 use lib.ListN.{length}
 use borrow.Author.Needs.{needs}
-use Rattle.fields.proofs.Transitions.{readable}
 use Rattle.format.specs.Format.{byteValues, maxTransitions}
 use Rattle.validity.proofs.ranks.link.Statement.{statement}
 use Rattle.validity.proofs.ranks.link.Tie as tie

@@ -1,2 +1,0 @@
-pub mod Congruence
-pub mod Marked
