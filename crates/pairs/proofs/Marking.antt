@@ -1,8 +1,8 @@
 -- Marks that go from arguments to outputs, and that they are the open states in the end.
-use mathlib.Core.Bool.{Bool, _&&_, _||_, false, not, true, true≢false}
+use mathlib.Core.Bool.{Bool, _&&_, _||_, false, not, true}
 use mathlib.Core.List.{List, [], _∷_, map}
 use mathlib.Core.Path.{_∙_, _≡_, ap, ap₂, refl, subst, sym}
-use Prim.Native.Nat.{_+_, _-_, _<_, _≤_, min, ℕ}
+use Prim.Native.Nat.{_<_, ℕ}
 use native.Mathlib.Nat.{zero-add}
 use native.Mathlib.Omega.{arith}
 use lib.Dec.{eqb}
@@ -23,11 +23,10 @@ use Rattle.automata.proofs.OpenStates.{open-exact, open-out, opens-open}
 use Rattle.automata.proofs.TotalsSums.{sum-same}
 use Rattle.automata.proofs.Valid.{in-range, range-in, ranged-transition}
 use Rattle.lists.proofs.Loops.{AnyFrom, any-start}
-use Rattle.lists.proofs.Tests.{and-both, and-left, and-right, any-in, in-any, or-left, or-right, same-test}
+use Rattle.lists.proofs.Tests.{and-both, and-left, and-right, any-in, in-any, or-right, same-test}
 use Rattle.marking.proofs.Spreading.{spread-mark}
 use Rattle.table.proofs.Decoded.{in-transitionsIn, transitionsIn-in}
 use Rattle.pairs.specs.Counts.{MarkedBy, Open, Setting, SomeUp, Subtrees, SumsInto, entry, nthSomeUp, startsAt}
-use Rattle.pairs.specs.Counts.{sumCap}
 
 -- ---- a loop over arguments
 

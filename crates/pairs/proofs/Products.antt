@@ -1,8 +1,8 @@
 -- The product over the arguments of a transition, one argument after another: what is there times what is left.
-use mathlib.Core.List.{List, [], _∷_, map}
+use mathlib.Core.List.{List, map}
 use mathlib.Core.Path.{_∙_, _≡_, ap, sym}
 use Prim.Native.Nat.{_*_, _+_, _-_, _<_, _≤_, min, ℕ}
-use native.Mathlib.Nat.{mul-assoc, mul-one, one-mul, sub-zero}
+use native.Mathlib.Nat.{mul-assoc, mul-one, mul-zero, one-mul, sub-zero, zero-mul}
 use native.Mathlib.Omega.{arith}
 use Rattle.automata.specs.Totals.{productOver}
 use Rattle.lists.specs.Positions.{upFrom}
@@ -60,3 +60,13 @@ module _ {w : ℕ → ℕ} {s : List ℕ} {at : ℕ} where
       (upFrom-none k (arityOf s at) h) in
       let one : min productCap (p * 1) ≡ p = ap (min productCap) (mul-one p) ∙ omega (arith, inv .small) in
       sym one ∙ sym e ∙ inv .left
+
+  -- one number that is 0 makes the product 0
+  pub product-none : {p k q x : ℕ} → ProductFrom w s at p k → k < arityOf s at → q ≡ argOf s at k → x ≡ w q → x ≡ 0 →
+      0 ≡ min productCap (productOver w (transitionAt s at .args))
+  product-none {p} {k} {q} {x} inv h e f z =
+      let n : p * x ≡ 0 = ap (λ (y : ℕ). p * y) z ∙ mul-zero p in
+      let next = product-next {p' = 0} inv h e f (omega (arith, n)) in
+      let r = productOver w (argsLeft s at (k + 1)) in
+      let b : 0 ≡ min productCap (0 * r) = omega (arith, zero-mul r) in
+      b ∙ next .left

@@ -1,5 +1,5 @@
 -- Sums over the transitions of a run, one transition after another: what is there and what is left.
-use mathlib.Core.Bool.{Bool, cond, false, true}
+use mathlib.Core.Bool.{Bool, false, true}
 use mathlib.Core.List.{List, [], _∷_, map}
 use mathlib.Core.Path.{_∙_, _≡_, ap, refl, sym}
 use Prim.Native.Nat.{_*_, _+_, _-_, _<_, _≤_, min, ℕ}
@@ -12,7 +12,7 @@ use borrow.Author.Tests.{eqb-false, eqb-true, le-leb, lt-leb}
 use Rattle.automata.specs.Automaton.{Transition}
 use Rattle.automata.specs.OpenStates.{sumOver}
 use Rattle.automata.specs.Totals.{productOver, sumInto}
-use Rattle.format.specs.Format.{byteValues, maxNodes, maxProduct, transitionBytes}
+use Rattle.format.specs.Format.{byteValues, maxProduct, transitionBytes}
 use Rattle.lists.specs.Positions.{upFrom}
 use Rattle.lists.proofs.Intervals.{getD-zeros}
 use Rattle.lists.proofs.Loops.{upFrom-next, upFrom-none}

@@ -1,5 +1,6 @@
 // Products over the arguments of transitions and their sums, from a number for each state. `transitions` has transition
 // i at byte 12 i. Every number stops at a cap, so none overflows.
+ghost use mathlib.Core.Bool.{true};
 ghost use mathlib.Core.Path.{_≡_};
 ghost use Prim.Native.Nat.{_+_, _<_, _≤_, min};
 ghost use lib.Dec.{leb};
@@ -37,8 +38,25 @@ fn capped(product: usize) -> usize
     product
 }
 
-// The product of the numbers of the arguments of the transition that starts at a byte.
-fn product(transitions: &[u8], at: usize, numbers: &[u8; BYTE_VALUES]) -> usize
+// Whether the numbers of the arguments are all 1, as most are.
+fn all_ones(transitions: &[u8], at: usize, numbers: &[u8; BYTE_VALUES]) -> bool
+    requires { ⌜ Readable (now transitions) at ⌝ }
+    ensures { λ r. ⌜ (r ≡ true → 1 ≡ min productCap (productAt (now (numbers .entry)) (now (transitions .entry)) at)) ⌝ }
+{
+    let arity = arity_of(transitions, at);
+    let mut k = 0;
+    while k < arity {
+        let q = arg_of(transitions, at, k);
+        if numbers[q] != 1 {
+            return false;
+        }
+        k += 1;
+    }
+    true
+}
+
+// The product of the numbers of the arguments, one after another.
+fn multiplied(transitions: &[u8], at: usize, numbers: &[u8; BYTE_VALUES]) -> usize
     requires { ⌜ Readable (now transitions) at ⌝ }
     ensures { λ r. ⌜ r ≡ min productCap (productAt (now (numbers .entry)) (now (transitions .entry)) at) ⌝ }
 {
@@ -47,10 +65,25 @@ fn product(transitions: &[u8], at: usize, numbers: &[u8; BYTE_VALUES]) -> usize
     let mut k = 0;
     while k < arity {
         let q = arg_of(transitions, at, k);
-        product = capped(product * index(numbers[q]));
+        let number = index(numbers[q]);
+        if number == 0 {
+            return 0;
+        }
+        product = capped(product * number);
         k += 1;
     }
     product
+}
+
+// The product of the numbers of the arguments of the transition that starts at a byte.
+fn product(transitions: &[u8], at: usize, numbers: &[u8; BYTE_VALUES]) -> usize
+    requires { ⌜ Readable (now transitions) at ⌝ }
+    ensures { λ r. ⌜ r ≡ min productCap (productAt (now (numbers .entry)) (now (transitions .entry)) at) ⌝ }
+{
+    if all_ones(transitions, at, numbers) {
+        return 1;
+    }
+    multiplied(transitions, at, numbers)
 }
 
 // A byte and more, up to the greatest byte.

@@ -1,5 +1,4 @@
 -- `pairs::sums::add_product` meets its contract: the sum of the output gets the product.
-use native.Mathlib.Omega.{arith}
 use Rattle.pairs.specs.Counts.{productAt}
 use Rattle.pairs.proofs.Summing.{raised-put}
 use Rattle.table.specs.Layout.{outOf}
