@@ -3,16 +3,11 @@ use mathlib.Core.List.{List}
 use Prim.Native.Nat.{ℕ}
 use native.Mathlib.Omega.{arith}
 use Rattle.automata.specs.Automaton.{Automaton}
-use Rattle.packed.specs.Packed.{Searchable}
-use Rattle.sorted.specs.Sorted.{Sorted}
 use Rattle.trees.specs.Tree.{Tree}
 use Rattle.uses.specs.Frames.{Nodes}
 use Rattle.uses.specs.Uses.{Holds}
 use Rattle.alike.specs.Known as known
 use Rattle.alike.specs.Known.{Shaped}
-
-pub sorted-run : {s : List ℕ} {n : ℕ} → Searchable s n → Sorted s n
-sorted-run r = record { runs = r .padded .runs; rises = r .rises }
 
 pub shaped-nodes : {m : ℕ} {r c : List ℕ} → Shaped m r c → Nodes m r c
 shaped-nodes shaped = record {

@@ -68,7 +68,7 @@ eqb-turned x y = go (eqb x y) refl
 module _ {A : Automaton} {t : Tree} {ts : List Tree} {m : ℕ} {l r c q : List ℕ} (holds : Holds A t ts m l r c q)
     (N : Tree → ℕ) (j : ℕ) (some : 1 ≤ j) (known : j ≤ m) where
   -- the parent is the frame with its own child
-  own-name : (i k : ℕ) → i < m → k < getD r i 0 → childAt c i k ≡ j →
+  pub own-name : (i k : ℕ) → i < m → k < getD r i 0 → childAt c i k ≡ j →
       N (getD ts i noTree) ≡ N (fill (frameAt ts l r c i k) (treeNumbered ts j))
   own-name i k h g e =
       ap N (sym (fill-own (holds .stored) i k h g) ∙ ap (λ x. fill (frameAt ts l r c i k) (treeNumbered ts x)) e)

@@ -4,16 +4,17 @@ use mathlib.Core.List.{List, map}
 use mathlib.Core.Path.{_∙_, _≡_, ap, ap₂, refl, subst, sym}
 use Prim.Native.Nat.{_+_, _-_, _<_, _≤_, ℕ}
 use native.Mathlib.Omega.{arith}
-use lib.Dec.{eqb, ltb}
+use lib.Dec.{eqb}
 use lib.ListN.{getD, length, set, take}
 use lib.Seq.{getD-set-same, take-set-lt}
-use borrow.Author.Tests.{eq-eqb, ltb-false, ltb-true, ne-eqb}
+use borrow.Author.Tests.{eq-eqb, eqb-false, eqb-true, ne-eqb}
 use Rattle.automata.specs.Automaton.{Automaton, runs, step}
 use Rattle.automata.specs.ContextRun.{stepFrame}
 use Rattle.format.specs.Format.{maxArity, maxNodes}
 use Rattle.lists.specs.Positions.{upFrom}
 use Rattle.lists.specs.Tests.{every}
 use Rattle.subtrees.specs.Frames.{frameAt}
+use Rattle.subtrees.specs.Parents.{ParentsWithin}
 use Rattle.subtrees.specs.Steps.{Children, Filled}
 use Rattle.subtrees.specs.Store.{childAt, childNumbers, treeNumbered, treesNumbered}
 use Rattle.table.specs.Layout.{transitionsIn}
@@ -92,25 +93,34 @@ Given s n m l r c q names a state x P =
     (A : Automaton) (t : Tree) (ts : List Tree) (N : Tree → ℕ) (j : ℕ) → A .transitions ≡ transitionsIn s n →
     Holds A t ts m l r c q → NamedAbove A t ts m j names N → j ≤ a → (state ≡ false → j ≤ x) → P A N ts
 
--- the parents of a subtree come after it
-pub parents-later : (A : Automaton) (N : Tree → ℕ) (ts : List Tree) (l r c : List ℕ) (a : ℕ) (state : Bool) (x : ℕ) {m : ℕ} →
-    Shaped m r c → a ≤ m →
-    EveryFrom (every (parentAgrees A N ts l r c a state x) (upFrom 0 m)) (parentAgrees A N ts l r c a state x) m a
-parents-later A N ts l r c a state x {m} shaped h = record {
-  within = h;
-  left = same-test (every p (upFrom 0 m)) (every p (upFrom a (m - a)))
-      (λ e. at-every p a (m - a) (λ i u v. every-at p 0 m e i (omega arith) (omega arith)))
-      (λ e. at-every p 0 m (λ i u v. one e i (omega arith) (ltb i a) refl));
+-- a subtree that is known by another number
+pub numbered-parents : {m : ℕ} {r c : List ℕ} {j w from to : ℕ} → w ≡ j → ParentsWithin m r c j from to →
+    ParentsWithin m r c w from to
+numbered-parents {m} {r} {c} {j} {w} {from} {to} e p = subst (λ (x : ℕ). ParentsWithin m r c x from to) (sym e) p
+
+-- the parents of a subtree stand between two indices
+pub parents-within : (A : Automaton) (N : Tree → ℕ) (ts : List Tree) (l r c : List ℕ) (a : ℕ) (state : Bool) (x : ℕ)
+    {m from to : ℕ} → ParentsWithin m r c a from to →
+    EveryFrom (every (parentAgrees A N ts l r c a state x) (upFrom 0 m)) (parentAgrees A N ts l r c a state x)
+    (from + (to - from)) from
+parents-within A N ts l r c a state x {m} {from} {to} within = record {
+  within = omega arith;
+  left = same-test (every p (upFrom 0 m)) (every p (upFrom from (from + (to - from) - from)))
+      (λ e. at-every p from (from + (to - from) - from)
+      (λ i u v. every-at p 0 m e i (omega arith) (omega (arith, within .known))))
+      (λ e. at-every p 0 m
+      (λ i u v. at-every (placeAgrees A N ts l r c a state x i) 0 (getD r i 0) (λ k g h. one e i k (omega arith) (omega arith)
+      (eqb (childAt c i k) a) refl)));
 }
   where
     p : ℕ → Bool
     p = parentAgrees A N ts l r c a state x
 
-    one : every (parentAgrees A N ts l r c a state x) (upFrom a (m - a)) ≡ true → (i : ℕ) → i < m → (b : Bool) →
-        ltb i a ≡ b → parentAgrees A N ts l r c a state x i ≡ true
-    one e i u true d =
-        let below = ltb-true i a d in
-        at-every (placeAgrees A N ts l r c a state x i) 0 (getD r i 0) (λ k v w.
-        sym (place-other A N ts l r c a state x i k (λ z. omega (arith, shaped .child-before i k u (omega arith)))))
-    one e i u false d =
-        every-at (parentAgrees A N ts l r c a state x) a (m - a) e i (ltb-false i a d) (omega arith)
+    one : every (parentAgrees A N ts l r c a state x) (upFrom from (from + (to - from) - from)) ≡ true → (i k : ℕ) →
+        i < m → k < getD r i 0 → (b : Bool) → eqb (childAt c i k) a ≡ b → placeAgrees A N ts l r c a state x i k ≡ true
+    one e i k u v true d =
+        let own = eqb-true (childAt c i k) a d in
+        every-at (placeAgrees A N ts l r c a state x i) 0 (getD r i 0)
+        (every-at (parentAgrees A N ts l r c a state x) from (from + (to - from) - from) e i (within .above i k u v own)
+        (omega (arith, within .below i k u v own))) k (omega arith) (omega arith)
+    one e i k u v false d = sym (place-other A N ts l r c a state x i k (eqb-false (childAt c i k) a d))

@@ -2,3 +2,4 @@ pub mod NodeNames
 pub mod FrameNames
 pub mod Criterion
 pub mod Carried
+pub mod FrameSlots

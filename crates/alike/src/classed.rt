@@ -7,6 +7,7 @@ ghost use lib.Dec.{eqb};
 ghost use lib.ListN.{getD};
 ghost use Rattle.automata.specs.Automaton.{Automaton, accepting};
 ghost use Rattle.packed.specs.Packed.{Searchable};
+ghost use Rattle.subtrees.specs.Parents.{ParentsWithin};
 ghost use Rattle.subtrees.specs.Store.{treeNumbered};
 ghost use Rattle.table.specs.Layout.{transitionsIn};
 ghost use Rattle.trees.specs.Tree.{Tree};
@@ -28,6 +29,7 @@ fn same_class(a: u8, b: u8) -> bool
 }
 
 // Whether subtree j has the class of state q, or 0, which is `class`, and in each of its frames the name that q has.
+// `from` and `to` bound the indices of its parents.
 pub fn named_like_state(
     transitions: &[u8],
     count: usize,
@@ -41,11 +43,14 @@ pub fn named_like_state(
     j: u8,
     q: u8,
     class: u8,
+    from: usize,
+    to: usize,
 ) -> bool
     requires { ⌜ Searchable (now transitions) count ⌝ }
     requires { ⌜ Shaped m (now arities) (now children) ⌝ }
     requires { ⌜ 1 ≤ j ⌝ }
     requires { ⌜ j ≤ m ⌝ }
+    requires { ⌜ ParentsWithin m (now arities) (now children) j from to ⌝ }
     ensures { λ r. ⌜ ((A : Automaton) (t : Tree) (ts : List Tree) (S : Tree → Bool) (N : Tree → ℕ) →
         A .transitions ≡ transitionsIn (now (transitions .entry)) count →
         Holds A t ts m (now (labels .entry)) (now (arities .entry)) (now (children .entry)) (now (states .entry)) →
@@ -69,10 +74,13 @@ pub fn named_like_state(
         number,
         true,
         q,
+        from,
+        to,
     )
 }
 
-// Whether subtrees j and v have one class and, in each frame of both, one name.
+// Whether subtrees j and v have one class and, in each frame of both, one name. `from` and `to` bound the indices of the
+// parents of both.
 pub fn named_like_subtree(
     transitions: &[u8],
     count: usize,
@@ -85,12 +93,16 @@ pub fn named_like_subtree(
     classes: &[u8; MAX_NODES],
     j: u8,
     v: u8,
+    from: usize,
+    to: usize,
 ) -> bool
     requires { ⌜ Searchable (now transitions) count ⌝ }
     requires { ⌜ Shaped m (now arities) (now children) ⌝ }
     requires { ⌜ 1 ≤ j ⌝ }
     requires { ⌜ j < v ⌝ }
     requires { ⌜ v ≤ m ⌝ }
+    requires { ⌜ ParentsWithin m (now arities) (now children) j from to ⌝ }
+    requires { ⌜ ParentsWithin m (now arities) (now children) v from to ⌝ }
     ensures { λ r. ⌜ ((A : Automaton) (t : Tree) (ts : List Tree) (S : Tree → Bool) (N : Tree → ℕ) →
         A .transitions ≡ transitionsIn (now (transitions .entry)) count →
         Holds A t ts m (now (labels .entry)) (now (arities .entry)) (now (children .entry)) (now (states .entry)) →
@@ -116,6 +128,8 @@ pub fn named_like_subtree(
         first,
         false,
         v,
+        from,
+        to,
     ) {
         return false;
     }
@@ -131,5 +145,7 @@ pub fn named_like_subtree(
         second,
         false,
         j,
+        from,
+        to,
     )
 }

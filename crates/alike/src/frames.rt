@@ -12,6 +12,7 @@ ghost use Rattle.lists.specs.Tests.{every};
 ghost use Rattle.packed.specs.Packed.{Searchable};
 ghost use Rattle.subtrees.specs.Frames.{frameAt};
 ghost use Rattle.table.specs.Layout.{transitionsIn};
+ghost use Rattle.subtrees.specs.Parents.{ParentsWithin};
 ghost use Rattle.subtrees.specs.Store.{treeNumbered};
 ghost use Rattle.trees.specs.Context.{fill};
 ghost use Rattle.trees.specs.Tree.{Tree};
@@ -253,7 +254,8 @@ fn parent_agrees(
     true
 }
 
-// Whether a candidate has the parent's name in every frame over subtree a. Parents come after their children.
+// Whether a candidate has the parent's name in every frame over subtree a. Its parents stand from `from` on and before
+// `to`.
 pub fn frames_agree(
     transitions: &[u8],
     count: usize,
@@ -266,10 +268,12 @@ pub fn frames_agree(
     a: usize,
     state: bool,
     x: u8,
+    from: usize,
+    to: usize,
 ) -> bool
     requires { ⌜ Searchable (now transitions) count ⌝ }
     requires { ⌜ Shaped m (now arities) (now children) ⌝ }
-    requires { ⌜ a ≤ m ⌝ }
+    requires { ⌜ ParentsWithin m (now arities) (now children) a from to ⌝ }
     requires { ⌜ Candidate m state x ⌝ }
     ensures { λ r. ⌜ ((A : Automaton) (t : Tree) (ts : List Tree) (N : Tree → ℕ) (j : ℕ) →
         A .transitions ≡ transitionsIn (now (transitions .entry)) count →
@@ -278,8 +282,8 @@ pub fn frames_agree(
         r ≡ every (parentAgrees A N ts (now (labels .entry)) (now (arities .entry)) (now
         (children .entry)) a state x) (upFrom 0 m)) ⌝ }
 {
-    let mut i = a;
-    while i < m {
+    let mut i = from;
+    while i < to {
         if !parent_agrees(
             transitions,
             count,

@@ -3,6 +3,7 @@
 mod classed; // the class and the names in the frames
 mod frames; // the names in the frames over a subtree
 mod nodes; // the name of a node over subtrees
+mod slots; // a frame over a subtree as a slot
 
 ghost use mathlib.Core.Bool.{Bool};
 ghost use mathlib.Core.List.{List};
@@ -14,19 +15,23 @@ ghost use Rattle.automata.specs.Alike.{likeState, likeSubtree};
 ghost use Rattle.automata.specs.Automaton.{Automaton, accepting};
 ghost use Rattle.fields.specs.Fields.{HoldsTransitionsOver};
 ghost use Rattle.packed.specs.Packed.{Searchable};
+ghost use Rattle.subtrees.specs.Parents.{ParentsWithin};
 ghost use Rattle.subtrees.specs.Store.{treeNumbered};
 ghost use Rattle.trees.specs.Tree.{Tree};
+ghost use Rattle.uses.specs.Spans.{UsesWithin};
 ghost use Rattle.uses.specs.Uses.{Holds};
 ghost use Rattle.alike.specs.Known.{NamedAbove, Shaped};
 use classed::named_like_state;
 use classed::named_like_subtree;
 use format::BYTE_VALUES;
 use format::MAX_NODES;
+pub use slots::frame_slot_of;
 use subtrees::CHILD_NUMBERS;
 use uses::state_uses_agree;
 use uses::subtree_uses_agree;
 
-// Whether subtree j can stand for state q, or for 0, whose class is `class`. `uses` is a hint.
+// Whether subtree j can stand for state q, or for 0, whose class is `class`. The uses of a state stand between its
+// entries of `lows` and `lasts`, the parents of j between `from` and `to`.
 pub fn like_state(
     transitions: &[u8],
     count: usize,
@@ -37,18 +42,23 @@ pub fn like_state(
     children: &[u8; CHILD_NUMBERS],
     states: &[u8; MAX_NODES],
     weights: &[u8; BYTE_VALUES],
-    uses: &[u16; BYTE_VALUES],
+    lows: &[u16; BYTE_VALUES],
+    lasts: &[u16; BYTE_VALUES],
     names: &[u8; MAX_NODES],
     classes: &[u8; MAX_NODES],
     j: u8,
     q: u8,
     class: u8,
+    from: usize,
+    to: usize,
 ) -> bool
     requires { ⌜ Searchable (now transitions) count ⌝ }
     requires { ⌜ HoldsTransitionsOver (now transitions) count n ⌝ }
     requires { ⌜ Shaped m (now arities) (now children) ⌝ }
     requires { ⌜ 1 ≤ j ⌝ }
     requires { ⌜ j ≤ m ⌝ }
+    requires { ⌜ UsesWithin (now transitions) count (now lows) (now lasts) ⌝ }
+    requires { ⌜ ParentsWithin m (now arities) (now children) j from to ⌝ }
     ensures { λ r. ⌜ ((A : Automaton) (t : Tree) (ts : List Tree) (S : Tree → Bool) (N : Tree → ℕ) →
         Holds A t ts (now (transitions .entry)) count n (now (labels .entry)) (now (arities .entry)) (now
         (children .entry)) (now (states .entry)) (now (weights .entry)) m →
@@ -69,6 +79,8 @@ pub fn like_state(
         j,
         q,
         class,
+        from,
+        to,
     ) {
         return false;
     }
@@ -81,14 +93,17 @@ pub fn like_state(
         children,
         states,
         weights,
-        uses,
+        lows,
+        lasts,
+        from,
+        to,
         m,
         j,
         q,
     )
 }
 
-// Whether subtree j can stand for subtree v, which comes after it. `uses` is a hint.
+// Whether subtree j can stand for subtree v, which comes after it. The parents of both stand between `from` and `to`.
 pub fn like_subtree(
     transitions: &[u8],
     count: usize,
@@ -99,11 +114,14 @@ pub fn like_subtree(
     children: &[u8; CHILD_NUMBERS],
     states: &[u8; MAX_NODES],
     weights: &[u8; BYTE_VALUES],
-    uses: &[u16; BYTE_VALUES],
+    lows: &[u16; BYTE_VALUES],
+    lasts: &[u16; BYTE_VALUES],
     names: &[u8; MAX_NODES],
     classes: &[u8; MAX_NODES],
     j: u8,
     v: u8,
+    from: usize,
+    to: usize,
 ) -> bool
     requires { ⌜ Searchable (now transitions) count ⌝ }
     requires { ⌜ HoldsTransitionsOver (now transitions) count n ⌝ }
@@ -111,6 +129,9 @@ pub fn like_subtree(
     requires { ⌜ 1 ≤ j ⌝ }
     requires { ⌜ j < v ⌝ }
     requires { ⌜ v ≤ m ⌝ }
+    requires { ⌜ UsesWithin (now transitions) count (now lows) (now lasts) ⌝ }
+    requires { ⌜ ParentsWithin m (now arities) (now children) j from to ⌝ }
+    requires { ⌜ ParentsWithin m (now arities) (now children) v from to ⌝ }
     ensures { λ r. ⌜ ((A : Automaton) (t : Tree) (ts : List Tree) (S : Tree → Bool) (N : Tree → ℕ) →
         Holds A t ts (now (transitions .entry)) count n (now (labels .entry)) (now (arities .entry)) (now
         (children .entry)) (now (states .entry)) (now (weights .entry)) m →
@@ -131,6 +152,8 @@ pub fn like_subtree(
         classes,
         j,
         v,
+        from,
+        to,
     ) {
         return false;
     }
@@ -143,7 +166,10 @@ pub fn like_subtree(
         children,
         states,
         weights,
-        uses,
+        lows,
+        lasts,
+        from,
+        to,
         m,
         j,
         v,

@@ -2,6 +2,8 @@ pub mod Parentage
 pub mod Classing
 pub mod Apart
 pub mod Choosing
+pub mod Spans
+pub mod Slotting
 pub mod Sharing
 pub mod Giving
 pub mod Searching

@@ -10,6 +10,8 @@ use Rattle.automata.specs.Alike.{likeState, likeSubtree}
 use Rattle.automata.specs.Automaton.{Automaton}
 use Rattle.automata.specs.Change.{subtreeNumber}
 use Rattle.automata.specs.Searched.{Free}
+use Rattle.packed.specs.Slots.{SlotTakes}
+use Rattle.packed.specs.declared.slots.Slot.{Slot}
 use Rattle.subtrees.specs.Store.{treeNumbered}
 use Rattle.trees.specs.Tree.{Tree}
 
@@ -72,6 +74,11 @@ pub record SubtreeTried (A : Automaton) (t : Tree) (S : Tree → Bool) (ts : Lis
 pub record StateTaken (A : Automaton) (t : Tree) (S : Tree → Bool) (ts : List Tree) (N : Tree → ℕ) (j q : ℕ)
     (r : Bool) : Type 0 where
   pub yes : r ≡ true → StateChosen A t S ts N j q
+
+-- of the transitions in a slot, one has each state that is like subtree j as its argument
+pub record StatesSlotted (A : Automaton) (t : Tree) (S : Tree → Bool) (ts : List Tree) (s : List ℕ) (count : ℕ)
+    (N : Tree → ℕ) (j : ℕ) (z : Slot) : Type 0 where
+  pub each : (p : ℕ) → likeState A t S N (treeNumbered ts j) p ≡ true → SlotTakes s count z p
 
 -- p is a free state up to n that is like subtree j; above n if there is none
 pub record StateSought (A : Automaton) (t : Tree) (S : Tree → Bool) (ts : List Tree) (n : ℕ) (N : Tree → ℕ) (j p : ℕ) :

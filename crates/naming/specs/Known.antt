@@ -11,15 +11,18 @@ use Rattle.format.specs.Format.{maxStates, tableBytes}
 use Rattle.naming.specs.Classes.{Classed, ClassesIn}
 use Rattle.packed.specs.Packed.{Searchable}
 use Rattle.trees.specs.Tree.{Tree}
+use Rattle.uses.specs.Spans.{UsesWithin}
 use Rattle.uses.specs.Uses.{Holds}
 
--- a table b, its run s of sorted transitions over n states, and m subtrees
-pub record Sized (b s : List ℕ) (count n m : ℕ) (r c : List ℕ) : Type 0 where
+-- a table b, its run s of sorted transitions over n states, m subtrees, and between which transitions the uses of a
+-- state stand
+pub record Sized (b s : List ℕ) (count n m : ℕ) (r c lows lasts : List ℕ) : Type 0 where
   pub table : length b ≡ tableBytes
   pub searchable : Searchable s count
   pub over : HoldsTransitionsOver s count n
   pub states : n ≤ maxStates
   pub shaped : Shaped m r c
+  pub uses : UsesWithin s count lows lasts
 
 -- a table b with n states, whose transitions are s, and the m subtrees of t with their classes in S; w has the number
 -- of pairs of each state

@@ -1,14 +1,33 @@
 -- Parents in arrays: r has the numbers of children, c the child numbers, and names the names of the subtrees above one.
-use mathlib.Core.Bool.{Bool, _&&_}
+use mathlib.Core.Bool.{Bool, _&&_, cond}
 use mathlib.Core.List.{List}
 use mathlib.Core.Logic.{_≢_}
 use mathlib.Core.Path.{_≡_}
-use Prim.Native.Nat.{_+_, _-_, _<_, _≤_, ℕ}
+use Prim.Native.Nat.{_*_, _+_, _-_, _<_, _≤_, ℕ}
 use lib.Dec.{eqb, ltb}
-use lib.ListN.{getD}
+use lib.ListN.{getD, length, set}
+use Rattle.format.specs.Format.{maxArity, maxNodes}
 use Rattle.lists.specs.Positions.{upFrom}
 use Rattle.lists.specs.Tests.{any}
+use Rattle.subtrees.specs.Parents.{ParentsWithin}
 use Rattle.subtrees.specs.Store.{childAt}
+
+-- the parents of each of the m subtrees stand between its entries of two lists
+pub record SpansOf (m : ℕ) (r c froms tos : List ℕ) : Type 0 where
+  pub each : (j : ℕ) → 1 ≤ j → j ≤ m → ParentsWithin m r c j (getD froms (j - 1) 0) (getD tos (j - 1) 0)
+
+-- the subtree at index i is noted as a parent of subtree j: as the last, and as the first if there was none
+pub record ChildNoted (i j : ℕ) (froms tos froms' tos' : List ℕ) : Type 0 where
+  pub last : tos' ≡ set tos (j - 1) (i + 1)
+  pub first : froms' ≡ cond (eqb (getD tos (j - 1) 0) 0) (set froms (j - 1) i) froms
+
+-- the parents below index `most` are noted for the child numbers at the first p places
+pub record ParentsNoted (r c : List ℕ) (most p : ℕ) (froms tos : List ℕ) : Type 0 where
+  pub sizes : (length froms ≡ maxNodes) × (length tos ≡ maxNodes)
+  pub low : (x : ℕ) → getD froms x 0 ≤ getD tos x 0 - 1
+  pub known : (x : ℕ) → getD tos x 0 ≤ most
+  pub above : (i k : ℕ) → maxArity * i + k < p → k < getD r i 0 → getD froms (childAt c i k - 1) 0 ≤ i
+  pub below : (i k : ℕ) → maxArity * i + k < p → k < getD r i 0 → i < getD tos (childAt c i k - 1) 0
 
 -- child k of subtree i is subtree j
 abbrev pub childIs : List ℕ → ℕ → ℕ → ℕ → Bool

@@ -1,10 +1,11 @@
 // Names of the distinct subtrees of a tree after a change of the set by that tree. Two trees have one name exactly if
 // they are equivalent then: 0 for none, q for the other trees of open state q, and n + j for subtree j, counted from 1.
 mod classes; // the class of each subtree after the change
-mod hints; // for each state a transition that uses it
 mod models; // subtrees that a subtree can stand for
 mod parents; // what the names of parents say of a child
-mod states; // states that a subtree can stand for
+mod seeking; // the state that a subtree can stand for
+mod slots; // where the states that a subtree is like are found
+mod states; // states held against a subtree
 
 ghost use mathlib.Core.Bool.{Bool};
 ghost use mathlib.Core.List.{List};
@@ -18,17 +19,17 @@ ghost use Rattle.naming.specs.Known.{Known, Sized};
 ghost use Rattle.automata.specs.Change.{subtreeNumber};
 ghost use Rattle.automata.specs.Searched.{Searched};
 ghost use Rattle.naming.specs.Choice.{Bounded, Chosen, nameIn};
-ghost use Rattle.naming.specs.Parents.{Marked, Shared};
+ghost use Rattle.naming.specs.Parents.{Marked, Shared, SpansOf};
 ghost use Rattle.pairs.specs.Counts.{Open};
 ghost use lib.ListN.{length};
 pub use classes::classes_of;
 use format::BYTE_VALUES;
 use format::MAX_NODES;
 use format::wide;
-pub use hints::uses_of;
 use models::find_subtree;
 use parents::anchored;
-use states::find_state;
+use parents::parents_of;
+use seeking::find_state;
 use subtrees::CHILD_NUMBERS;
 
 // The name of subtree j, from those above it.
@@ -44,14 +45,19 @@ fn name_subtree(
     states: &[u8; MAX_NODES],
     weights: &[u8; BYTE_VALUES],
     classes: &[u8; MAX_NODES],
-    uses: &[u16; BYTE_VALUES],
+    lows: &[u16; BYTE_VALUES],
+    lasts: &[u16; BYTE_VALUES],
     marks: &[u8; BYTE_VALUES],
     names: &[u8; MAX_NODES],
     shared: &[u8; MAX_NODES],
+    froms: &[u8; MAX_NODES],
+    tos: &[u8; MAX_NODES],
     j: usize,
 ) -> u8
-    requires { ⌜ Sized (now table) (now transitions) count n m (now arities) (now children) ⌝ }
+    requires { ⌜ Sized (now table) (now transitions) count n m (now arities) (now children)
+        (now lows) (now lasts) ⌝ }
     requires { ⌜ Shared n m j (now names) (now shared) ⌝ }
+    requires { ⌜ SpansOf m (now arities) (now children) (now froms) (now tos) ⌝ }
     requires { ⌜ 1 ≤ j ⌝ }
     requires { ⌜ j ≤ m ⌝ }
     ensures { λ r. ⌜ r ≤ n + m ⌝ }
@@ -61,7 +67,9 @@ fn name_subtree(
         (now (weights .entry)) (now (classes .entry)) → Open A t (now (marks .entry)) →
         NamedAbove A t ts m j (now (names .entry)) N → Chosen A t S ts n m N j r) ⌝ }
 {
-    if anchored(n, m, arities, children, names, shared, j) {
+    let from = wide(froms[j - 1]);
+    let to = wide(tos[j - 1]);
+    if anchored(n, m, arities, children, names, shared, j, from, to) {
         return (n + j) as u8;
     }
     let q = find_state(
@@ -76,10 +84,13 @@ fn name_subtree(
         states,
         weights,
         classes,
-        uses,
+        lows,
+        lasts,
         marks,
         names,
         j,
+        from,
+        to,
     );
     if q <= n {
         return q as u8;
@@ -96,8 +107,11 @@ fn name_subtree(
         states,
         weights,
         classes,
-        uses,
+        lows,
+        lasts,
         names,
+        froms,
+        tos,
         j,
     );
     if v <= m {
@@ -139,10 +153,12 @@ pub fn name_all(
     states: &[u8; MAX_NODES],
     weights: &[u8; BYTE_VALUES],
     classes: &[u8; MAX_NODES],
-    uses: &[u16; BYTE_VALUES],
+    lows: &[u16; BYTE_VALUES],
+    lasts: &[u16; BYTE_VALUES],
     marks: &[u8; BYTE_VALUES],
 ) -> [u8; MAX_NODES]
-    requires { ⌜ Sized (now table) (now transitions) count n m (now arities) (now children) ⌝ }
+    requires { ⌜ Sized (now table) (now transitions) count n m (now arities) (now children)
+        (now lows) (now lasts) ⌝ }
     ensures { λ r. ⌜ Bounded n m r ⌝ }
     ensures { λ r. ⌜ ((A : Automaton) (t : Tree) (ts : List Tree) (S : (Tree → Bool)) →
         Known A t ts S (now (table .entry)) (now (transitions .entry)) count n m
@@ -150,6 +166,9 @@ pub fn name_all(
         (now (weights .entry)) (now (classes .entry)) → Open A t (now (marks .entry)) →
         Searched A t S (subtreeNumber ts) (nameIn ts r)) ⌝ }
 {
+    let spans = parents_of(m, arities, children);
+    let froms = spans.froms;
+    let tos = spans.tos;
     let mut names = [0u8; MAX_NODES];
     let mut shared = [0u8; MAX_NODES];
     let mut j = m;
@@ -166,10 +185,13 @@ pub fn name_all(
             states,
             weights,
             classes,
-            uses,
+            lows,
+            lasts,
             marks,
             &names,
             &shared,
+            &froms,
+            &tos,
             j,
         );
         mark_shared(n, m, &mut shared, j, name);

@@ -8,13 +8,37 @@ ghost use Rattle.trees.specs.Tree.{Tree};
 ghost use Rattle.alike.specs.Known.{NamedAbove};
 ghost use Rattle.naming.specs.Known.{Known, Sized};
 ghost use Rattle.naming.specs.Choice.{SubtreeSought, SubtreeTried};
+ghost use Rattle.naming.specs.Parents.{SpansOf};
 use alike::like_subtree;
 use format::BYTE_VALUES;
 use format::MAX_NODES;
 use format::wide;
 use subtrees::CHILD_NUMBERS;
 
-// Whether subtree v has its own name and subtree j is like it.
+// The lesser of two numbers.
+fn least(a: u8, b: u8) -> u8
+    ensures { λ r. ⌜ r ≤ a ⌝ }
+    ensures { λ r. ⌜ r ≤ b ⌝ }
+{
+    if a <= b {
+        return a;
+    }
+    b
+}
+
+// The greater of two numbers.
+fn greatest(a: u8, b: u8) -> u8
+    ensures { λ r. ⌜ a ≤ r ⌝ }
+    ensures { λ r. ⌜ b ≤ r ⌝ }
+    ensures { λ r. ⌜ ((x : ℕ) → a ≤ x → b ≤ x → r ≤ x) ⌝ }
+{
+    if a <= b {
+        return b;
+    }
+    a
+}
+
+// Whether subtree v has its own name and subtree j is like it. The parents of both stand within both spans together.
 fn fits_subtree(
     table: &[u8],
     transitions: &[u8],
@@ -27,12 +51,17 @@ fn fits_subtree(
     states: &[u8; MAX_NODES],
     weights: &[u8; BYTE_VALUES],
     classes: &[u8; MAX_NODES],
-    uses: &[u16; BYTE_VALUES],
+    lows: &[u16; BYTE_VALUES],
+    lasts: &[u16; BYTE_VALUES],
     names: &[u8; MAX_NODES],
+    froms: &[u8; MAX_NODES],
+    tos: &[u8; MAX_NODES],
     j: usize,
     v: usize,
 ) -> bool
-    requires { ⌜ Sized (now table) (now transitions) count n m (now arities) (now children) ⌝ }
+    requires { ⌜ Sized (now table) (now transitions) count n m (now arities) (now children)
+        (now lows) (now lasts) ⌝ }
+    requires { ⌜ SpansOf m (now arities) (now children) (now froms) (now tos) ⌝ }
     requires { ⌜ 1 ≤ j ⌝ }
     requires { ⌜ j < v ⌝ }
     requires { ⌜ v ≤ m ⌝ }
@@ -47,6 +76,8 @@ fn fits_subtree(
     }
     let first = j as u8;
     let second = v as u8;
+    let from = wide(least(froms[j - 1], froms[v - 1]));
+    let to = wide(greatest(tos[j - 1], tos[v - 1]));
     like_subtree(
         transitions,
         count,
@@ -57,11 +88,14 @@ fn fits_subtree(
         children,
         states,
         weights,
-        uses,
+        lows,
+        lasts,
         names,
         classes,
         first,
         second,
+        from,
+        to,
     )
 }
 
@@ -78,11 +112,16 @@ pub fn find_subtree(
     states: &[u8; MAX_NODES],
     weights: &[u8; BYTE_VALUES],
     classes: &[u8; MAX_NODES],
-    uses: &[u16; BYTE_VALUES],
+    lows: &[u16; BYTE_VALUES],
+    lasts: &[u16; BYTE_VALUES],
     names: &[u8; MAX_NODES],
+    froms: &[u8; MAX_NODES],
+    tos: &[u8; MAX_NODES],
     j: usize,
 ) -> usize
-    requires { ⌜ Sized (now table) (now transitions) count n m (now arities) (now children) ⌝ }
+    requires { ⌜ Sized (now table) (now transitions) count n m (now arities) (now children)
+        (now lows) (now lasts) ⌝ }
+    requires { ⌜ SpansOf m (now arities) (now children) (now froms) (now tos) ⌝ }
     requires { ⌜ 1 ≤ j ⌝ }
     requires { ⌜ j ≤ m ⌝ }
     ensures { λ r. ⌜ j < r ⌝ }
@@ -106,8 +145,11 @@ pub fn find_subtree(
             states,
             weights,
             classes,
-            uses,
+            lows,
+            lasts,
             names,
+            froms,
+            tos,
             j,
             v,
         ) {

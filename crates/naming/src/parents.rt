@@ -1,16 +1,80 @@
-// What the names of its parents say of a subtree. A parent that is alone with its own name keeps its child alone, and a
-// parent whose name is no state keeps its child from every state.
+// Between which indices the parents of each subtree stand, and what their names say of it. A parent that is alone with
+// its own name keeps its child alone, and a parent whose name is no state keeps its child from every state.
 ghost use mathlib.Core.Path.{_≡_};
-ghost use Prim.Native.Nat.{_+_, _-_, _≤_};
-ghost use Rattle.format.specs.Format.{maxStates};
+ghost use Prim.Native.Nat.{_*_, _+_, _-_, _<_, _≤_};
+ghost use lib.ListN.{length};
+ghost use Rattle.format.specs.Format.{maxArity, maxNodes, maxStates};
 ghost use Rattle.lists.specs.Positions.{upFrom};
 ghost use Rattle.lists.specs.Tests.{any};
-ghost use Rattle.naming.specs.Parents.{anchors, isChild, raises};
+ghost use Rattle.subtrees.specs.Parents.{ParentsWithin};
+ghost use Rattle.naming.specs.Parents.{ChildNoted, ParentsNoted, SpansOf, anchors, isChild, raises};
 ghost use Rattle.alike.specs.Known.{Shaped};
 use format::MAX_ARITY;
 use format::MAX_NODES;
 use format::wide;
 use subtrees::CHILD_NUMBERS;
+
+// For each subtree the index of its first parent and the one after that of its last; both 0 if it has none.
+pub struct Spans {
+    pub froms: [u8; MAX_NODES],
+    pub tos: [u8; MAX_NODES],
+}
+
+// Notes the subtree at index i as a parent of subtree j: the last so far.
+fn note_child(froms: &mut [u8; MAX_NODES], tos: &mut [u8; MAX_NODES], i: usize, j: usize)
+    requires { ⌜ i < maxNodes ⌝ }
+    requires { ⌜ 1 ≤ j ⌝ }
+    requires { ⌜ j ≤ maxNodes ⌝ }
+    requires { ⌜ length (now froms) ≡ maxNodes ⌝ }
+    requires { ⌜ length (now tos) ≡ maxNodes ⌝ }
+    ensures { λ _. ⌜ ChildNoted i j (now (froms .entry)) (now (tos .entry)) (now (froms .exit)) (now (tos .exit)) ⌝ }
+{
+    let first = tos[j - 1] == 0;
+    tos[j - 1] = (i + 1) as u8;
+    if !first {
+        return;
+    }
+    froms[j - 1] = i as u8;
+}
+
+// The same for each child of the subtree at index i.
+fn note_children(
+    m: usize,
+    arities: &[u8; MAX_NODES],
+    children: &[u8; CHILD_NUMBERS],
+    froms: &mut [u8; MAX_NODES],
+    tos: &mut [u8; MAX_NODES],
+    i: usize,
+)
+    requires { ⌜ Shaped m (now arities) (now children) ⌝ }
+    requires { ⌜ i < m ⌝ }
+    requires { ⌜ ParentsNoted (now arities) (now children) i (maxArity * i) (now froms) (now tos) ⌝ }
+    ensures { λ _. ⌜ ParentsNoted (now (arities .entry)) (now (children .entry)) (i + 1) (maxArity * (i + 1))
+        (now (froms .exit)) (now (tos .exit)) ⌝ }
+{
+    let arity = wide(arities[i]);
+    let mut k = 0;
+    while k < arity {
+        let j = wide(children[MAX_ARITY * i + k]);
+        note_child(froms, tos, i, j);
+        k += 1;
+    }
+}
+
+// Between which indices the parents of each of the m subtrees stand.
+pub fn parents_of(m: usize, arities: &[u8; MAX_NODES], children: &[u8; CHILD_NUMBERS]) -> Spans
+    requires { ⌜ Shaped m (now arities) (now children) ⌝ }
+    ensures { λ r. ⌜ SpansOf m (now (arities .entry)) (now (children .entry)) (r .froms) (r .tos) ⌝ }
+{
+    let mut froms = [0u8; MAX_NODES];
+    let mut tos = [0u8; MAX_NODES];
+    let mut i = 0;
+    while i < m {
+        note_children(m, arities, children, &mut froms, &mut tos, i);
+        i += 1;
+    }
+    Spans { froms, tos }
+}
 
 // Whether subtree j is a child of subtree i.
 fn is_child(
@@ -64,7 +128,7 @@ fn anchors_child(
 }
 
 // Whether some parent of subtree j is the only one with its own name. `shared` marks the subtrees whose own names
-// others have too.
+// others have too. The parents of j stand from index `from` on and before `to`.
 pub fn anchored(
     n: usize,
     m: usize,
@@ -73,19 +137,21 @@ pub fn anchored(
     names: &[u8; MAX_NODES],
     shared: &[u8; MAX_NODES],
     j: usize,
+    from: usize,
+    to: usize,
 ) -> bool
     requires { ⌜ n ≤ maxStates ⌝ }
     requires { ⌜ Shaped m (now arities) (now children) ⌝ }
-    requires { ⌜ j ≤ m ⌝ }
+    requires { ⌜ ParentsWithin m (now arities) (now children) j from to ⌝ }
     ensures { λ r. ⌜ r ≡ any (anchors n (now (arities .entry)) (now (children .entry)) (now (names .entry))
         (now (shared .entry)) j) (upFrom (j + 1) (m - j)) ⌝ }
 {
-    let mut i = j + 1;
-    while i <= m {
+    let mut i = from;
+    while i < to {
+        i += 1;
         if anchors_child(n, m, arities, children, names, shared, i, j) {
             return true;
         }
-        i += 1;
     }
     false
 }
@@ -119,18 +185,20 @@ pub fn raised(
     children: &[u8; CHILD_NUMBERS],
     names: &[u8; MAX_NODES],
     j: usize,
+    from: usize,
+    to: usize,
 ) -> bool
     requires { ⌜ Shaped m (now arities) (now children) ⌝ }
-    requires { ⌜ j ≤ m ⌝ }
+    requires { ⌜ ParentsWithin m (now arities) (now children) j from to ⌝ }
     ensures { λ r. ⌜ r ≡ any (raises n (now (arities .entry)) (now (children .entry)) (now (names .entry)) j)
         (upFrom (j + 1) (m - j)) ⌝ }
 {
-    let mut i = j + 1;
-    while i <= m {
+    let mut i = from;
+    while i < to {
+        i += 1;
         if raises_child(n, m, arities, children, names, i, j) {
             return true;
         }
-        i += 1;
     }
     false
 }

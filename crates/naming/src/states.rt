@@ -1,4 +1,4 @@
-// The states that a subtree can stand for: 0, and those that are open.
+// States held against a subtree one by one: it can stand for 0, and for those that are open.
 ghost use mathlib.Core.Bool.{Bool};
 ghost use mathlib.Core.List.{List};
 ghost use mathlib.Core.Path.{_≡_};
@@ -14,8 +14,8 @@ ghost use Rattle.format.specs.Format.{byteValues};
 ghost use Rattle.marking.specs.Marks.{marked};
 ghost use Rattle.naming.specs.Choice.{StateSought, StateTaken, StateTried};
 ghost use Rattle.pairs.specs.Counts.{Open};
+ghost use Rattle.subtrees.specs.Parents.{ParentsWithin};
 use crate::classes::class_in;
-use crate::parents::raised;
 use alike::like_state;
 use format::BYTE_VALUES;
 use format::MAX_NODES;
@@ -34,7 +34,7 @@ fn is_free(marks: &[u8; BYTE_VALUES], q: usize) -> bool
 }
 
 // Whether q is 0 or open and subtree j is like it.
-fn fits_state(
+pub fn fits_state(
     table: &[u8],
     transitions: &[u8],
     count: usize,
@@ -46,15 +46,20 @@ fn fits_state(
     states: &[u8; MAX_NODES],
     weights: &[u8; BYTE_VALUES],
     classes: &[u8; MAX_NODES],
-    uses: &[u16; BYTE_VALUES],
+    lows: &[u16; BYTE_VALUES],
+    lasts: &[u16; BYTE_VALUES],
     marks: &[u8; BYTE_VALUES],
     names: &[u8; MAX_NODES],
     j: usize,
+    from: usize,
+    to: usize,
     q: usize,
 ) -> bool
-    requires { ⌜ Sized (now table) (now transitions) count n m (now arities) (now children) ⌝ }
+    requires { ⌜ Sized (now table) (now transitions) count n m (now arities) (now children)
+        (now lows) (now lasts) ⌝ }
     requires { ⌜ 1 ≤ j ⌝ }
     requires { ⌜ j ≤ m ⌝ }
+    requires { ⌜ ParentsWithin m (now arities) (now children) j from to ⌝ }
     requires { ⌜ q ≤ n ⌝ }
     ensures { λ r. ⌜ ((A : Automaton) (t : Tree) (ts : List Tree) (S : (Tree → Bool)) (N : (Tree → ℕ)) →
         Known A t ts S (now (table .entry)) (now (transitions .entry)) count n m
@@ -78,17 +83,20 @@ fn fits_state(
         children,
         states,
         weights,
-        uses,
+        lows,
+        lasts,
         names,
         classes,
         number,
         state,
         class,
+        from,
+        to,
     )
 }
 
 // The first state, 0 included, that subtree j is like; above n if there is none.
-fn first_state(
+pub fn first_state(
     table: &[u8],
     transitions: &[u8],
     count: usize,
@@ -100,14 +108,19 @@ fn first_state(
     states: &[u8; MAX_NODES],
     weights: &[u8; BYTE_VALUES],
     classes: &[u8; MAX_NODES],
-    uses: &[u16; BYTE_VALUES],
+    lows: &[u16; BYTE_VALUES],
+    lasts: &[u16; BYTE_VALUES],
     marks: &[u8; BYTE_VALUES],
     names: &[u8; MAX_NODES],
     j: usize,
+    from: usize,
+    to: usize,
 ) -> usize
-    requires { ⌜ Sized (now table) (now transitions) count n m (now arities) (now children) ⌝ }
+    requires { ⌜ Sized (now table) (now transitions) count n m (now arities) (now children)
+        (now lows) (now lasts) ⌝ }
     requires { ⌜ 1 ≤ j ⌝ }
     requires { ⌜ j ≤ m ⌝ }
+    requires { ⌜ ParentsWithin m (now arities) (now children) j from to ⌝ }
     ensures { λ r. ⌜ ((A : Automaton) (t : Tree) (ts : List Tree) (S : (Tree → Bool)) (N : (Tree → ℕ)) →
         Known A t ts S (now (table .entry)) (now (transitions .entry)) count n m
         (now (labels .entry)) (now (arities .entry)) (now (children .entry)) (now (states .entry))
@@ -128,10 +141,13 @@ fn first_state(
             states,
             weights,
             classes,
-            uses,
+            lows,
+            lasts,
             marks,
             names,
             j,
+            from,
+            to,
             q,
         ) {
             return q;
@@ -142,7 +158,7 @@ fn first_state(
 }
 
 // Whether the own state of subtree j is 0 or open and j is like it.
-fn fits_own_state(
+pub fn fits_own_state(
     table: &[u8],
     transitions: &[u8],
     count: usize,
@@ -154,14 +170,19 @@ fn fits_own_state(
     states: &[u8; MAX_NODES],
     weights: &[u8; BYTE_VALUES],
     classes: &[u8; MAX_NODES],
-    uses: &[u16; BYTE_VALUES],
+    lows: &[u16; BYTE_VALUES],
+    lasts: &[u16; BYTE_VALUES],
     marks: &[u8; BYTE_VALUES],
     names: &[u8; MAX_NODES],
     j: usize,
+    from: usize,
+    to: usize,
 ) -> bool
-    requires { ⌜ Sized (now table) (now transitions) count n m (now arities) (now children) ⌝ }
+    requires { ⌜ Sized (now table) (now transitions) count n m (now arities) (now children)
+        (now lows) (now lasts) ⌝ }
     requires { ⌜ 1 ≤ j ⌝ }
     requires { ⌜ j ≤ m ⌝ }
+    requires { ⌜ ParentsWithin m (now arities) (now children) j from to ⌝ }
     ensures { λ r. ⌜ ((A : Automaton) (t : Tree) (ts : List Tree) (S : (Tree → Bool)) (N : (Tree → ℕ)) →
         Known A t ts S (now (table .entry)) (now (transitions .entry)) count n m
         (now (labels .entry)) (now (arities .entry)) (now (children .entry)) (now (states .entry))
@@ -184,79 +205,13 @@ fn fits_own_state(
         states,
         weights,
         classes,
-        uses,
+        lows,
+        lasts,
         marks,
         names,
         j,
+        from,
+        to,
         q,
-    )
-}
-
-// A state, or 0, that subtree j is like; above n if there is none. There is none if some parent's name is no state.
-// The own state is tried first: most subtrees stay with it.
-pub fn find_state(
-    table: &[u8],
-    transitions: &[u8],
-    count: usize,
-    n: usize,
-    m: usize,
-    labels: &[u16; MAX_NODES],
-    arities: &[u8; MAX_NODES],
-    children: &[u8; CHILD_NUMBERS],
-    states: &[u8; MAX_NODES],
-    weights: &[u8; BYTE_VALUES],
-    classes: &[u8; MAX_NODES],
-    uses: &[u16; BYTE_VALUES],
-    marks: &[u8; BYTE_VALUES],
-    names: &[u8; MAX_NODES],
-    j: usize,
-) -> usize
-    requires { ⌜ Sized (now table) (now transitions) count n m (now arities) (now children) ⌝ }
-    requires { ⌜ 1 ≤ j ⌝ }
-    requires { ⌜ j ≤ m ⌝ }
-    ensures { λ r. ⌜ ((A : Automaton) (t : Tree) (ts : List Tree) (S : (Tree → Bool)) (N : (Tree → ℕ)) →
-        Known A t ts S (now (table .entry)) (now (transitions .entry)) count n m
-        (now (labels .entry)) (now (arities .entry)) (now (children .entry)) (now (states .entry))
-        (now (weights .entry)) (now (classes .entry)) → Open A t (now (marks .entry)) →
-        NamedAbove A t ts m j (now (names .entry)) N → StateSought A t S ts n N j r) ⌝ }
-{
-    if raised(n, m, arities, children, names, j) {
-        return n + 1;
-    }
-    if fits_own_state(
-        table,
-        transitions,
-        count,
-        n,
-        m,
-        labels,
-        arities,
-        children,
-        states,
-        weights,
-        classes,
-        uses,
-        marks,
-        names,
-        j,
-    ) {
-        return wide(states[j - 1]);
-    }
-    first_state(
-        table,
-        transitions,
-        count,
-        n,
-        m,
-        labels,
-        arities,
-        children,
-        states,
-        weights,
-        classes,
-        uses,
-        marks,
-        names,
-        j,
     )
 }

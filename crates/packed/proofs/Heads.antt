@@ -27,23 +27,25 @@ digits-last f n =
     ap (λ j. digits f 0 j 0) (sym (add-one n)) ∙ digits-cut f n 0 1 0
     ∙ ap (λ j. byteValues * digits f 0 n 0 + f j) e
 
+-- eight digits, those after digit k apart
+pub digits-after : (f : ℕ → ℕ) (k : ℕ) → k < maxArity →
+    digits f 0 maxArity 0 ≡ digits f 0 (suc k) 0 * 2 ^ (8 * (7 - k)) + digits f (suc k) (7 - k) 0
+digits-after f k h =
+    let e : maxArity ≡ suc k + (7 - k) = omega arith in
+    let d : 0 + suc k ≡ suc k = omega arith in
+    ap (λ j. digits f 0 j 0) e ∙ digits-cut f (suc k) 0 (7 - k) 0
+    ∙ ap (λ j. digits f j (7 - k) (digits f 0 (suc k) 0)) d
+    ∙ digits-split f (suc k) (7 - k) (digits f 0 (suc k) 0)
+
 module _ (f : ℕ → ℕ) (small : (j : ℕ) → f j < byteValues) where
   -- place k of eight digits
   pub place-digits : (k : ℕ) → k < maxArity → placeOf (digits f 0 maxArity 0) k ≡ f k
   place-digits k h =
       ap (λ x. x % byteValues) (quotient ∙ digits-last f k) ∙ last (digits f 0 k 0)
     where
-      whole : digits f 0 maxArity 0 ≡ digits f 0 (suc k) 0 * 2 ^ (8 * (7 - k)) + digits f (suc k) (7 - k) 0
-      whole =
-          let e : maxArity ≡ suc k + (7 - k) = omega arith in
-          let d : 0 + suc k ≡ suc k = omega arith in
-          ap (λ j. digits f 0 j 0) e ∙ digits-cut f (suc k) 0 (7 - k) 0
-          ∙ ap (λ j. digits f j (7 - k) (digits f 0 (suc k) 0)) d
-          ∙ digits-split f (suc k) (7 - k) (digits f 0 (suc k) 0)
-
       quotient : digits f 0 maxArity 0 / 2 ^ (8 * (7 - k)) ≡ digits f 0 (suc k) 0
       quotient =
-          ap (λ x. x / 2 ^ (8 * (7 - k))) whole
+          ap (λ x. x / 2 ^ (8 * (7 - k))) (digits-after f k h)
           ∙ high (digits f 0 (suc k) 0) (8 * (7 - k)) (digits-below f small (suc k) (7 - k))
 
       last : (v : ℕ) → (byteValues * v + f k) % byteValues ≡ f k
@@ -125,7 +127,7 @@ module _ {hs us : List ℕ} {n : ℕ} {W : List Transition} (E : HoldsEntries hs
       (λ i l. ap (nthPacked hs us) (zero-add i) ∙ ap₂ packedTransition (head-nth i l) (args-nth i l)
       ∙ packed-back (nth i) (fits-nth i l))
 
-  pub entries-packed : Room hs us → n ≤ maxTransitions → HoldsPacked hs us n
+  pub entries-packed : Room hs us → n ≤ length hs → HoldsPacked hs us n
   entries-packed R few = record {
     room = R;
     few = few;

@@ -1,7 +1,7 @@
 -- Transitions compared by two numbers each, and lists of arguments told apart by one.
-use mathlib.Core.Bool.{Bool, false, true}
+use mathlib.Core.Bool.{Bool, _&&_, _||_, false, false≢true, true}
 use mathlib.Core.List.{List}
-use mathlib.Core.Path.{_∙_, _≡_, ap, refl, sym}
+use mathlib.Core.Path.{_∙_, _≡_, refl, sym}
 use Prim.Native.Nat.{_*_, _+_, _-_, _<_, _≤_, ℕ}
 use native.Mathlib.Omega.{arith}
 use lib.Dec.{eqb, ltb}
@@ -10,16 +10,19 @@ use lib.Seq.{ext-getD}
 use borrow.Author.Tests.{eq-eqb, eqb-false, eqb-true, le-ltb, lt-ltb, ltb-false, ltb-true, ne-eqb}
 use Rattle.automata.specs.Order.{lex, precedes}
 use Rattle.fields.specs.Fields.{firstArgs}
-use Rattle.format.specs.Format.{AllBytes, argsAt, byteValues, labelBytes, maxArity, maxLabel, transitionBytes}
+use Rattle.format.specs.Format.{AllBytes, argsAt, maxArity, maxLabel, transitionBytes}
 use Rattle.lists.specs.Positions.{upFrom}
 use Rattle.lists.specs.Tests.{every}
-use Rattle.packed.specs.Packed.{HoldsPadded, Padded, before, metaAt, packed, packedAt, padded}
+use Rattle.packed.specs.Packed.{HoldsPadded, Padded, Searchable, before, comesBefore, metaAt}
+use Rattle.packed.specs.Packed.{packed, packedAt, padded}
+use Rattle.sorted.specs.Sorted.{Sorted}
 use Rattle.table.specs.Layout.{argOf, arityOf, labelOf, transitionAt}
 use Rattle.fields.proofs.Searching.{precedes-args, precedes-arity, precedes-label, precedesNext}
 use Rattle.fields.proofs.Transitions.{arg-at, args-length}
 use Rattle.format.proofs.Labels.{from-most}
 use Rattle.lists.proofs.Loops.{EveryFrom}
 use Rattle.packed.proofs.Digits.{digits-equal, digits-lex, digits-same}
+use Rattle.sorted.proofs.Searched.{sorted-at}
 
 -- ---- order
 
@@ -35,6 +38,36 @@ higher-decides x y m n a b d f g = go (ltb x y) refl
 
 pub lower-decides : (m n a b : ℕ) → m ≡ n → ltb a b ≡ before m a n b
 lower-decides m n a b e = rw (le-ltb m n (omega arith), eq-eqb m n e)
+
+-- what an order by two numbers says of each
+pub before-true : (m a n b : ℕ) → before m a n b ≡ true → (m ≤ n) × (n ≤ m → a < b)
+before-true m a n b e = go (ltb m n) refl (eqb m n) refl (ltb a b) refl e
+  where
+    go : (c : Bool) → ltb m n ≡ c → (d : Bool) → eqb m n ≡ d → (f : Bool) → ltb a b ≡ f → (c || (d && f)) ≡ true →
+        (m ≤ n) × (n ≤ m → a < b)
+    go true c d _ f _ e = let l = ltb-true m n c in (omega arith, λ h. absurd (omega arith))
+    go false c true d true f e = let z = eqb-true m n d in (omega arith, λ h. ltb-true a b f)
+    go false c true d false f e = absurd (false≢true e)
+    go false c false d _ f e = absurd (false≢true e)
+
+pub true-before : (m a n b : ℕ) → m ≤ n → (n ≤ m → a < b) → before m a n b ≡ true
+true-before m a n b h f = go (ltb m n) refl
+  where
+    go : (c : Bool) → ltb m n ≡ c → (c || (eqb m n && ltb a b)) ≡ true
+    go true c = refl
+    go false c = let l = ltb-false m n c in rw (eq-eqb m n (omega arith), lt-ltb a b (f l))
+
+pub before-itself : (m a : ℕ) → before m a m a ≡ true → ⊥
+before-itself m a e = let l : a < a = before-true m a m a e .1 (omega arith) in omega arith
+
+pub before-trans : (m a n b o c : ℕ) → before m a n b ≡ true → before n b o c ≡ true → before m a o c ≡ true
+before-trans m a n b o c d e =
+    let (l, f) = before-true m a n b d in
+    let (k, g) = before-true n b o c e in
+    true-before m a o c (omega arith)
+    (λ h. let x : a < b = f (omega arith) in
+    let y : b < c = g (omega arith) in
+    omega arith)
 
 module _ (s : List ℕ) (bytes : AllBytes s) (a b : ℕ) (first : Padded s a) (second : Padded s b) where
   args-order : arityOf s a ≡ arityOf s b →
@@ -75,6 +108,16 @@ module _ (s : List ℕ) (bytes : AllBytes s) (a b : ℕ) (first : Padded s a) (s
           sym (precedes-arity s a b refl refl l)
           ∙ higher-decides (arityOf s a) (arityOf s b) (metaAt s a) (metaAt s b) (packedAt s a) (packedAt s b) l
           (λ h. omega (arith, small)) (λ h. omega (arith, small′))
+
+-- in a run that rises the numbers do
+pub sorted : {s : List ℕ} {n : ℕ} → Searchable s n → Sorted s n
+sorted r = record { runs = r .padded .runs; rises = r .rises }
+
+pub numbers-rise : {s : List ℕ} {n : ℕ} → AllBytes s → Searchable s n → (i j : ℕ) → i < j → j < n →
+    comesBefore s (metaAt s (transitionBytes * j)) (packedAt s (transitionBytes * j)) i ≡ true
+numbers-rise {s} {n} bytes r i j h l =
+    sym (precedes-packed s bytes (transitionBytes * i) (transitionBytes * j) (r .padded .each i (omega arith))
+    (r .padded .each j l)) ∙ sorted-at (sorted r) i j h l
 
 -- a loop at i over neighbours, which has read the two numbers m and a of transition i
 pub record RisesFrom (s : List ℕ) (n m a i : ℕ) : Type 0 where

@@ -2,7 +2,7 @@
 use mathlib.Core.Bool.{Bool, false, true, true≢false}
 use mathlib.Core.List.{List, _∷_, map}
 use mathlib.Core.Logic.{_⊎_, inl, inr}
-use mathlib.Core.Path.{_∙_, _≡_, ap, ap₂, refl, subst, sym}
+use mathlib.Core.Path.{_∙_, _≡_, ap, ap₂, refl, sym}
 use Prim.Native.Nat.{_*_, _+_, _-_, _<_, _≤_, ℕ}
 use native.Mathlib.Nat.{zero-add}
 use native.Mathlib.Omega.{arith}
@@ -15,19 +15,19 @@ use Rattle.automata.specs.Automaton.{Transition, lookup}
 use Rattle.automata.specs.Order.{key, lex, precedes}
 use Rattle.format.specs.Format.{AllBytes, argsAt, bytePairs, byteValues, maxArity, transitionBytes}
 use Rattle.lists.specs.Positions.{upFrom}
-use Rattle.packed.specs.Packed.{Searchable, before, metaAt, packed, packedAt, padded}
+use Rattle.packed.specs.Packed.{Searchable, before, comesBefore, metaAt, packed, packedAt, padded}
 use Rattle.packed.specs.Seeking.{Eight, Packs, Places, SoughtAt, sought}
-use Rattle.sorted.specs.Sorted.{LowerBound, Sorted, standing}
-use Rattle.table.specs.Layout.{argOf, arityOf, labelOf, nthTransition, outOf, transitionAt, transitionsIn}
+use Rattle.sorted.specs.Sorted.{LowerBound, standing}
+use Rattle.table.specs.Layout.{arityOf, labelOf, nthTransition, outOf, transitionsIn}
 use Rattle.automata.proofs.Order.{key-equal}
 use Rattle.automata.proofs.Steps.{Has, lookup-view}
 use Rattle.fields.proofs.Searching.{lex-agrees, lex-differs}
 use Rattle.fields.proofs.Transitions.{arg-at, args-length}
 use Rattle.lists.proofs.Intervals.{tabulated}
 use Rattle.packed.proofs.Digits.{digits-equal, digits-lex, digits-same}
-use Rattle.packed.proofs.Order.{higher-decides, lower-decides, packed-args}
-use Rattle.sorted.proofs.Searched.{Halving, before-lex, halving-down, halving-end, halving-start, halving-up, key-args, key-label}
-use Rattle.sorted.proofs.Searched.{key-nowhere, lookup-found}
+use Rattle.packed.proofs.Order.{before-trans, higher-decides, lower-decides, numbers-rise, packed-args, sorted}
+use Rattle.sorted.proofs.Searched.{Halving, before-lex, halving-down, halving-end, halving-start, halving-up}
+use Rattle.sorted.proofs.Searched.{key-args, key-label, key-nowhere, lookup-found}
 use Rattle.table.proofs.Decoded.{transitionsIn-in}
 
 -- ---- order
@@ -89,9 +89,6 @@ precedes-numbers σ τ f g small small′ = by-arity (eqb n m) refl
 -- ---- a transition of a run
 
 module _ {s : List ℕ} {n : ℕ} (bytes : AllBytes s) (r : Searchable s n) where
-  sorted : Sorted s n
-  sorted = record { runs = r .padded .runs; rises = r .rises }
-
   args-eight : (i : ℕ) → i < n → Eight (nthTransition s i .args)
   args-eight i h = let at = transitionBytes * i in record {
     short = omega (arith, args-length s at, r .padded .each i h .narrow);
@@ -156,12 +153,14 @@ lex-standing xs ys e = rw e
 pub record BoundFrom (s : List ℕ) (n m a low high : ℕ) : Type 0 where
   pub order : low ≤ high
   pub within : high ≤ n
+  pub below : (j : ℕ) → j < low → comesBefore s m a j ≡ true
   pub halves : (b : ℕ) (qs : List ℕ) → Packs m a b qs → Halving s n (sought b qs) low high
 
 pub bound-start : (s : List ℕ) (n m a : ℕ) → BoundFrom s n m a 0 n
 bound-start s n m a = record {
   order = omega arith;
   within = omega arith;
+  below = λ j l. absurd (omega arith);
   halves = λ b qs p. halving-start s n (sought b qs);
 }
 
@@ -175,15 +174,27 @@ module _ {s : List ℕ} {n m a low high : ℕ} (bytes : AllBytes s) (r : Searcha
   bound-up e = record {
     order = omega arith;
     within = inv .within;
-    halves = λ b qs p. halving-up (sorted bytes r) (inv .halves b qs p) i refl h
+    below = λ j l. below j l (eqb j i) refl;
+    halves = λ b qs p. halving-up (sorted r) (inv .halves b qs p) i refl h
         (lex-standing (key (nthTransition s i)) (key (sought b qs)) (sym (comes p) ∙ e));
   }
+    where
+      here : comesBefore s m a i ≡ true
+      here = ap₂ (λ x y. before x y m a) (sym meta) (sym args) ∙ sym compared ∙ e
+
+      below : (j : ℕ) → j < i + 1 → (d : Bool) → eqb j i ≡ d → comesBefore s m a j ≡ true
+      below j l true d = rw (eqb-true j i d) here
+      below j l false d = let ne = eqb-false j i d in
+          before-trans (metaAt s (transitionBytes * j)) (packedAt s (transitionBytes * j))
+          (metaAt s (transitionBytes * i)) (packedAt s (transitionBytes * i)) m a
+          (numbers-rise bytes r j i (omega arith) (omega (arith, inv .within))) here
 
   pub bound-down : low ≤ i → c ≡ false → BoundFrom s n m a low i
   bound-down l e = record {
     order = l;
     within = omega (arith, inv .within);
-    halves = λ b qs p. halving-down (sorted bytes r) (inv .halves b qs p) i refl l h
+    below = inv .below;
+    halves = λ b qs p. halving-down (sorted r) (inv .halves b qs p) i refl l h
         (λ z. true≢false (sym (before-lex (key (nthTransition s i)) (key (sought b qs)) z) ∙ sym (comes p) ∙ e));
   }
 
@@ -193,6 +204,15 @@ bound-end inv h b qs p = halving-end (inv .halves b qs p) h
 
 -- ---- what is found
 
+-- a transition with both numbers, wherever it stands
+pub sought-there : {s : List ℕ} {n m a i : ℕ} → AllBytes s → Searchable s n → i < n → {m′ a′ : ℕ} →
+    m′ ≡ metaAt s (transitionBytes * i) → a′ ≡ packedAt s (transitionBytes * i) → m′ ≡ m → a′ ≡ a →
+    (b : ℕ) (qs : List ℕ) → Packs m a b qs → SoughtAt s n b qs (i + 1)
+sought-there {i} bytes r h meta args d e b qs p = let z : i + 1 - 1 ≡ i = omega arith in record {
+  there = λ _. rw z (numbers-same bytes r p i h meta args d e);
+  none = λ z. absurd (omega arith);
+}
+
 module _ {s : List ℕ} {n m a i : ℕ} (bytes : AllBytes s) (r : Searchable s n)
     (bound : (b : ℕ) (qs : List ℕ) → Packs m a b qs → LowerBound s n (sought b qs) i) where
   -- a key that is not at the bound is nowhere
@@ -200,29 +220,23 @@ module _ {s : List ℕ} {n m a i : ℕ} (bytes : AllBytes s) (r : Searchable s n
       (b : ℕ) (qs : List ℕ) → Packs m a b qs → SoughtAt s n b qs 0
   sought-none h b qs p = record {
     there = λ l. absurd (omega arith);
-    none = λ _. key-nowhere (sorted bytes r) (sought b qs) i (bound b qs p) (h b qs p);
+    none = λ _. key-nowhere (sorted r) (sought b qs) i (bound b qs p) (h b qs p);
   }
 
   module _ (h : i < n) {m′ : ℕ} (meta : m′ ≡ metaAt s (transitionBytes * i)) where
     pub other-meta : (m′ ≡ m → ⊥) → (b : ℕ) (qs : List ℕ) → Packs m a b qs → SoughtAt s n b qs 0
     other-meta d = sought-none (λ b qs p l e. d (same-numbers bytes r p i h meta refl e .0))
 
-    module _ {a′ : ℕ} (args : a′ ≡ packedAt s (transitionBytes * i)) where
-      pub other-args : (a′ ≡ a → ⊥) → (b : ℕ) (qs : List ℕ) → Packs m a b qs → SoughtAt s n b qs 0
-      other-args d = sought-none (λ b qs p l e. d (same-numbers bytes r p i h meta args e .1))
-
-      pub sought-there : m′ ≡ m → a′ ≡ a → (b : ℕ) (qs : List ℕ) → Packs m a b qs → SoughtAt s n b qs (i + 1)
-      sought-there d e b qs p = let z : i + 1 - 1 ≡ i = omega arith in record {
-        there = λ _. rw z (numbers-same bytes r p i h meta args d e);
-        none = λ z. absurd (omega arith);
-      }
+    pub other-args : {a′ : ℕ} → a′ ≡ packedAt s (transitionBytes * i) → (a′ ≡ a → ⊥) → (b : ℕ) (qs : List ℕ) →
+        Packs m a b qs → SoughtAt s n b qs 0
+    other-args args d = sought-none (λ b qs p l e. d (same-numbers bytes r p i h meta args e .1))
 
 -- ---- the output of what is found
 
 module _ {s : List ℕ} {n : ℕ} (bytes : AllBytes s) (r : Searchable s n) {b : ℕ} {qs : List ℕ} where
   pub sought-output : {i : ℕ} → SoughtAt s n b qs i → 1 ≤ i → i ≤ n →
       outOf s (transitionBytes * (i - 1)) ≡ lookup b qs (transitionsIn s n)
-  sought-output {i} f h l = lookup-found (sorted bytes r) (sought b qs) (i - 1) (omega arith) (f .there h)
+  sought-output {i} f h l = lookup-found (sorted r) (sought b qs) (i - 1) (omega arith) (f .there h)
 
   pub sought-nothing : SoughtAt s n b qs 0 → 0 ≡ lookup b qs (transitionsIn s n)
   sought-nothing f = go (lookup-view b qs (transitionsIn s n))
@@ -233,29 +247,36 @@ module _ {s : List ℕ} {n : ℕ} (bytes : AllBytes s) (r : Searchable s n) {b :
       go (inr (σ, m, p, q, o)) = let (j, l, e) = transitionsIn-in s n σ m in
           absurd (f .none refl j l (ap key (sym e) ∙ key-equal σ (sought b qs) p q))
 
--- the first of eight bytes have the number of all, if the others are 0
-pub places-packs : {n b : ℕ} {qs : List ℕ} → length qs ≡ maxArity → AllBytes qs → Places n qs → b < bytePairs → {m a : ℕ} →
-    m ≡ bytePairs * n + b → a ≡ packed qs → Packs m a b (take n qs)
-unfolding packed
-places-packs {n} {b} {qs} eight bytes p l {m} {a} e d =
-    let size : length (take n qs) ≡ n = length-take-le n qs (omega (arith, p .narrow)) in
-    record {
-      meta = e ∙ ap (λ k. bytePairs * k + b) (sym size);
-      args = d ∙ digits-same (padded qs) (padded (take n qs)) 0 maxArity 0 (λ k _ _. place size k (ltb k n) refl);
-      label = l;
-      list = record {
-        short = omega (arith, p .narrow);
-        bytes = λ k. byte size k (ltb k n) refl;
-      };
-    }
-  where
-    place : length (take n qs) ≡ n → (k : ℕ) (c : Bool) → ltb k n ≡ c → padded qs k ≡ padded (take n qs) k
-    place size k true h = sym (getD-take n qs k 0 (ltb-true k n h))
-    place size k false h = let o = ltb-false k n h in
-        p .beyond k o ∙ sym (List·getD-eq-default (take n qs) 0 (omega arith))
+-- ---- eight bytes, of which the first n are taken
 
-    byte : length (take n qs) ≡ n → (k : ℕ) (c : Bool) → ltb k n ≡ c → getD (take n qs) k 0 < byteValues
-    byte size k c h = omega (arith, bytes k, place size k c h)
+module _ {n : ℕ} {qs : List ℕ} (eight : length qs ≡ maxArity) (p : Places n qs) where
+  taken-length : length (take n qs) ≡ n
+  taken-length = length-take-le n qs (omega (arith, p .narrow))
+
+  taken-at : (k : ℕ) → padded qs k ≡ padded (take n qs) k
+  taken-at k = go (ltb k n) refl
+    where
+      go : (c : Bool) → ltb k n ≡ c → padded qs k ≡ padded (take n qs) k
+      go true h = sym (getD-take n qs k 0 (ltb-true k n h))
+      go false h = let o = ltb-false k n h in
+          p .beyond k o ∙ sym (List·getD-eq-default (take n qs) 0 (omega (arith, taken-length)))
+
+  -- they have the number of all
+  pub packed-taken : packed qs ≡ packed (take n qs)
+  unfolding packed
+  packed-taken = digits-same (padded qs) (padded (take n qs)) 0 maxArity 0 (λ k _ _. taken-at k)
+
+  pub places-packs : {b : ℕ} → AllBytes qs → b < bytePairs → {m a : ℕ} → m ≡ bytePairs * n + b → a ≡ packed qs →
+      Packs m a b (take n qs)
+  places-packs {b} bytes l {m} {a} e d = record {
+    meta = e ∙ ap (λ k. bytePairs * k + b) (sym taken-length);
+    args = d ∙ packed-taken;
+    label = l;
+    list = record {
+      short = omega (arith, p .narrow, taken-length);
+      bytes = λ k. omega (arith, bytes k, taken-at k);
+    };
+  }
 
 -- eight numbers, each a byte
 pub eight-bytes : (qs : List ℕ) → length qs ≡ maxArity → getD qs 0 0 < byteValues → getD qs 1 0 < byteValues →

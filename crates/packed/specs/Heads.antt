@@ -49,15 +49,15 @@ pub record Packs (h a : ℕ) : Type 0 where
   pub some : (k : ℕ) → k < headArity h → 1 ≤ placeOf a k
   pub rest : (k : ℕ) → headArity h ≤ k → k < maxArity → placeOf a k ≡ 0
 
--- the lists have room for the transitions of a table
+-- the lists have room for as many transitions as each other, and for no more than a table has
 pub record Room (hs us : List ℕ) : Type 0 where
-  pub heads : length hs ≡ maxTransitions
-  pub args : length us ≡ maxTransitions
+  pub args : length us ≡ length hs
+  pub few : length hs ≤ maxTransitions
 
 -- the first n entries of lists with room are transitions that fit a table
 pub record HoldsPacked (hs us : List ℕ) (n : ℕ) : Type 0 where
   pub room : Room hs us
-  pub few : n ≤ maxTransitions
+  pub few : n ≤ length hs
   pub each : (i : ℕ) → i < n → Packs (getD hs i 0) (getD us i 0)
 
 -- the two numbers of a transition

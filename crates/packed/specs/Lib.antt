@@ -2,3 +2,4 @@ pub mod Packed
 pub mod Places
 pub mod Seeking
 pub mod Heads
+pub mod Slots

@@ -35,6 +35,10 @@ metaAt s at = bytePairs * arityOf s at + labelOf s at
 abbrev pub before : ℕ → ℕ → ℕ → ℕ → Bool
 before m a n b = ltb m n || (eqb m n && ltb a b)
 
+-- transition i comes before one with the numbers m and a
+abbrev pub comesBefore : List ℕ → ℕ → ℕ → ℕ → Bool
+comesBefore s m a i = before (metaAt s (transitionBytes * i)) (packedAt s (transitionBytes * i)) m a
+
 -- the transition that starts at a byte has at most eight arguments, and 0 in the places beyond them
 pub record Padded (s : List ℕ) (at : ℕ) : Type 0 where
   pub narrow : arityOf s at ≤ maxArity

@@ -2,6 +2,7 @@
 // numbers.
 mod layout; // condition 7
 mod searching; // search by halves
+mod slots; // transitions that differ in one argument
 
 ghost use mathlib.Core.Path.{_≡_};
 ghost use Prim.Native.Nat.{_*_, _+_, _<_, _^_, _≤_};
@@ -15,8 +16,16 @@ use fields::arity_of;
 use fields::label_of;
 use format::TRANSITION_BYTES;
 pub use layout::layout_fits;
+pub use searching::meta_of;
 pub use searching::output;
+pub use searching::pack;
 pub use searching::seek;
+pub use searching::seek_near;
+pub use slots::Slot;
+pub use slots::at_place;
+pub use slots::first_in_slot;
+pub use slots::next_in_slot;
+pub use slots::no_slot;
 
 // A number and, as its next digit to base 256, argument k of the transition that starts at a byte.
 fn with_arg(v: u64, transitions: &[u8], at: usize, k: usize) -> u64

@@ -1,13 +1,14 @@
 // Search by halves over transitions that rise: a transition is compared by its two numbers.
-ghost use mathlib.Core.Path.{_≡_};
+ghost use mathlib.Core.Bool.{true};
 ghost use mathlib.Core.List.{List};
+ghost use mathlib.Core.Path.{_≡_};
 ghost use Prim.Native.Nat.{_+_, _*_, _<_, _^_, _≤_, ℕ};
 ghost use lib.ListN.{take};
 ghost use Rattle.automata.specs.Automaton.{lookup};
-ghost use Rattle.format.specs.Format.{AllBytes, byteValues};
+ghost use Rattle.format.specs.Format.{AllBytes, bytePairs, byteValues, maxArity};
 ghost use Rattle.sorted.specs.Sorted.{LowerBound};
 ghost use Rattle.table.specs.Layout.{transitionsIn};
-ghost use Rattle.packed.specs.Packed.{Searchable, packed};
+ghost use Rattle.packed.specs.Packed.{Searchable, comesBefore, packed};
 ghost use Rattle.packed.specs.Seeking.{Packs, Places, SoughtAt, sought};
 use crate::args_at;
 use crate::comes_before;
@@ -17,11 +18,12 @@ use format::MAX_ARITY;
 use format::TRANSITION_BYTES;
 
 // The number of transitions that come before one with the numbers meta and args.
-fn bound(transitions: &[u8], count: usize, meta: u64, args: u64) -> usize
+pub fn bound(transitions: &[u8], count: usize, meta: u64, args: u64) -> usize
     requires { ⌜ Searchable (now transitions) count ⌝ }
     ensures { λ r. ⌜ r ≤ count ⌝ }
     ensures { λ r. ⌜ ((b : ℕ) (qs : List ℕ) → Packs meta args b qs →
         LowerBound (now (transitions .entry)) count (sought b qs) r) ⌝ }
+    ensures { λ r. ⌜ ((i : ℕ) → i < r → comesBefore (now (transitions .entry)) meta args i ≡ true) ⌝ }
 {
     let mut low = 0;
     let mut high = count;
@@ -60,6 +62,26 @@ pub fn seek(transitions: &[u8], count: usize, meta: u64, args: u64) -> usize
     i + 1
 }
 
+// The same, with a look at one index first; any index will do.
+pub fn seek_near(transitions: &[u8], count: usize, meta: u64, args: u64, near: usize) -> usize
+    requires { ⌜ Searchable (now transitions) count ⌝ }
+    ensures { λ r. ⌜ r ≤ count ⌝ }
+    ensures { λ r. ⌜ ((b : ℕ) (qs : List ℕ) → Packs meta args b qs →
+        SoughtAt (now (transitions .entry)) count b qs r) ⌝ }
+{
+    if near >= count {
+        return seek(transitions, count, meta, args);
+    }
+    let at = TRANSITION_BYTES * near;
+    if meta_at(transitions, at) != meta {
+        return seek(transitions, count, meta, args);
+    }
+    if args_at(transitions, at) != args {
+        return seek(transitions, count, meta, args);
+    }
+    near + 1
+}
+
 // A number and, as its next digit to base 256, a byte.
 fn with_digit(v: u64, q: u8) -> u64
     requires { ⌜ v < 2 ^ 56 ⌝ }
@@ -70,7 +92,7 @@ fn with_digit(v: u64, q: u8) -> u64
 }
 
 // Eight bytes as one number, the first the highest.
-fn pack(qs: [u8; MAX_ARITY]) -> u64
+pub fn pack(qs: [u8; MAX_ARITY]) -> u64
     ensures { λ r. ⌜ r ≡ packed qs ⌝ }
     ensures { λ r. ⌜ AllBytes qs ⌝ }
 {
@@ -82,6 +104,14 @@ fn pack(qs: [u8; MAX_ARITY]) -> u64
     let v = with_digit(v, qs[5]);
     let v = with_digit(v, qs[6]);
     with_digit(v, qs[7])
+}
+
+// The child count and the label as one number, the child count higher.
+pub fn meta_of(arity: usize, label: u16) -> u64
+    requires { ⌜ arity ≤ maxArity ⌝ }
+    ensures { λ r. ⌜ r ≡ bytePairs * arity + label ⌝ }
+{
+    65536 * arity as u64 + label as u64
 }
 
 // The output of the transition with this label and these arguments; 0 if there is none.
@@ -96,7 +126,7 @@ pub fn output(
     requires { ⌜ Places arity args ⌝ }
     ensures { λ r. ⌜ r ≡ lookup label (take arity args) (transitionsIn (now (transitions .entry)) count) ⌝ }
 {
-    let meta = 65536 * arity as u64 + label as u64;
+    let meta = meta_of(arity, label);
     let i = seek(transitions, count, meta, pack(args));
     if i == 0 {
         return 0;

@@ -6,7 +6,7 @@ use mathlib.Core.Path.{_∙_, _≡_, ap, ap₂, refl, subst, sym}
 use Prim.Native.Nat.{_+_, _-_, _<_, _≤_, suc, ℕ}
 use native.Mathlib.Omega.{arith}
 use lib.ListN.{drop, drop-of-length-le, getD, length, length-drop, length-set, set, take}
-use lib.Seq.{drop-cons, drop-drop, drop-set-lt, ext-getD, getD-drop, getD-set-same, getD-take, length-take-le}
+use lib.Seq.{drop-cons, drop-drop, ext-getD, getD-drop, getD-take, length-take-le}
 use Rattle.automata.specs.Automaton.{Automaton, run}
 use Rattle.automata.specs.Change.{subtrees}
 use Rattle.format.specs.Format.{maxArity, maxNodes}
@@ -23,6 +23,7 @@ use Rattle.trees.proofs.Trees.{cons-tree}
 use Rattle.lists.specs.Positions.{byteFrom}
 use Rattle.running.proofs.Tables.{node-byte}
 use Rattle.trees.proofs.Suffixes.{Passed, children-there, nodes-end, nodesFrom, read-next, read-whole}
+use Rattle.lists.proofs.Heads.{drop-set}
 
 -- the label and the number of children of the node before node i
 abbrev pub labelBefore : List ℕ → ℕ → ℕ
@@ -98,12 +99,6 @@ numbered-last ts t ns w = go (elem eqTree t ts)
     go : (b : Bool) → treesNumbered (cond b ts (ts ++ (t ∷ []))) ns ≡ treesNumbered ts ns
     go true = refl
     go false = numbered-append ts (t ∷ []) ns w
-
-drop-set : (s : List ℕ) (p v : ℕ) → p < length s → drop p (set s p v) ≡ v ∷ drop (p + 1) s
-drop-set s p v h =
-    drop-cons (set s p v) p 0 (rw (length-set s p v) h) ∙
-    (let z : suc p ≡ p + 1 = omega arith in
-    rw (getD-set-same s p v 0 h, z, drop-set-lt (p + 1) s p v (omega arith)))
 
 module _ {s bs : List ℕ} {i top found : ℕ} {stack l r c q : List ℕ}
     (inv : Collecting s bs i top found stack l r c q) where

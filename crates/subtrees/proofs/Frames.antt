@@ -2,13 +2,13 @@
 use mathlib.Core.Bool.{Bool, _||_, false, not, true}
 use mathlib.Core.List.{List, [], _++_, _∷_}
 use mathlib.Core.Path.{_∙_, _≡_, ap, ap₂, refl, subst, sym}
-use Prim.Native.Nat.{_-_, _<_, _≤_, suc, zero, ℕ}
+use Prim.Native.Nat.{_-_, _<_, _≤_, suc, ℕ}
 use native.Mathlib.Nat.{zero-add}
 use native.Mathlib.Omega.{arith}
 use lib.Dec.{eqb}
 use lib.ListN.{drop, getD, length, set, take}
 use lib.Seq.{set-getD, set-split}
-use borrow.Author.Tests.{eq-eqb, eqb-false, eqb-true}
+use borrow.Author.Tests.{eq-eqb, eqb-true}
 use Rattle.automata.specs.Alike.{framesOf}
 use Rattle.automata.specs.Automaton.{Automaton}
 use Rattle.automata.specs.Change.{subtrees}
@@ -20,7 +20,7 @@ use Rattle.trees.specs.Context.{Frame, fill}
 use Rattle.trees.specs.Tree.{Forest, Tree, _⧺_, cons, count, nil, noTree, node}
 use Rattle.automata.proofs.Frames.{fill-frames, frames-fill}
 use Rattle.lists.proofs.Intervals.{at-every, every-at, getD-in, getD-tabulated, in-getD, length-tabulated}
-use Rattle.lists.proofs.Tests.{every-in, in-every, or-right, same-test}
+use Rattle.lists.proofs.Tests.{every-in, in-every, same-test}
 use Rattle.subtrees.proofs.Numbers.{distinct-index}
 use Rattle.trees.proofs.Trees.{cons-forest, cons-tree, node-children, node-label}
 

@@ -1,3 +1,4 @@
 pub mod Store
 pub mod Steps
 pub mod Frames
+pub mod Parents

@@ -7,9 +7,9 @@ use native.Mathlib.Omega.{arith}
 use lib.ListN.{getD}
 use Rattle.automata.specs.Alike.{framesOf}
 use Rattle.automata.specs.Automaton.{Automaton, run}
-use Rattle.format.specs.Format.{maxNodes}
 use Rattle.lists.specs.Tests.{_∈_}
-use Rattle.subtrees.specs.Store.{Stored, treeNumbered}
+use Rattle.subtrees.specs.Parents.{ParentsWithin}
+use Rattle.subtrees.specs.Store.{treeNumbered}
 use Rattle.trees.specs.Context.{Frame}
 use Rattle.trees.specs.Tree.{Tree}
 use Rattle.uses.specs.Frames.{Nodes}
@@ -45,18 +45,17 @@ both-subtrees t ts m j v a b o d n = record {
     split f (inl i) = inl i
     split f (inr i) = inr (o, i)
 
+-- no node has 0 as a child
+pub no-parents : {m : ℕ} {r c : List ℕ} {j start end : ℕ} → Nodes m r c → ParentsWithin m r c j start end →
+    ParentsWithin m r c 0 start end
+no-parents nodes within = record {
+  known = within .known;
+  above = λ i k h l e. absurd (omega (arith, nodes .child-some i k h l));
+  below = λ i k h l e. absurd (omega (arith, nodes .child-some i k h l));
+}
+
 pub state-read : {A : Automaton} {t : Tree} {ts : List Tree} {s : List ℕ} {c n : ℕ} {l r h q w : List ℕ} {m : ℕ} →
     Holds A t ts s c n l r h q w m → (j : ℕ) → 1 ≤ j → j ≤ m → {x : ℕ} → x ≡ j →
     getD q (x - 1) 0 ≡ run A (treeNumbered ts j)
 state-read {A} {t} {ts} {s} {c} {n} {l} {r} {h} {q} holds j a b e =
     ap (λ (y : ℕ). getD q (y - 1) 0) e ∙ holds .stored .state (j - 1) (omega arith)
-
--- nodes that are stored can be read
-pub stored-nodes : {A : Automaton} {ts : List Tree} {m : ℕ} {l r h q : List ℕ} → Stored A ts m l r h q → m ≤ maxNodes →
-    Nodes m r h
-stored-nodes st few = record {
-  few = few;
-  narrow = st .narrow;
-  child-some = st .child-some;
-  child-known = λ i k b d. omega (arith, st .child-before i k b d);
-}

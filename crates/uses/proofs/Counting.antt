@@ -1,13 +1,13 @@
 -- Loops that count and multiply: what is there and what is left is the whole.
 use mathlib.Core.Bool.{Bool, false, true}
 use mathlib.Core.List.{List, _∷_}
-use mathlib.Core.Path.{_∙_, _≡_, ap, refl, sym}
-use Prim.Native.Nat.{_*_, _+_, _-_, _<_, _≤_, min, ℕ}
-use native.Mathlib.Nat.{mul-one, one-mul, zero-add}
+use mathlib.Core.Path.{_∙_, _≡_, ap, refl, subst, sym}
+use Prim.Native.Nat.{_*_, _+_, _-_, _<_, _≤_, min, suc, zero, ℕ}
+use native.Mathlib.Nat.{add-zero, mul-one, one-mul, zero-add}
 use native.Mathlib.Omega.{arith}
-use lib.Dec.{eqb}
+use lib.Dec.{eqb, ltb}
 use lib.ListN.{length}
-use borrow.Author.Tests.{eq-eqb, eqb-false, eqb-true, ne-eqb}
+use borrow.Author.Tests.{eq-eqb, eqb-false, eqb-true, ltb-false, ltb-true, ne-eqb}
 use Rattle.automata.specs.Totals.{productOver}
 use Rattle.lists.specs.Positions.{upFrom}
 use Rattle.lists.specs.Tests.{bit, filter}
@@ -17,9 +17,9 @@ use Rattle.pairs.proofs.Products.{cap-step}
 
 -- ---- how many numbers pass a test
 
--- n numbers below i passed, and with those left they are s
+-- n numbers below i passed, and with those left they are s; i may be beyond the end
 pub record CountFrom (s : ℕ) (p : ℕ → Bool) (m n i : ℕ) : Type 0 where
-  pub within : i ≤ m
+  pub within : n ≤ m
   pub small : n ≤ i
   pub left : n + length (filter p (upFrom i (m - i))) ≡ s
 
@@ -49,13 +49,42 @@ module _ {p : ℕ → Bool} {m : ℕ} where
 
   pub count-next : {s n i x : ℕ} → CountFrom s p m n i → i < m → x ≡ bit (p i) → CountFrom s p m (n + x) (i + 1)
   count-next {s} {n} {i} {x} inv h e = record {
-    within = omega arith;
+    within = omega (arith, count-small inv e);
     small = count-small inv e;
     left =
         let z = ap (λ (ks : List ℕ). length (filter p ks)) (upFrom-next i m h)
         ∙ filter-here p i (upFrom (i + 1) (m - (i + 1))) in
         omega (arith, inv .left, z, e);
   }
+
+  count-skip : {s n i : ℕ} → CountFrom s p m n i → (i < m → p i ≡ false) → CountFrom s p m n (i + 1)
+  count-skip {s} {n} {i} inv f = record {
+    within = inv .within;
+    small = omega (arith, inv .small);
+    left = go (ltb i m) refl;
+  }
+    where
+      go : (b : Bool) → ltb i m ≡ b → n + length (filter p (upFrom (i + 1) (m - (i + 1)))) ≡ s
+      go true e =
+          let h = ltb-true i m e in
+          let z = ap (λ (ks : List ℕ). length (filter p ks)) (upFrom-next i m h)
+          ∙ filter-here p i (upFrom (i + 1) (m - (i + 1))) in
+          omega (arith, inv .left, z, ap bit (f h))
+      go false e =
+          let h = ltb-false i m e in
+          let y = ap (λ (ks : List ℕ). length (filter p ks)) (upFrom-none i m h) in
+          let z = ap (λ (ks : List ℕ). length (filter p ks)) (upFrom-none (i + 1) m (omega arith)) in
+          omega (arith, inv .left, y, z)
+
+  -- none of the next d numbers passes
+  pub count-past : {s n i : ℕ} (d : ℕ) → CountFrom s p m n i → ((x : ℕ) → i ≤ x → x < i + d → x < m → p x ≡ false) →
+      CountFrom s p m n (i + d)
+  count-past {s} {n} {i} zero inv f = subst (CountFrom s p m n) (sym (add-zero i)) inv
+  count-past {s} {n} {i} (suc d) inv f =
+      let e : i + 1 + d ≡ i + suc d = omega arith in
+      subst (CountFrom s p m n) e
+      (count-past d (count-skip inv (f i (omega arith) (omega arith)))
+      (λ x a b. f x (omega arith) (omega arith)))
 
   pub count-end : {s n i : ℕ} → CountFrom s p m n i → m ≤ i → n ≡ s
   count-end {s} {n} {i} inv h =

@@ -14,7 +14,7 @@ use Rattle.automata.specs.Automaton.{Automaton}
 use Rattle.automata.specs.Change.{subtrees}
 use Rattle.automata.specs.Distinguishable.{Slot}
 use Rattle.automata.specs.OpenStates.{pairsOf}
-use Rattle.distinguish.specs.Separating.{slotAt}
+use Rattle.sorted.specs.Steps.{slotAt}
 use Rattle.fields.specs.Fields.{HoldsTransitionsOver}
 use Rattle.format.specs.Format.{transitionBytes}
 use Rattle.lists.specs.Positions.{upFrom}

@@ -12,12 +12,12 @@ use borrow.Author.Tests.{eq-eqb, eqb-true}
 use Rattle.automata.specs.Alike.{covered, usesAgree}
 use Rattle.automata.specs.Automaton.{Automaton, Transition, lookup, step}
 use Rattle.automata.specs.Distinguishable.{Slot, slots, stepSlot}
-use Rattle.distinguish.specs.Separating.{slotAt}
+use Rattle.sorted.specs.Steps.{slotAt}
 use Rattle.fields.specs.Fields.{HoldsTransitionsOver}
 use Rattle.fields.specs.View.{viewed}
 use Rattle.format.specs.Format.{transitionBytes}
 use Rattle.lists.specs.Tests.{_∈_, any}
-use Rattle.sorted.specs.Sorted.{Sorted}
+use Rattle.packed.specs.Packed.{Searchable}
 use Rattle.table.specs.Layout.{argOf, arityOf, labelOf, nthTransition, outOf, transitionsIn}
 use Rattle.trees.specs.Context.{Frame}
 use Rattle.trees.specs.Tree.{Tree}
@@ -26,7 +26,7 @@ use Rattle.uses.specs.Uses.{transitionAgrees, transitionsAgree}
 use Rattle.automata.proofs.Distinguishable.{in-slots}
 use Rattle.automata.proofs.Order.{lookup-transition}
 use Rattle.automata.proofs.Steps.{Taken, step-view}
-use Rattle.distinguish.proofs.Slots.{args-around, slot-is}
+use Rattle.sorted.proofs.Slots.{args-around, slot-is}
 use Rattle.fields.proofs.Views.{viewed-arg}
 use Rattle.lists.proofs.Intervals.{at-every, every-at}
 use Rattle.lists.proofs.Tests.{every-in, in-every, none-zero, or-cases, or-left, or-right, same-test}
@@ -55,7 +55,7 @@ flip-back u v b e = go (or-cases (eqb v u) b e)
     go (inr d) = or-left b (eqb u v) d
 
 module _ {A : Automaton} {t : Tree} {ts : List Tree} {s : List ℕ} {c n : ℕ} {l r h q w : List ℕ} {m : ℕ}
-    (sorted : Sorted s c) (over : HoldsTransitionsOver s c n) (holds : Holds A t ts s c n l r h q w m) where
+    (searchable : Searchable s c) (over : HoldsTransitionsOver s c n) (holds : Holds A t ts s c n l r h q w m) where
   same-step : (π : Slot) (x : ℕ) → stepSlot A π x ≡ stepSlot (viewed [] s 0 c) π x
   same-step π x =
       ap (λ (τs : List Transition). cond (any (eqb 0) (π .before ++ (x ∷ π .after))) 0
@@ -69,7 +69,7 @@ module _ {A : Automaton} {t : Tree} {ts : List Tree} {s : List ℕ} {c n : ℕ} 
       let z = none-zero (nthTransition s i .args) (λ x j. viewed-arg [] s n c over i b x j .0) in
       same-step (slotAt s (transitionBytes * i) k) (argOf s (transitionBytes * i) k)
       ∙ ap (λ (qs : List ℕ). step (viewed [] s 0 c) (labelOf s (transitionBytes * i)) qs) (sym e)
-      ∙ rw z (lookup-transition (transitionsIn s c) (sorted .rises) (nthTransition s i) (in-transitionsIn s c i b))
+      ∙ rw z (lookup-transition (transitionsIn s c) (searchable .rises) (nthTransition s i) (in-transitionsIn s c i b))
 
   slot-in : (i k : ℕ) → i < c → k < arityOf s (transitionBytes * i) →
       slotAt s (transitionBytes * i) k ∈ slots (A .transitions)

@@ -2,9 +2,14 @@ pub mod Comparing
 pub mod Counting
 pub mod Factors
 pub mod Nodes
+pub mod Framing
+pub mod Stepping
 pub mod Scanned
+pub mod Spanning
+pub mod UseSlots
 pub mod Weighing
 pub mod Placing
 pub mod Coverage
 pub mod Exact
 pub mod Both
+pub mod Noting

@@ -4,13 +4,17 @@ use mathlib.Core.Bool.{Bool, _&&_, false, not, true}
 use mathlib.Core.List.{List}
 use mathlib.Core.Logic.{_⊎_, inl, inr}
 use mathlib.Core.Path.{_∙_, _≡_, ap, refl, sym}
-use Prim.Native.Nat.{ℕ}
+use Prim.Native.Nat.{_<_, ℕ}
+use native.Mathlib.Omega.{arith}
+use lib.Dec.{eqb}
 use lib.ListN.{getD}
+use borrow.Author.Tests.{eqb-true}
 use Rattle.lists.specs.Positions.{upFrom}
 use Rattle.lists.specs.Tests.{any, bit, every}
 use Rattle.subtrees.specs.Store.{childAt}
 use Rattle.table.specs.Layout.{arityOf, labelOf}
 use Rattle.uses.specs.Frames.{frameOf, framed, inSlot, sameChild, sameSibling, twin}
+use Rattle.lists.proofs.Tests.{and-left, and-right, or-cases}
 use Rattle.uses.proofs.Comparing.{and-eq, and-ne, or-eq, or-ne}
 
 module _ (s : List ℕ) (at k : ℕ) (l r c q : List ℕ) (i : ℕ) where
@@ -76,3 +80,33 @@ module _ (s : List ℕ) (at k : ℕ) (l r c q : List ℕ) (m j v i : ℕ) where
   pub framed-both : {a b : Bool} → a ≡ frameOf l r c m j v k i → a ≡ true → b ≡ inSlot s at k l r c q i → b ≡ true →
       1 ≡ bit (framed s at k l r c q m j v i)
   framed-both e d f g = rw (← e, d, ← f, g)
+
+-- a node that no parent of j or v stands at has no frame
+pub framed-outside : (s : List ℕ) (at k : ℕ) (l r c q : List ℕ) (m j v : ℕ) → k < arityOf s at → (i : ℕ) →
+    (k < getD r i 0 → childAt c i k ≡ j → ⊥) → (k < getD r i 0 → childAt c i k ≡ v → ⊥) →
+    framed s at k l r c q m j v i ≡ false
+unfolding frameOf inSlot
+framed-outside s at k l r c q m j v h i a b = go (framed s at k l r c q m j v i) refl
+  where
+    inside : framed s at k l r c q m j v i ≡ true → k < getD r i 0
+    inside e =
+        let d = and-left (eqb (getD r i 0) (arityOf s at)) _
+        (and-right (eqb (getD l i 0) (labelOf s at)) _ (and-right (frameOf l r c m j v k i) _ e)) in
+        omega (arith, eqb-true (getD r i 0) (arityOf s at) d)
+
+    child : framed s at k l r c q m j v i ≡ true → (childAt c i k ≡ j) ⊎ (childAt c i k ≡ v)
+    child e = cases (or-cases (eqb (childAt c i k) j) _ (and-left (frameOf l r c m j v k i) _ e))
+      where
+        cases : (eqb (childAt c i k) j ≡ true) ⊎
+            ((eqb (childAt c i k) v && not (any (twin l r c j k i) (upFrom 0 m))) ≡ true) →
+            (childAt c i k ≡ j) ⊎ (childAt c i k ≡ v)
+        cases (inl d) = inl (eqb-true (childAt c i k) j d)
+        cases (inr d) = inr (eqb-true (childAt c i k) v (and-left (eqb (childAt c i k) v) _ d))
+
+    go : (x : Bool) → framed s at k l r c q m j v i ≡ x → framed s at k l r c q m j v i ≡ false
+    go false e = e
+    go true e = absurd (refute (child e))
+      where
+        refute : (childAt c i k ≡ j) ⊎ (childAt c i k ≡ v) → ⊥
+        refute (inl d) = a (inside e) d
+        refute (inr d) = b (inside e) d

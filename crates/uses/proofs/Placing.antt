@@ -11,7 +11,7 @@ use borrow.Author.Tests.{eq-eqb, eqb-false, eqb-true, ltb-false, ltb-true}
 use Rattle.automata.specs.Alike.{stateSlot}
 use Rattle.automata.specs.Automaton.{Automaton, run, runs}
 use Rattle.automata.specs.Distinguishable.{Slot}
-use Rattle.distinguish.specs.Separating.{slotAt}
+use Rattle.sorted.specs.Steps.{slotAt}
 use Rattle.lists.specs.Positions.{upFrom}
 use Rattle.lists.specs.Tests.{every}
 use Rattle.subtrees.specs.Store.{Stored, childAt, childNumbers, treeNumbered, treesNumbered}
@@ -19,7 +19,7 @@ use Rattle.table.specs.Layout.{argOf, arityOf, labelOf}
 use Rattle.trees.specs.Context.{Frame, fill}
 use Rattle.trees.specs.Tree.{Tree, _⧺_, cons, noTree, node}
 use Rattle.uses.specs.Frames.{inSlot, sameChild, sameSibling, twin}
-use Rattle.distinguish.proofs.Slots.{split-upFrom}
+use Rattle.sorted.proofs.Slots.{split-upFrom}
 use Rattle.fields.proofs.Entries.{map-upFrom}
 use Rattle.lists.proofs.Intervals.{at-every, every-at, getD-tabulated, length-tabulated}
 use Rattle.lists.proofs.Tests.{and-both, and-left, and-right, or-cases, or-left, or-right}

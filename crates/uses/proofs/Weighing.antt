@@ -6,7 +6,7 @@ use native.Mathlib.Nat.{one-mul, zero-add}
 use native.Mathlib.Omega.{arith}
 use lib.ListN.{getD}
 use Rattle.automata.specs.Totals.{productOver}
-use Rattle.distinguish.specs.Separating.{slotAt}
+use Rattle.sorted.specs.Steps.{slotAt}
 use Rattle.lists.specs.Positions.{upFrom}
 use Rattle.table.specs.Layout.{argOf, arityOf}
 use Rattle.uses.specs.Uses.{factorAt, productAt}

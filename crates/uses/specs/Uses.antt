@@ -1,9 +1,9 @@
 -- The uses of two states in the transitions, and which of them the frames of two subtrees cover.
-use mathlib.Core.Bool.{Bool, _||_, cond, false, true}
+use mathlib.Core.Bool.{Bool, _&&_, _||_, cond, false, not, true}
 use mathlib.Core.List.{List}
 use mathlib.Core.Logic.{_⊎_}
 use mathlib.Core.Path.{_≡_}
-use Prim.Native.Nat.{_*_, _+_, _≤_, ℕ}
+use Prim.Native.Nat.{_*_, _+_, _<_, _≤_, ℕ}
 use lib.Dec.{eqb}
 use lib.ListN.{getD}
 use Rattle.automata.specs.Alike.{framesOf}
@@ -11,15 +11,20 @@ use Rattle.automata.specs.Automaton.{Automaton}
 use Rattle.automata.specs.Change.{subtrees}
 use Rattle.automata.specs.OpenStates.{pairsOf}
 use Rattle.automata.specs.Totals.{productOver}
-use Rattle.distinguish.specs.Separating.{stepAt}
-use Rattle.format.specs.Format.{maxNodes, transitionBytes}
+use Rattle.sorted.specs.Steps.{stepAt}
+use Rattle.fields.specs.Fields.{HoldsTransitionsOver}
+use Rattle.format.specs.Format.{maxArity, maxNodes, transitionBytes}
 use Rattle.lists.specs.Positions.{upFrom}
 use Rattle.lists.specs.Tests.{_∈_, every}
+use Rattle.packed.specs.declared.slots.Slot.{Slot}
+use Rattle.packed.specs.Packed.{Searchable}
+use Rattle.packed.specs.Slots.{SlotTakes}
+use Rattle.subtrees.specs.Parents.{ParentsWithin}
 use Rattle.subtrees.specs.Store.{Stored, treeNumbered}
 use Rattle.table.specs.Layout.{argOf, arityOf, outOf, transitionsIn}
 use Rattle.trees.specs.Context.{Frame}
 use Rattle.trees.specs.Tree.{Tree}
-use Rattle.uses.specs.Frames.{frameCount}
+use Rattle.uses.specs.Frames.{Nodes, frameCount}
 
 -- the arrays of m subtrees, the number of pairs of each state, and the two subtrees, the second 0 for none
 pub record Arrays : Type 0 where
@@ -83,9 +88,29 @@ transitionAgrees a s c p q i =
 abbrev pub transitionsAgree : Arrays → List ℕ → ℕ → ℕ → ℕ → Bool
 transitionsAgree a s c p q = every (transitionAgrees a s c p q) (upFrom 0 c)
 
+-- argument k of the transition that starts at a byte is neither of two states
+abbrev pub neitherAt : List ℕ → ℕ → ℕ → ℕ → ℕ → Bool
+neitherAt s at p q k = not (eqb (argOf s at k) p) && not (eqb (argOf s at k) q)
+
 -- a look at one transition: a refusal is right
 pub record Hinted (a : Arrays) (s : List ℕ) (c p q : ℕ) (b : Bool) : Type 0 where
   pub refused : b ≡ false → transitionsAgree a s c p q ≡ false
+
+-- a slot that every state takes that is used as p is, if it has an output
+pub record SlotUsed (a : Arrays) (s : List ℕ) (c p : ℕ) (z : Slot) : Type 0 where
+  pub place : z .place < maxArity
+  pub takes : 1 ≤ z .out → (q : ℕ) → transitionsAgree a s c p q ≡ true → SlotTakes s c z q
+
+-- ---- what is read
+
+-- transitions over n states that can be searched, and m nodes of which those between two indices are the parents of
+-- subtrees j and v
+pub record Scannable (s : List ℕ) (c n m : ℕ) (r h : List ℕ) (j v start end : ℕ) : Type 0 where
+  pub searchable : Searchable s c
+  pub over : HoldsTransitionsOver s c n
+  pub nodes : Nodes m r h
+  pub first : ParentsWithin m r h j start end
+  pub second : ParentsWithin m r h v start end
 
 -- ---- what the arrays hold
 

@@ -3,6 +3,8 @@ ghost use mathlib.Core.Path.{_≡_};
 ghost use Prim.Native.Nat.{_*_, _<_, _≤_, min};
 ghost use Rattle.fields.specs.Fields.{Readable};
 ghost use Rattle.format.specs.Format.{maxArity};
+ghost use Rattle.subtrees.specs.Parents.{ParentsWithin};
+ghost use Rattle.table.specs.Layout.{arityOf};
 ghost use Rattle.uses.specs.Frames.{Nodes};
 ghost use Rattle.uses.specs.Uses.{arrays, coveredAt, factorAt, productAt, productCap};
 use crate::frames::frame_count;
@@ -67,10 +69,14 @@ pub fn is_covered(
     m: usize,
     j: u8,
     v: u8,
+    start: usize,
+    end: usize,
 ) -> bool
     requires { ⌜ Readable (now transitions) at ⌝ }
     requires { ⌜ Nodes m (now arities) (now children) ⌝ }
-    requires { ⌜ k < maxArity ⌝ }
+    requires { ⌜ k < arityOf (now transitions) at ⌝ }
+    requires { ⌜ ParentsWithin m (now arities) (now children) j start end ⌝ }
+    requires { ⌜ ParentsWithin m (now arities) (now children) v start end ⌝ }
     ensures { λ r. ⌜ r ≡ coveredAt (arrays (now (labels .entry)) (now (arities .entry)) (now (children .entry)) (now
         (states .entry)) (now (weights .entry)) m j v) (now (transitions .entry)) at k ⌝ }
 {
@@ -85,6 +91,8 @@ pub fn is_covered(
         m,
         j,
         v,
+        start,
+        end,
     );
     choices(transitions, at, k, weights) == found
 }

@@ -6,6 +6,7 @@ ghost use Rattle.fields.specs.Fields.{Readable};
 ghost use Rattle.format.specs.Format.{maxArity, maxNodes};
 ghost use Rattle.lists.specs.Positions.{upFrom};
 ghost use Rattle.lists.specs.Tests.{any, bit, every};
+ghost use Rattle.subtrees.specs.Parents.{ParentsWithin};
 ghost use Rattle.subtrees.specs.Store.{childAt};
 ghost use Rattle.table.specs.Layout.{arityOf};
 ghost use Rattle.uses.specs.Frames.{Nodes, frameCount, frameOf, framed, inSlot, sameChild, sameSibling, twin};
@@ -239,7 +240,8 @@ fn framed_at(
     1
 }
 
-// The number of frames of subtrees j and v at the slot of the transition with argument k left out.
+// The number of frames of subtrees j and v at the slot of the transition with argument k left out. Their
+// parents stand from `start` on and before `end`.
 pub fn frame_count(
     transitions: &[u8],
     at: usize,
@@ -251,17 +253,21 @@ pub fn frame_count(
     m: usize,
     j: u8,
     v: u8,
+    start: usize,
+    end: usize,
 ) -> usize
     requires { ⌜ Readable (now transitions) at ⌝ }
     requires { ⌜ Nodes m (now arities) (now children) ⌝ }
-    requires { ⌜ k < maxArity ⌝ }
+    requires { ⌜ k < arityOf (now transitions) at ⌝ }
+    requires { ⌜ ParentsWithin m (now arities) (now children) j start end ⌝ }
+    requires { ⌜ ParentsWithin m (now arities) (now children) v start end ⌝ }
     ensures { λ r. ⌜ r ≡ frameCount (now (transitions .entry)) at k (now (labels .entry)) (now (arities .entry)) (now
         (children .entry)) (now (states .entry)) m j v ⌝ }
     ensures { λ r. ⌜ r ≤ maxNodes ⌝ }
 {
     let mut found = 0;
-    let mut i = 0;
-    while i < m {
+    let mut i = start;
+    while i < end {
         found = found
             + framed_at(
                 transitions,

@@ -1,9 +1,13 @@
 // Whether two states are used alike: from every slot of a transition that the frames of given subtrees do not cover
-// they go to the same state. `transitions` has transition i at byte 11 i, sorted; the arrays of the m subtrees are
-// those of crate subtrees, and `weights` has the number of pairs of each state.
+// they go to the same state. `transitions` has transition i at byte 12 i, sorted; the arrays of the m subtrees are
+// those of crate subtrees, and `weights` has the number of pairs of each state. `lows` and `lasts` say where a state's
+// uses stand, `start` and `end` where the parents of the subtrees do.
+mod spans; // where the uses of a state stand
 mod frames; // frames over a slot, counted
 mod covering; // covered slots
+mod swapping; // another state for an argument
 mod scanning; // each use of a state
+mod using; // a use as a slot
 
 ghost use mathlib.Core.List.{List, _++_};
 ghost use mathlib.Core.Path.{_≡_};
@@ -11,23 +15,28 @@ ghost use Prim.Native.Nat.{_*_, _≤_};
 ghost use Rattle.automata.specs.Alike.{framesOf, usesAgree};
 ghost use Rattle.automata.specs.Automaton.{Automaton, run};
 ghost use Rattle.fields.specs.Fields.{HoldsTransitionsOver};
-ghost use Rattle.sorted.specs.Sorted.{Sorted};
+ghost use Rattle.packed.specs.Packed.{Searchable};
+ghost use Rattle.subtrees.specs.Parents.{ParentsWithin};
 ghost use Rattle.subtrees.specs.Store.{treeNumbered};
 ghost use Rattle.trees.specs.Context.{Frame};
 ghost use Rattle.trees.specs.Tree.{Tree};
 ghost use Rattle.uses.specs.Frames.{Nodes};
-ghost use Rattle.uses.specs.Uses.{FramesOf, Holds};
+ghost use Rattle.uses.specs.Spans.{UsesWithin};
+ghost use Rattle.uses.specs.Uses.{FramesOf, Holds, Scannable};
 use format::BYTE_VALUES;
 use format::MAX_ARITY;
 use format::MAX_NODES;
 use format::wide;
 use scanning::hint_agrees;
 use scanning::transitions_agree;
+pub use spans::Uses;
+pub use spans::uses_of;
+pub use using::use_slot;
 
 const CHILD_NUMBERS: usize = MAX_NODES * MAX_ARITY;
 
-// Whether states p and q, or 0, are used alike but for the frames of subtrees j and v; v is 0 for none. One use of
-// each is looked at first, from `uses`.
+// Whether states p and q, or 0, are used alike but for the frames of subtrees j and v; v is 0 for none. The last
+// use of each is looked at first.
 fn uses_agree(
     transitions: &[u8],
     count: usize,
@@ -37,16 +46,18 @@ fn uses_agree(
     children: &[u8; CHILD_NUMBERS],
     states: &[u8; MAX_NODES],
     weights: &[u8; BYTE_VALUES],
-    uses: &[u16; BYTE_VALUES],
+    lows: &[u16; BYTE_VALUES],
+    lasts: &[u16; BYTE_VALUES],
+    start: usize,
+    end: usize,
     m: usize,
     j: u8,
     v: u8,
     p: u8,
     q: u8,
 ) -> bool
-    requires { ⌜ Sorted (now transitions) count ⌝ }
-    requires { ⌜ HoldsTransitionsOver (now transitions) count n ⌝ }
-    requires { ⌜ Nodes m (now arities) (now children) ⌝ }
+    requires { ⌜ Scannable (now transitions) count n m (now arities) (now children) j v start end ⌝ }
+    requires { ⌜ UsesWithin (now transitions) count (now lows) (now lasts) ⌝ }
     ensures { λ r. ⌜ ((A : Automaton) (t : Tree) (ts : List Tree) (F : List Frame) →
         Holds A t ts (now (transitions .entry)) count n (now (labels .entry)) (now (arities .entry)) (now
         (children .entry)) (now (states .entry)) (now (weights .entry)) m → FramesOf t ts m j v F →
@@ -64,7 +75,10 @@ fn uses_agree(
         children,
         states,
         weights,
-        uses,
+        lows,
+        lasts,
+        start,
+        end,
         m,
         j,
         v,
@@ -83,7 +97,10 @@ fn uses_agree(
         children,
         states,
         weights,
-        uses,
+        lows,
+        lasts,
+        start,
+        end,
         m,
         j,
         v,
@@ -102,6 +119,10 @@ fn uses_agree(
         children,
         states,
         weights,
+        lows,
+        lasts,
+        start,
+        end,
         m,
         j,
         v,
@@ -120,16 +141,21 @@ pub fn state_uses_agree(
     children: &[u8; CHILD_NUMBERS],
     states: &[u8; MAX_NODES],
     weights: &[u8; BYTE_VALUES],
-    uses: &[u16; BYTE_VALUES],
+    lows: &[u16; BYTE_VALUES],
+    lasts: &[u16; BYTE_VALUES],
+    start: usize,
+    end: usize,
     m: usize,
     j: u8,
     q: u8,
 ) -> bool
-    requires { ⌜ Sorted (now transitions) count ⌝ }
+    requires { ⌜ Searchable (now transitions) count ⌝ }
     requires { ⌜ HoldsTransitionsOver (now transitions) count n ⌝ }
     requires { ⌜ Nodes m (now arities) (now children) ⌝ }
     requires { ⌜ 1 ≤ j ⌝ }
     requires { ⌜ j ≤ m ⌝ }
+    requires { ⌜ UsesWithin (now transitions) count (now lows) (now lasts) ⌝ }
+    requires { ⌜ ParentsWithin m (now arities) (now children) j start end ⌝ }
     ensures { λ r. ⌜ ((A : Automaton) (t : Tree) (ts : List Tree) →
         Holds A t ts (now (transitions .entry)) count n (now (labels .entry)) (now (arities .entry)) (now
         (children .entry)) (now (states .entry)) (now (weights .entry)) m →
@@ -145,7 +171,10 @@ pub fn state_uses_agree(
         children,
         states,
         weights,
-        uses,
+        lows,
+        lasts,
+        start,
+        end,
         m,
         j,
         0,
@@ -164,12 +193,15 @@ pub fn subtree_uses_agree(
     children: &[u8; CHILD_NUMBERS],
     states: &[u8; MAX_NODES],
     weights: &[u8; BYTE_VALUES],
-    uses: &[u16; BYTE_VALUES],
+    lows: &[u16; BYTE_VALUES],
+    lasts: &[u16; BYTE_VALUES],
+    start: usize,
+    end: usize,
     m: usize,
     j: u8,
     v: u8,
 ) -> bool
-    requires { ⌜ Sorted (now transitions) count ⌝ }
+    requires { ⌜ Searchable (now transitions) count ⌝ }
     requires { ⌜ HoldsTransitionsOver (now transitions) count n ⌝ }
     requires { ⌜ Nodes m (now arities) (now children) ⌝ }
     requires { ⌜ 1 ≤ j ⌝ }
@@ -177,6 +209,9 @@ pub fn subtree_uses_agree(
     requires { ⌜ 1 ≤ v ⌝ }
     requires { ⌜ v ≤ m ⌝ }
     requires { ⌜ (j ≡ v → ⊥) ⌝ }
+    requires { ⌜ UsesWithin (now transitions) count (now lows) (now lasts) ⌝ }
+    requires { ⌜ ParentsWithin m (now arities) (now children) j start end ⌝ }
+    requires { ⌜ ParentsWithin m (now arities) (now children) v start end ⌝ }
     ensures { λ r. ⌜ ((A : Automaton) (t : Tree) (ts : List Tree) →
         Holds A t ts (now (transitions .entry)) count n (now (labels .entry)) (now (arities .entry)) (now
         (children .entry)) (now (states .entry)) (now (weights .entry)) m →
@@ -194,7 +229,10 @@ pub fn subtree_uses_agree(
         children,
         states,
         weights,
-        uses,
+        lows,
+        lasts,
+        start,
+        end,
         m,
         j,
         v,

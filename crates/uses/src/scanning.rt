@@ -1,136 +1,52 @@
 // Each use of two states in the transitions: with the other one in its place the transition gives the same output, or
 // the slot is covered.
+ghost use mathlib.Core.Bool.{_&&_, not};
 ghost use mathlib.Core.Path.{_≡_};
-ghost use Prim.Native.Nat.{_*_, _<_};
-ghost use Rattle.fields.specs.Fields.{HoldsTransitionsOver};
-ghost use Rattle.format.specs.Format.{transitionBytes};
-ghost use Rattle.sorted.specs.Sorted.{Sorted};
-ghost use Rattle.table.specs.Layout.{arityOf};
-ghost use Rattle.uses.specs.Frames.{Nodes};
-ghost use Rattle.uses.specs.Uses.{Hinted, arrays, placeAgrees, swapAgrees, transitionAgrees, transitionsAgree};
-use crate::covering::is_covered;
-use distinguish::stepped;
-use fields::arg_of;
+ghost use Prim.Native.Nat.{_*_, _+_, _<_, _≤_, max, min};
+ghost use lib.Dec.{eqb};
+ghost use lib.ListN.{length};
+ghost use Rattle.format.specs.Format.{maxArity, transitionBytes};
+ghost use Rattle.lists.specs.Positions.{upFrom};
+ghost use Rattle.lists.specs.Tests.{every};
+ghost use Rattle.uses.specs.Spans.{UsesWithin};
+ghost use Rattle.uses.specs.Uses.{Hinted, Scannable, arrays, neitherAt};
+ghost use Rattle.uses.specs.Uses.{transitionAgrees, transitionsAgree};
+use crate::spans::entry;
+use crate::swapping::CURSORS;
+use crate::swapping::place_agrees;
 use fields::arity_of;
-use fields::out_of;
+use format::ARGS_AT;
 use format::BYTE_VALUES;
 use format::MAX_ARITY;
 use format::MAX_NODES;
 use format::TRANSITION_BYTES;
 use format::wide;
 use format::widened;
+use packed::args_at;
+use packed::meta_at;
 
 const CHILD_NUMBERS: usize = MAX_NODES * MAX_ARITY;
 
-// Whether transition i gives the same output with q for its argument k, or the slot is covered.
-fn swap_agrees(
-    transitions: &[u8],
-    count: usize,
-    n: usize,
-    labels: &[u16; MAX_NODES],
-    arities: &[u8; MAX_NODES],
-    children: &[u8; CHILD_NUMBERS],
-    states: &[u8; MAX_NODES],
-    weights: &[u8; BYTE_VALUES],
-    m: usize,
-    j: u8,
-    v: u8,
-    i: usize,
-    k: usize,
-    q: u8,
-) -> bool
-    requires { ⌜ Sorted (now transitions) count ⌝ }
-    requires { ⌜ HoldsTransitionsOver (now transitions) count n ⌝ }
-    requires { ⌜ Nodes m (now arities) (now children) ⌝ }
-    requires { ⌜ i < count ⌝ }
-    requires { ⌜ k < arityOf (now transitions) (transitionBytes * i) ⌝ }
-    ensures { λ r. ⌜ r ≡ swapAgrees (arrays (now (labels .entry)) (now (arities .entry)) (now (children .entry)) (now
-        (states .entry)) (now (weights .entry)) m j v) (now (transitions .entry)) count (transitionBytes * i) k q ⌝ }
+// Whether a byte is neither of two.
+fn is_neither(x: u8, p: u8, q: u8) -> bool
+    ensures { λ r. ⌜ r ≡ (not (eqb x p) && not (eqb x q)) ⌝ }
 {
-    let out = wide(stepped(transitions, count, n, i, k, q));
-    let at = TRANSITION_BYTES * i;
-    if out == out_of(transitions, at) {
-        return true;
-    }
-    is_covered(
-        transitions,
-        at,
-        k,
-        labels,
-        arities,
-        children,
-        states,
-        weights,
-        m,
-        j,
-        v,
-    )
+    (x != p) & (x != q)
 }
 
-// Whether argument k of transition i is neither p nor q, or the other one agrees.
-fn place_agrees(
-    transitions: &[u8],
-    count: usize,
-    n: usize,
-    labels: &[u16; MAX_NODES],
-    arities: &[u8; MAX_NODES],
-    children: &[u8; CHILD_NUMBERS],
-    states: &[u8; MAX_NODES],
-    weights: &[u8; BYTE_VALUES],
-    m: usize,
-    j: u8,
-    v: u8,
-    p: u8,
-    q: u8,
-    i: usize,
-    k: usize,
-) -> bool
-    requires { ⌜ Sorted (now transitions) count ⌝ }
-    requires { ⌜ HoldsTransitionsOver (now transitions) count n ⌝ }
-    requires { ⌜ Nodes m (now arities) (now children) ⌝ }
-    requires { ⌜ i < count ⌝ }
-    requires { ⌜ k < arityOf (now transitions) (transitionBytes * i) ⌝ }
-    ensures { λ r. ⌜ r ≡ placeAgrees (arrays (now (labels .entry)) (now (arities .entry)) (now (children .entry)) (now
-        (states .entry)) (now (weights .entry)) m j v) (now (transitions .entry)) count (transitionBytes * i) p q k ⌝ }
+// Whether neither state stands at a place for arguments of the transition that starts at a byte. Always eight places
+// and no early exit, so that they are compared at once.
+fn has_neither(transitions: &[u8], at: usize, p: u8, q: u8) -> bool
+    requires { ⌜ at + transitionBytes ≤ length (now transitions) ⌝ }
+    ensures { λ r. ⌜ r ≡ every (neitherAt (now (transitions .entry)) at p q) (upFrom 0 maxArity) ⌝ }
 {
-    let arg = arg_of(transitions, TRANSITION_BYTES * i, k);
-    if arg == wide(p) {
-        return swap_agrees(
-            transitions,
-            count,
-            n,
-            labels,
-            arities,
-            children,
-            states,
-            weights,
-            m,
-            j,
-            v,
-            i,
-            k,
-            q,
-        );
+    let mut neither = true;
+    let mut k = 0;
+    while k < MAX_ARITY {
+        neither = neither & is_neither(transitions[at + ARGS_AT + k], p, q);
+        k += 1;
     }
-    if arg == wide(q) {
-        return swap_agrees(
-            transitions,
-            count,
-            n,
-            labels,
-            arities,
-            children,
-            states,
-            weights,
-            m,
-            j,
-            v,
-            i,
-            k,
-            p,
-        );
-    }
-    true
+    neither
 }
 
 // Whether this holds of each argument of transition i.
@@ -143,22 +59,28 @@ fn transition_agrees(
     children: &[u8; CHILD_NUMBERS],
     states: &[u8; MAX_NODES],
     weights: &[u8; BYTE_VALUES],
+    start: usize,
+    end: usize,
     m: usize,
     j: u8,
     v: u8,
     p: u8,
     q: u8,
     i: usize,
+    near: &mut [u16; CURSORS],
 ) -> bool
-    requires { ⌜ Sorted (now transitions) count ⌝ }
-    requires { ⌜ HoldsTransitionsOver (now transitions) count n ⌝ }
-    requires { ⌜ Nodes m (now arities) (now children) ⌝ }
+    requires { ⌜ Scannable (now transitions) count n m (now arities) (now children) j v start end ⌝ }
     requires { ⌜ i < count ⌝ }
+    requires { ⌜ length (now near) ≡ 2 * maxArity ⌝ }
     ensures { λ r. ⌜ r ≡ transitionAgrees (arrays (now (labels .entry)) (now (arities .entry)) (now
         (children .entry)) (now (states .entry)) (now (weights .entry)) m j v) (now
         (transitions .entry)) count p q i ⌝ }
+    ensures { λ _. ⌜ length (now (near .exit)) ≡ 2 * maxArity ⌝ }
 {
-    let arity = arity_of(transitions, TRANSITION_BYTES * i);
+    let at = TRANSITION_BYTES * i;
+    let meta = meta_at(transitions, at);
+    let args = args_at(transitions, at);
+    let arity = arity_of(transitions, at);
     let mut k = 0;
     while k < arity {
         if !place_agrees(
@@ -170,13 +92,18 @@ fn transition_agrees(
             children,
             states,
             weights,
+            start,
+            end,
             m,
             j,
             v,
             p,
             q,
+            meta,
+            args,
             i,
             k,
+            near,
         ) {
             return false;
         }
@@ -185,8 +112,9 @@ fn transition_agrees(
     true
 }
 
-// Whether this holds of each transition.
-pub fn transitions_agree(
+// Whether transition i has neither state as an argument, or agrees. A small function of its own, because most
+// transitions of a scan end here.
+fn unused_or_agrees(
     transitions: &[u8],
     count: usize,
     n: usize,
@@ -195,75 +123,25 @@ pub fn transitions_agree(
     children: &[u8; CHILD_NUMBERS],
     states: &[u8; MAX_NODES],
     weights: &[u8; BYTE_VALUES],
+    start: usize,
+    end: usize,
     m: usize,
     j: u8,
     v: u8,
     p: u8,
     q: u8,
+    i: usize,
+    near: &mut [u16; CURSORS],
 ) -> bool
-    requires { ⌜ Sorted (now transitions) count ⌝ }
-    requires { ⌜ HoldsTransitionsOver (now transitions) count n ⌝ }
-    requires { ⌜ Nodes m (now arities) (now children) ⌝ }
-    ensures { λ r. ⌜ r ≡ transitionsAgree (arrays (now (labels .entry)) (now (arities .entry)) (now
+    requires { ⌜ Scannable (now transitions) count n m (now arities) (now children) j v start end ⌝ }
+    requires { ⌜ i < count ⌝ }
+    requires { ⌜ length (now near) ≡ 2 * maxArity ⌝ }
+    ensures { λ r. ⌜ r ≡ transitionAgrees (arrays (now (labels .entry)) (now (arities .entry)) (now
         (children .entry)) (now (states .entry)) (now (weights .entry)) m j v) (now
-        (transitions .entry)) count p q ⌝ }
+        (transitions .entry)) count p q i ⌝ }
+    ensures { λ _. ⌜ length (now (near .exit)) ≡ 2 * maxArity ⌝ }
 {
-    let mut i = 0;
-    while i < count {
-        if !transition_agrees(
-            transitions,
-            count,
-            n,
-            labels,
-            arities,
-            children,
-            states,
-            weights,
-            m,
-            j,
-            v,
-            p,
-            q,
-            i,
-        ) {
-            return false;
-        }
-        i += 1;
-    }
-    true
-}
-
-// Whether it holds of the one transition that `uses` names for state x, from 1; true if it names none. A name that is
-// wrong does no harm.
-pub fn hint_agrees(
-    transitions: &[u8],
-    count: usize,
-    n: usize,
-    labels: &[u16; MAX_NODES],
-    arities: &[u8; MAX_NODES],
-    children: &[u8; CHILD_NUMBERS],
-    states: &[u8; MAX_NODES],
-    weights: &[u8; BYTE_VALUES],
-    uses: &[u16; BYTE_VALUES],
-    m: usize,
-    j: u8,
-    v: u8,
-    p: u8,
-    q: u8,
-    x: u8,
-) -> bool
-    requires { ⌜ Sorted (now transitions) count ⌝ }
-    requires { ⌜ HoldsTransitionsOver (now transitions) count n ⌝ }
-    requires { ⌜ Nodes m (now arities) (now children) ⌝ }
-    ensures { λ r. ⌜ Hinted (arrays (now (labels .entry)) (now (arities .entry)) (now
-        (children .entry)) (now (states .entry)) (now (weights .entry)) m j v) (now
-        (transitions .entry)) count p q r ⌝ }
-{
-    let number = widened(uses[wide(x)]);
-    if number == 0 {
-        return true;
-    }
-    if number > count {
+    if has_neither(transitions, TRANSITION_BYTES * i, p, q) {
         return true;
     }
     transition_agrees(
@@ -275,11 +153,141 @@ pub fn hint_agrees(
         children,
         states,
         weights,
+        start,
+        end,
+        m,
+        j,
+        v,
+        p,
+        q,
+        i,
+        near,
+    )
+}
+
+fn lesser(x: usize, y: usize) -> usize
+    ensures { λ r. ⌜ r ≡ min x y ⌝ }
+{
+    if x < y {
+        return x;
+    }
+    y
+}
+
+fn greater(x: usize, y: usize) -> usize
+    ensures { λ r. ⌜ r ≡ max x y ⌝ }
+{
+    if x < y {
+        return y;
+    }
+    x
+}
+
+// Whether this holds of each transition. Only those between the first use of the two states and the last are looked at.
+pub fn transitions_agree(
+    transitions: &[u8],
+    count: usize,
+    n: usize,
+    labels: &[u16; MAX_NODES],
+    arities: &[u8; MAX_NODES],
+    children: &[u8; CHILD_NUMBERS],
+    states: &[u8; MAX_NODES],
+    weights: &[u8; BYTE_VALUES],
+    lows: &[u16; BYTE_VALUES],
+    lasts: &[u16; BYTE_VALUES],
+    start: usize,
+    end: usize,
+    m: usize,
+    j: u8,
+    v: u8,
+    p: u8,
+    q: u8,
+) -> bool
+    requires { ⌜ Scannable (now transitions) count n m (now arities) (now children) j v start end ⌝ }
+    requires { ⌜ UsesWithin (now transitions) count (now lows) (now lasts) ⌝ }
+    ensures { λ r. ⌜ r ≡ transitionsAgree (arrays (now (labels .entry)) (now (arities .entry)) (now
+        (children .entry)) (now (states .entry)) (now (weights .entry)) m j v) (now
+        (transitions .entry)) count p q ⌝ }
+{
+    let mut near = [0u16; CURSORS];
+    let to = greater(entry(lasts, p), entry(lasts, q));
+    let mut i = lesser(entry(lows, p), entry(lows, q));
+    while i < to {
+        if !unused_or_agrees(
+            transitions,
+            count,
+            n,
+            labels,
+            arities,
+            children,
+            states,
+            weights,
+            start,
+            end,
+            m,
+            j,
+            v,
+            p,
+            q,
+            i,
+            &mut near,
+        ) {
+            return false;
+        }
+        i += 1;
+    }
+    true
+}
+
+// Whether it holds of the last transition that uses state x; true if there is none.
+pub fn hint_agrees(
+    transitions: &[u8],
+    count: usize,
+    n: usize,
+    labels: &[u16; MAX_NODES],
+    arities: &[u8; MAX_NODES],
+    children: &[u8; CHILD_NUMBERS],
+    states: &[u8; MAX_NODES],
+    weights: &[u8; BYTE_VALUES],
+    lows: &[u16; BYTE_VALUES],
+    lasts: &[u16; BYTE_VALUES],
+    start: usize,
+    end: usize,
+    m: usize,
+    j: u8,
+    v: u8,
+    p: u8,
+    q: u8,
+    x: u8,
+) -> bool
+    requires { ⌜ Scannable (now transitions) count n m (now arities) (now children) j v start end ⌝ }
+    requires { ⌜ UsesWithin (now transitions) count (now lows) (now lasts) ⌝ }
+    ensures { λ r. ⌜ Hinted (arrays (now (labels .entry)) (now (arities .entry)) (now
+        (children .entry)) (now (states .entry)) (now (weights .entry)) m j v) (now
+        (transitions .entry)) count p q r ⌝ }
+{
+    let number = entry(lasts, x);
+    if number == 0 {
+        return true;
+    }
+    let mut near = [0u16; CURSORS];
+    transition_agrees(
+        transitions,
+        count,
+        n,
+        labels,
+        arities,
+        children,
+        states,
+        weights,
+        start,
+        end,
         m,
         j,
         v,
         p,
         q,
         number - 1,
+        &mut near,
     )
 }

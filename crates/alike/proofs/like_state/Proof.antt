@@ -3,7 +3,7 @@ use Rattle.automata.specs.Alike.{framesOf, usesAgree}
 use Rattle.automata.specs.Automaton.{run}
 use Rattle.subtrees.specs.Store.{treeNumbered}
 use borrow.Author.Tests.{not-false, not-true}
-use Rattle.alike.proofs.Carried.{holds-subtrees, shaped-nodes, sorted-run}
+use Rattle.alike.proofs.Carried.{holds-subtrees, shaped-nodes}
 use Rattle.alike.proofs.Criterion.{first-fails, like-state-parts, second-decides}
 use borrow.Author.Needs.{needs}
 use Rattle.alike.proofs.like_state.Statement.{statement}
@@ -14,7 +14,10 @@ use Rattle.alike.proofs.classed.named_like_state.Reads as named-like-st
 
 -- src/lib.rt:60:9
 named-like-state-requires : tie.Need-named-like-state-requires
-named-like-state-requires c κs = search needs
+named-like-state-requires c κs =
+    let p = c .before .pre in
+    let q = p .1 .1 in
+    (p .0, (q .0, (q .1 .0, (q .1 .1 .0, q .1 .1 .1 .1))))
 
 -- src/lib.rt:74:9
 returns : tie.Need-returns
@@ -29,7 +32,7 @@ returns c =
 state-uses-agree-requires : tie.Need-state-uses-agree-requires
 state-uses-agree-requires c κs =
     let p = c .before .before .before .pre in
-    (sorted-run (p .0), (p .1 .0, (shaped-nodes (p .1 .1 .0), (p .1 .1 .1 .0, p .1 .1 .1 .1))))
+    (p .0, (p .1 .0, (shaped-nodes (p .1 .1 .0), p .1 .1 .1)))
 
 -- src/lib.rt:31:1
 returns-2 : tie.Need-returns-2

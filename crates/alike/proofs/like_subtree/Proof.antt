@@ -4,7 +4,7 @@ use Rattle.automata.specs.Alike.{framesOf, usesAgree}
 use Rattle.automata.specs.Automaton.{run}
 use Rattle.subtrees.specs.Store.{treeNumbered}
 use borrow.Author.Tests.{not-false, not-true}
-use Rattle.alike.proofs.Carried.{holds-subtrees, shaped-nodes, sorted-run}
+use Rattle.alike.proofs.Carried.{holds-subtrees, shaped-nodes}
 use Rattle.alike.proofs.Criterion.{first-fails, like-subtree-parts, second-decides}
 use borrow.Author.Needs.{needs}
 use Rattle.alike.proofs.like_subtree.Statement.{statement}
@@ -15,7 +15,10 @@ use Rattle.alike.proofs.classed.named_like_subtree.Reads as named-like-
 
 -- src/lib.rt:123:9
 named-like-subtree-requires : tie.Need-named-like-subtree-requires
-named-like-subtree-requires c κs = search needs
+named-like-subtree-requires c κs =
+    let p = c .before .pre in
+    let q = p .1 .1 in
+    (p .0, (q .0, (q .1 .0, (q .1 .1 .0, (q .1 .1 .1 .0, q .1 .1 .1 .1 .1)))))
 
 -- src/lib.rt:136:9
 returns : tie.Need-returns
@@ -32,7 +35,7 @@ subtree-uses-agree-requires : tie.Need-subtree-uses-agree-requires
 subtree-uses-agree-requires c κs =
     let p = c .before .before .before .pre in
     let q = p .1 .1 .1 in
-    (sorted-run (p .0), (p .1 .0, (shaped-nodes (p .1 .1 .0), (q .0, (omega arith, (omega arith, (q .1 .1, λ z. omega arith)))))))
+    (p .0, (p .1 .0, (shaped-nodes (p .1 .1 .0), (q .0, (omega arith, (omega arith, (q .1 .1 .0, ((λ z. omega arith), q .1 .1 .1))))))))
 
 -- src/lib.rt:93:1
 returns-2 : tie.Need-returns-2

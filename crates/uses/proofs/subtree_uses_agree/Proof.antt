@@ -31,8 +31,14 @@ uses-agree-requires c κs = search needs
 
 returns : tie.Need-returns
 returns c =
-    let start = c .before .before .before .before .before .before in
-    λ A t ts holds. (c .uses-agree) .ensures A t ts (framesOf t (treeNumbered ts (start .args .j)) ++ framesOf t (treeNumbered ts (start .args .v))) holds (both-subtrees t ts (start .args .m) (start .args .j) (start .args .v) (start .pre .1 .1 .1 .0) (start .pre .1 .1 .1 .1 .0) (start .pre .1 .1 .1 .1 .1 .0) (start .pre .1 .1 .1 .1 .1 .1 .0) (start .pre .1 .1 .1 .1 .1 .1 .1)) ∙ ap₂ (usesAgree A t (framesOf t (treeNumbered ts (start .args .j)) ++ framesOf t (treeNumbered ts (start .args .v)))) (state-read holds (start .args .j) (start .pre .1 .1 .1 .0) (start .pre .1 .1 .1 .1 .0) (c .before .before .before .before .wide .ensures)) (state-read holds (start .args .v) (start .pre .1 .1 .1 .1 .1 .0) (start .pre .1 .1 .1 .1 .1 .1 .0) (c .before .before .wide2 .ensures))
+    let p = c .before .before .before .before .before .before .pre .1 .1 .1 in
+    let a = c .before .before .before .before .before .before .args in
+    λ A t ts holds. (c .uses-agree) .ensures A t ts (framesOf t (treeNumbered ts (a .j)) ++ framesOf t
+    (treeNumbered ts (a .v))) holds (both-subtrees t ts (a .m) (a .j) (a .v) (p .0) (p .1 .0) (p .1 .1 .0)
+    (p .1 .1 .1 .0) (p .1 .1 .1 .1 .0)) ∙ ap₂ (usesAgree A t (framesOf t (treeNumbered ts (a .j)) ++ framesOf t
+    (treeNumbered ts (a .v)))) (state-read holds (a .j) (p .0) (p .1 .0)
+    (c .before .before .before .before .wide .ensures)) (state-read holds (a .v) (p .1 .1 .0) (p .1 .1 .1 .0)
+    (c .before .before .wide2 .ensures))
 
 pub subtree-uses-agree-spec : {M : Type 1} → statement M
 subtree-uses-agree-spec =

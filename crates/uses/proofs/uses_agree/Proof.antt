@@ -8,32 +8,37 @@ use Rattle.uses.proofs.uses_agree.Tie as tie
 
 returns : tie.Need-returns
 returns c =
-    let start = c .before .before in
-    λ A t ts F holds frames. uses-same A t F (start .args .p) (start .args .q) (c .if1 .taken)
+    λ A t ts F holds frames. uses-same A t F (c .before .before .args .p) (c .before .before .args .q) (c .if1 .taken)
 
 hint-agrees-requires : tie.Need-hint-agrees-requires
 hint-agrees-requires c κs = search needs
 
 returns-2 : tie.Need-returns-2
 returns-2 c =
-    let start = c .before .before .before .before in
-    λ A t ts F holds frames. sym (c .before .hint-agrees .ensures .refused (not-true _ (c .if2 .taken))) ∙ (uses-exact (start .pre .0) (start .pre .1 .0) holds (start .args .j) (start .args .v) F frames (start .args .p) (start .args .q))
+    let start = c .before .before .before .before .pre .0 in
+    let a = c .before .before .before .before .args in
+    λ A t ts F holds frames. sym (c .before .hint-agrees .ensures .refused (not-true _ (c .if2 .taken))) ∙ uses-exact
+    (start .searchable) (start .over) holds (a .j) (a .v) F frames (a .p) (a .q)
 
 hint-agrees-requires-2 : tie.Need-hint-agrees-requires-2
 hint-agrees-requires-2 c κs = search needs
 
 returns-3 : tie.Need-returns-3
 returns-3 c =
-    let start = c .before .before .before .before .before .before in
-    λ A t ts F holds frames. sym (c .before .hint-agrees2 .ensures .refused (not-true _ (c .if3 .taken))) ∙ (uses-exact (start .pre .0) (start .pre .1 .0) holds (start .args .j) (start .args .v) F frames (start .args .p) (start .args .q))
+    let start = c .before .before .before .before .before .before .pre .0 in
+    let a = c .before .before .before .before .before .before .args in
+    λ A t ts F holds frames. sym (c .before .hint-agrees2 .ensures .refused (not-true _ (c .if3 .taken))) ∙ uses-exact
+    (start .searchable) (start .over) holds (a .j) (a .v) F frames (a .p) (a .q)
 
 transitions-agree-requires : tie.Need-transitions-agree-requires
 transitions-agree-requires c κs = search needs
 
 returns-4 : tie.Need-returns-4
 returns-4 c =
-    let start = c .before .before .before .before .before .before .before in
-    λ A t ts F holds frames. (c .transitions-agree) .ensures ∙ (uses-exact (start .pre .0) (start .pre .1 .0) holds (start .args .j) (start .args .v) F frames (start .args .p) (start .args .q))
+    let start = c .before .before .before .before .before .before .before .pre .0 in
+    let a = c .before .before .before .before .before .before .before .args in
+    λ A t ts F holds frames. (c .transitions-agree) .ensures ∙ uses-exact (start .searchable) (start .over) holds
+    (a .j) (a .v) F frames (a .p) (a .q)
 
 pub uses-agree-spec : {M : Type 1} → statement M
 uses-agree-spec =

@@ -9,6 +9,7 @@ use Rattle.subtrees.specs.Store.{treeNumbered}
 use Prim.Native.Nat.{_-_}
 use mathlib.Core.Bool.{true}
 use Rattle.alike.proofs.Criterion.{numbered-class, state-named, state-names, state-other}
+use Rattle.alike.proofs.FrameNames.{numbered-parents}
 use borrow.Author.Needs.{needs}
 use Rattle.alike.proofs.classed.named_like_state.Statement.{statement}
 use Rattle.alike.proofs.classed.named_like_state.Tie as tie
@@ -40,7 +41,7 @@ frames-agree-requires c κs =
       (
         p .1 .0,
         (
-          omega (arith, c .before .before .before .wide .ensures),
+          numbered-parents (c .before .before .before .wide .ensures) (p .1 .1 .1 .1),
           record { some = λ z. absurd (true≢false z); known = λ z. absurd (true≢false z) },
         ),
       ),
@@ -56,7 +57,7 @@ returns-2 c =
     let r = c .frames-agree .ensures A t ts N (a .j) e holds known (omega arith) (λ z. absurd (true≢false z)) in
     state-named A t S N (treeNumbered ts (a .j)) (a .q) (getD (a .classes .now) (c .before .before .before .before .wide .result - 1) 0) (a .class)
     (numbered-class (a .classes .now) w mine) other (c .before .before .same-class .ensures) (not-false _ (c .before .if1 .left))
-    (state-names holds N (a .j) (p .0) (p .1) (a .q) w r)
+    (state-names holds N (a .j) (p .0) (p .1 .0) (a .q) w r)
 
 pub named-like-state-spec : {M : Type 1} → statement M
 named-like-state-spec =

@@ -7,6 +7,7 @@ use lib.ListN.{getD}
 use borrow.Author.Tests.{not-false, not-true}
 use Rattle.subtrees.specs.Store.{treeNumbered}
 use Rattle.alike.proofs.Criterion.{numbered-class, subtree-first, subtree-named, subtree-names, subtree-other, turned-names}
+use Rattle.alike.proofs.FrameNames.{numbered-parents}
 use borrow.Author.Needs.{needs}
 use Rattle.alike.proofs.classed.named_like_subtree.Statement.{statement}
 use Rattle.alike.proofs.classed.named_like_subtree.Tie as tie
@@ -49,7 +50,10 @@ frames-agree-requires c κs =
       p .0,
       (
         p .1 .0,
-        (omega (arith, c .before .before .before .before .before .wide .ensures), record { some = λ z. omega arith; known = λ z. p .1 .1 .1 .1 }),
+        (
+          numbered-parents (c .before .before .before .before .before .wide .ensures) (p .1 .1 .1 .1 .1 .0),
+          record { some = λ z. omega arith; known = λ z. p .1 .1 .1 .1 .0 },
+        ),
       ),
     )
 
@@ -73,7 +77,10 @@ frames-agree-requires-2 c κs =
       p .0,
       (
         p .1 .0,
-        (omega (arith, c .before .before .before .before .before .before .wide2 .ensures), record { some = λ z. p .1 .1 .0; known = λ z. omega arith }),
+        (
+          numbered-parents (c .before .before .before .before .before .before .wide2 .ensures) (p .1 .1 .1 .1 .1 .1),
+          record { some = λ z. p .1 .1 .0; known = λ z. omega arith },
+        ),
       ),
     )
 
@@ -92,7 +99,7 @@ returns-3 c =
     (getD cl (w2 .result - 1) 0) (numbered-class cl (w .ensures) mine) (numbered-class cl (w2 .ensures) other)
     (c .before .before .before .before .same-class .ensures) (not-false _ (c .before .before .before .if1 .left))
     (subtree-names holds N (a .j) (p .0) (omega arith) (a .v) (w .ensures) r) (not-false _ (c .before .if2 .left))
-    (turned-names holds N (a .v) (omega arith) (p .1 .1) (a .j) (w2 .ensures) r2)
+    (turned-names holds N (a .v) (omega arith) (p .1 .1 .0) (a .j) (w2 .ensures) r2)
 
 pub named-like-subtree-spec : {M : Type 1} → statement M
 named-like-subtree-spec =

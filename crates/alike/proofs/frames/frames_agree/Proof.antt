@@ -1,38 +1,43 @@
 -- The loop at i has passed the parents before i; the answer is that of the parents left.
 use native.Mathlib.Omega.{arith}
 use mathlib.Core.Path.{_∙_, _≡_, sym}
-use Prim.Native.Nat.{_-_, _≤_}
+use Prim.Native.Nat.{_+_, _-_, _≤_}
 use borrow.Author.Tests.{not-false, not-true}
 use Rattle.lists.specs.Positions.{upFrom}
 use Rattle.lists.specs.Tests.{every}
 use Rattle.lists.proofs.Loops.{EveryFrom, every-broken, every-end, every-next}
 use Rattle.alike.specs.Agreeing.{parentAgrees}
-use Rattle.alike.proofs.FrameNames.{Given, parents-later}
+use Rattle.alike.proofs.FrameNames.{Given, parents-within}
 use borrow.Author.Needs.{needs}
 use Rattle.alike.proofs.frames.frames_agree.Statement.{statement}
 use Rattle.alike.proofs.frames.frames_agree.Tie as tie
 
 abbrev Inv-loop : tie.InvT-loop
-Inv-loop transitions count m labels arities children states names a state x i₀ i =
-    Given transitions count m labels arities children states names a state x
-    (λ A N ts. EveryFrom (every (parentAgrees A N ts labels arities children a state x) (upFrom 0 m)) (parentAgrees A N ts labels arities children a state x) m i)
+Inv-loop transitions count m labels arities children states names a state x from to i₀ i =
+    (from ≤ i) × Given transitions count m labels arities children states names a state x
+    (λ A N ts. EveryFrom (every (parentAgrees A N ts labels arities children a state x) (upFrom 0 m))
+    (parentAgrees A N ts labels arities children a state x) (from + (to - from)) i)
 
 abbrev μ-loop : tie.MeasureT-loop
-μ-loop transitions count m labels arities children states names a state x i₀ i = m - i
+μ-loop transitions count m labels arities children states names a state x from to i₀ i = to - i
 
 loop-holds : tie.Need-loop-holds Inv-loop μ-loop
 loop-holds c =
     let start = c .before in
-    let a = start .args in
-    λ A t ts N j e holds known above sub. parents-later A N ts (a .labels .now) (a .arities .now) (a .children .now) (a .a) (a .state) (a .x) (start .pre .1 .0) (start .pre .1 .1 .0)
+    let a = start .args in (
+      omega arith,
+      λ A t ts N j e holds known above sub. parents-within A N ts (a .labels .now) (a .arities .now) (a .children .now)
+          (a .a) (a .state) (a .x) (start .pre .1 .1 .0),
+    )
 
 parent-agrees-requires : tie.Need-parent-agrees-requires Inv-loop μ-loop
 parent-agrees-requires c κs =
-    (c .before .before .before .pre .0, (c .before .before .before .pre .1 .0, (omega arith, c .before .before .before .pre .1 .1 .1)))
+    let p = c .before .before .before .pre in
+    (p .0, (p .1 .0, (omega (arith, p .1 .1 .0 .known), p .1 .1 .1)))
 
 returns : tie.Need-returns Inv-loop μ-loop
 returns c =
-    λ A t ts N j e holds known above sub. every-broken (c .before .before .before .loop .inv A t ts N j e holds known above sub) (omega arith)
+    λ A t ts N j e holds known above sub. every-broken (c .before .before .before .loop .inv .1 A t ts N j e holds known above sub) (omega arith)
     (sym (c .before .parent-agrees .ensures A t ts N j e holds known above sub) ∙ not-true _ (c .if1 .taken))
 
 add-i : tie.Need-add-i Inv-loop μ-loop
@@ -43,12 +48,16 @@ loop-less c = search needs
 
 loop-again : tie.Need-loop-again Inv-loop μ-loop
 loop-again c =
-    λ A t ts N j e holds known above sub. every-next (c .before .before .before .loop .inv A t ts N j e holds known above sub) (omega arith)
-    (sym (c .before .parent-agrees .ensures A t ts N j e holds known above sub) ∙ not-false _ (c .if1 .left))
+    let now = c .before .before .before .loop in (
+      omega (arith, now .inv .0),
+      λ A t ts N j e holds known above sub. every-next (now .inv .1 A t ts N j e holds known above sub) (omega arith)
+          (sym (c .before .parent-agrees .ensures A t ts N j e holds known above sub) ∙ not-false _ (c .if1 .left)),
+    )
 
 returns-2 : tie.Need-returns-2 Inv-loop μ-loop
 returns-2 c =
-    λ A t ts N j e holds known above sub. every-end (c .before .loop .inv A t ts N j e holds known above sub) (omega arith)
+    λ A t ts N j e holds known above sub. every-end (c .before .loop .inv .1 A t ts N j e holds known above sub)
+    (omega (arith, c .before .loop .inv .0))
 
 pub frames-agree-spec : {M : Type 1} → statement M
 frames-agree-spec =

@@ -9,11 +9,13 @@ use Rattle.naming.proofs.models.find_subtree.Statement.{statement}
 use Rattle.naming.proofs.models.find_subtree.Tie as tie
 
 abbrev Inv-loop : tie.InvT-loop
-Inv-loop table transitions count n m labels arities children states weights classes uses names j v₀ v =
+Inv-loop table transitions count n m labels arities children states weights classes lows lasts names
+    froms tos j v₀ v =
     SubtreesTried table transitions count n m labels arities children states weights classes names j v
 
 abbrev μ-loop : tie.MeasureT-loop
-μ-loop table transitions count n m labels arities children states weights classes uses names j v₀ v = m + 1 - v
+μ-loop table transitions count n m labels arities children states weights classes lows lasts names
+    froms tos j v₀ v = m + 1 - v
 
 add-v : tie.Need-add-v Inv-loop μ-loop
 add-v c = search needs
@@ -25,7 +27,7 @@ loop-holds c =
 fits-subtree-requires : tie.Need-fits-subtree-requires Inv-loop μ-loop
 fits-subtree-requires c κs =
     let start = c .before .before .before .before in
-    (start .pre .0, (start .pre .1 .0, (c .before .loop .inv .above, c .loop-test .taken)))
+    (start .pre .0, (start .pre .1 .0, (start .pre .1 .1 .0, (c .before .loop .inv .above, c .loop-test .taken))))
 
 returns : tie.Need-returns Inv-loop μ-loop
 returns c = (

@@ -10,11 +10,13 @@ use Rattle.naming.proofs.states.first_state.Statement.{statement}
 use Rattle.naming.proofs.states.first_state.Tie as tie
 
 abbrev Inv-loop : tie.InvT-loop
-Inv-loop table transitions count n m labels arities children states weights classes uses marks names j q₀ q =
+Inv-loop table transitions count n m labels arities children states weights classes lows lasts marks names j
+    from to q₀ q =
     StatesTried table transitions count n m labels arities children states weights classes marks names j q
 
 abbrev μ-loop : tie.MeasureT-loop
-μ-loop table transitions count n m labels arities children states weights classes uses marks names j q₀ q = n + 1 - q
+μ-loop table transitions count n m labels arities children states weights classes lows lasts marks names j
+    from to q₀ q = n + 1 - q
 
 loop-holds : tie.Need-loop-holds Inv-loop μ-loop
 loop-holds c = record { within = omega arith; each = λ A t ts S N K O X. no-state-first }
@@ -22,7 +24,7 @@ loop-holds c = record { within = omega arith; each = λ A t ts S N K O X. no-sta
 fits-state-requires : tie.Need-fits-state-requires Inv-loop μ-loop
 fits-state-requires c κs =
     let start = c .before .before .before .before in
-    (start .pre .0, (start .pre .1 .0, (start .pre .1 .1, c .loop-test .taken)))
+    (start .pre .0, (start .pre .1 .0, (start .pre .1 .1 .0, (start .pre .1 .1 .1, c .loop-test .taken))))
 
 returns : tie.Need-returns Inv-loop μ-loop
 returns c =

@@ -22,7 +22,7 @@ returns c = λ A t ts S N K O X. record { yes = λ d. absurd (true≢false (sym 
 fits-state-requires : tie.Need-fits-state-requires
 fits-state-requires c κs =
     let start = c .before .before .before .before .before in
-    (start .pre .0, (start .pre .1 .0, (start .pre .1 .1, omega (arith, c .if1 .left))))
+    (start .pre .0, (start .pre .1 .0, (start .pre .1 .1 .0, (start .pre .1 .1 .1, omega (arith, c .if1 .left)))))
 
 returns-2 : tie.Need-returns-2
 returns-2 c =

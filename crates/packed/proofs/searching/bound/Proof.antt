@@ -1,5 +1,5 @@
 -- `packed::searching::bound` meets its contract: what is below `low` comes before, and nothing from `high` on does.
-use Prim.Native.Nat.{_+_, _-_, _/_, ℕ}
+use Prim.Native.Nat.{_+_, _-_, _/_}
 use native.Mathlib.Omega.{arith}
 use Rattle.packed.proofs.Seeking.{BoundFrom, bound-down, bound-end, bound-start, bound-up}
 use borrow.Author.Needs.{needs}
@@ -55,7 +55,7 @@ loop-again-2 c =
     (c .before .before .before .meta-at .ensures) (c .before .before .args-at .ensures) (c .before .comes-before .ensures) (omega arith) (c .if1 .left)
 
 returns : tie.Need-returns Inv-loop μ-loop
-returns c = (omega arith, bound-end (c .before .loop .inv) (omega arith))
+returns c = let inv = c .before .loop .inv in (omega arith, (bound-end inv (omega arith), inv .below))
 
 pub bound-spec : {M : Type 1} → statement M
 bound-spec =

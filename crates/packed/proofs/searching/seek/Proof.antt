@@ -9,8 +9,11 @@ bound-requires : tie.Need-bound-requires
 bound-requires c κs = search needs
 
 returns : tie.Need-returns
-returns c =
-    (omega arith, sought-none (λ j. omega (arith, c .before .before .shared-slice-known .given j)) (c .before .before .before .pre) (c .before .bound .ensures .1) (λ b qs p l e. omega arith))
+returns c = (
+  omega arith,
+  sought-none (λ j. omega (arith, c .before .before .shared-slice-known .given j))
+      (c .before .before .before .pre) (c .before .bound .ensures .1 .0) (λ b qs p l e. omega arith),
+)
 
 mul-at : tie.Need-mul-at
 mul-at c = search needs
@@ -19,22 +22,42 @@ meta-at-requires : tie.Need-meta-at-requires
 meta-at-requires c κs = search needs
 
 returns-2 : tie.Need-returns-2
-returns-2 c =
-    (omega arith, other-meta (λ j. omega (arith, c .before .before .before .before .shared-slice-known .given j)) (c .before .before .before .before .before .pre) (c .before .before .before .bound .ensures .1) (omega arith) (c .before .meta-at .ensures) (c .if2 .taken))
+returns-2 c = (
+  omega arith,
+  other-meta (λ j. omega (arith, c .before .before .before .before .shared-slice-known .given j))
+      (c .before .before .before .before .before .pre) (c .before .before .before .bound .ensures .1 .0) (omega arith)
+      (c .before .meta-at .ensures) (c .if2 .taken),
+)
 
 args-at-requires : tie.Need-args-at-requires
 args-at-requires c κs = search needs
 
 returns-3 : tie.Need-returns-3
-returns-3 c =
-    (omega arith, other-args (λ j. omega (arith, c .before .before .before .before .before .before .shared-slice-known .given j)) (c .before .before .before .before .before .before .before .pre) (c .before .before .before .before .before .bound .ensures .1) (omega arith) (c .before .before .before .meta-at .ensures) (c .before .args-at .ensures) (c .if3 .taken))
+returns-3 c = (
+  omega arith,
+  other-args (λ j. omega (
+    arith,
+    c .before .before .before .before .before .before .shared-slice-known .given j,
+  ))
+      (c .before .before .before .before .before .before .before .pre)
+      (c .before .before .before .before .before .bound .ensures .1 .0) (omega arith)
+      (c .before .before .before .meta-at .ensures) (c .before .args-at .ensures) (c .if3 .taken),
+)
 
 add-result : tie.Need-add-result
 add-result c = search needs
 
 returns-4 : tie.Need-returns-4
-returns-4 c =
-    (omega arith, sought-there (λ j. omega (arith, c .before .before .before .before .before .before .shared-slice-known .given j)) (c .before .before .before .before .before .before .before .pre) (c .before .before .before .before .before .bound .ensures .1) (omega arith) (c .before .before .before .meta-at .ensures) (c .before .args-at .ensures) (c .before .before .if2 .left) (c .if3 .left))
+returns-4 c = (
+  omega arith,
+  sought-there (λ j. omega (
+    arith,
+    c .before .before .before .before .before .before .shared-slice-known .given j,
+  ))
+      (c .before .before .before .before .before .before .before .pre) (omega arith)
+      (c .before .before .before .meta-at .ensures) (c .before .args-at .ensures) (c .before .before .if2 .left)
+      (c .if3 .left),
+)
 
 pub seek-spec : {M : Type 1} → statement M
 seek-spec =

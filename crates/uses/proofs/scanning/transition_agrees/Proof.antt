@@ -1,9 +1,10 @@
 -- The loop at k answers for the arguments from k on.
-use mathlib.Core.Path.{_∙_, _≡_, sym}
 use native.Mathlib.Omega.{arith}
+use mathlib.Core.Path.{_∙_, _≡_, sym}
 use Prim.Native.Nat.{_*_, _-_}
+use lib.ListN.{length}
 use borrow.Author.Tests.{not-false, not-true}
-use Rattle.format.specs.Format.{transitionBytes}
+use Rattle.format.specs.Format.{maxArity, transitionBytes}
 use Rattle.table.specs.Layout.{arityOf}
 use Rattle.lists.proofs.Loops.{EveryFrom, every-broken, every-end, every-next}
 use Rattle.uses.specs.Uses.{arrays, placeAgrees, transitionAgrees}
@@ -13,32 +14,67 @@ use Rattle.uses.proofs.scanning.transition_agrees.Statement.{statement}
 use Rattle.uses.proofs.scanning.transition_agrees.Tie as tie
 
 abbrev Inv-loop : tie.InvT-loop
-Inv-loop transitions count n labels arities children states weights m j v p q i arity k₀ k =
-    (arity ≡ arityOf transitions (transitionBytes * i)) × EveryFrom (transitionAgrees (arrays labels arities children states weights m j v) transitions count p q i) (placeAgrees (arrays labels arities children states weights m j v) transitions count (transitionBytes * i) p q) (arityOf transitions (transitionBytes * i)) k
+Inv-loop transitions count n labels arities children states weights start end m j v p q i near₀ at meta args arity k₀
+    near k =
+    (length near ≡ 2 * maxArity) × EveryFrom (transitionAgrees
+    (arrays labels arities children states weights m j v) transitions count p q i) (placeAgrees
+    (arrays labels arities children states weights m j v) transitions count (transitionBytes * i) p q)
+    (arityOf transitions (transitionBytes * i)) k
 
 abbrev μ-loop : tie.MeasureT-loop
-μ-loop transitions count n labels arities children states weights m j v p q i arity k₀ k = arity - k
+μ-loop transitions count n labels arities children states weights start end m j v p q i near₀ at meta args arity k₀
+    near k =
+    arity - k
 
-mul-arity-of : tie.Need-mul-arity-of Inv-loop μ-loop
-mul-arity-of c = search needs
+mul-at : tie.Need-mul-at Inv-loop μ-loop
+mul-at c = search needs
+
+meta-at-requires : tie.Need-meta-at-requires Inv-loop μ-loop
+meta-at-requires c κs = search needs
+
+args-at-requires : tie.Need-args-at-requires Inv-loop μ-loop
+args-at-requires c κs = search needs
 
 arity-of-requires : tie.Need-arity-of-requires Inv-loop μ-loop
 arity-of-requires c κs = search needs
 
 loop-holds : tie.Need-loop-holds Inv-loop μ-loop
 loop-holds c =
-    let start = c .before .before in
-    (c .arity-of .ensures, agrees-start (arrays (start .args .labels .now) (start .args .arities .now) (start .args .children .now) (start .args .states .now) (start .args .weights .now) (start .args .m) (start .args .j) (start .args .v)) (start .args .transitions .now) (start .args .count) (start .args .p) (start .args .q) (start .args .i))
+    let a = c .before .before .before .before .args in (
+      c .before .before .before .before .pre .1 .1,
+      agrees-start (arrays (a .labels .now) (a .arities .now)
+          (a .children .now) (a .states .now) (a .weights .now) (a .m) (a .j) (a .v)) (a .transitions .now) (a .count)
+          (a .p) (a .q) (a .i),
+    )
 
 place-agrees-requires : tie.Need-place-agrees-requires Inv-loop μ-loop
-place-agrees-requires c κs =
-    let start = c .before .before .before .before in
-    (start .pre .0, (start .pre .1 .0, (start .pre .1 .1 .0, (start .pre .1 .1 .1, omega (arith, c .before .loop .inv .0, c .loop-test .taken)))))
+place-agrees-requires c κs = (
+  c .before .before .before .before .before .before .before .pre .0,
+  (
+    c .before .before .before .before .before .before .before .pre .1 .0,
+    (
+      omega (
+        arith,
+        c .before .before .before .arity-of .ensures,
+        c .before .loop-test .taken,
+      ),
+      (
+        c .before .before .before .before .before .meta-at .ensures,
+        (c .before .before .before .before .args-at .ensures, c .before .before .loop .inv .0),
+      ),
+    ),
+  ),
+)
 
 returns : tie.Need-returns Inv-loop μ-loop
 returns c =
-    let now = c .before .before .before in
-    every-broken (now .loop .inv .1) (omega (arith, now .loop .inv .0)) (sym (c .before .place-agrees .ensures) ∙ not-true _ (c .if1 .taken))
+    let place = c .before .place-agrees .ensures in (
+      every-broken (c .before .before .before .before .loop .inv .1) (omega (
+        arith,
+        c .before .before .before .before .before .arity-of .ensures,
+      )) (sym (place .0) ∙ not-true _ (c .if1 .taken)),
+      place .1,
+    )
 
 add-k : tie.Need-add-k Inv-loop μ-loop
 add-k c = search needs
@@ -48,13 +84,19 @@ loop-less c = search needs
 
 loop-again : tie.Need-loop-again Inv-loop μ-loop
 loop-again c =
-    let now = c .before .before .before in
-    (now .loop .inv .0, every-next (now .loop .inv .1) (omega (arith, now .loop .inv .0)) (sym (c .before .place-agrees .ensures) ∙ not-false _ (c .if1 .left)))
+    let place = c .before .place-agrees .ensures in (
+      place .1,
+      every-next (c .before .before .before .before .loop .inv .1) (omega (
+        arith,
+        c .before .before .before .before .before .arity-of .ensures,
+      )) (sym (place .0) ∙ not-false _ (c .if1 .left)),
+    )
 
 returns-2 : tie.Need-returns-2 Inv-loop μ-loop
-returns-2 c =
-    let now = c .before in
-    every-end (now .loop .inv .1) (omega (arith, now .loop .inv .0))
+returns-2 c = (
+  every-end (c .before .loop .inv .1) (omega (arith, c .before .before .arity-of .ensures)),
+  c .before .loop .inv .0,
+)
 
 pub transition-agrees-spec : {M : Type 1} → statement M
 transition-agrees-spec =
@@ -62,7 +104,9 @@ transition-agrees-spec =
     (tie.spec
     Inv-loop
     μ-loop
-    mul-arity-of
+    mul-at
+    meta-at-requires
+    args-at-requires
     arity-of-requires
     loop-holds
     place-agrees-requires

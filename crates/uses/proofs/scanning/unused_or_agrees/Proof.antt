@@ -1,0 +1,34 @@
+-- A transition without either state agrees.
+use Rattle.fields.proofs.Transitions.{readable}
+use Rattle.uses.specs.Uses.{arrays}
+use Rattle.uses.proofs.Scanned.{agrees-neither}
+use borrow.Author.Needs.{needs}
+use Rattle.uses.proofs.scanning.unused_or_agrees.Statement.{statement}
+use Rattle.uses.proofs.scanning.unused_or_agrees.Tie as tie
+
+mul-has-neither : tie.Need-mul-has-neither
+mul-has-neither c = search needs
+
+has-neither-requires : tie.Need-has-neither-requires
+has-neither-requires c κs = search needs
+
+returns : tie.Need-returns
+returns c =
+    let a = c .before .before .before .args in
+    let r = readable (c .before .before .before .pre .0 .over .runs) (a .i) (c .before .before .before .pre .1 .0) in (
+      agrees-neither (arrays (a .labels .now) (a .arities .now) (a .children .now) (a .states .now) (a .weights .now)
+          (a .m) (a .j) (a .v)) (a .transitions .now) (a .count) (a .p) (a .q) (a .i) (r .narrow)
+          (c .before .has-neither .ensures) (c .if1 .taken),
+      c .before .before .before .pre .1 .1,
+    )
+
+transition-agrees-requires : tie.Need-transition-agrees-requires
+transition-agrees-requires c κs = search needs
+
+returns-2 : tie.Need-returns-2
+returns-2 c = search needs
+
+pub unused-or-agrees-spec : {M : Type 1} → statement M
+unused-or-agrees-spec =
+    tie.close
+    (tie.spec mul-has-neither has-neither-requires returns transition-agrees-requires returns-2)

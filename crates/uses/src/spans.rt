@@ -1,0 +1,89 @@
+// For each state, between which indices the transitions stand that have it as an argument.
+ghost use mathlib.Core.Path.{_≡_};
+ghost use Prim.Native.Nat.{_*_, _+_, _<_};
+ghost use lib.ListN.{getD};
+ghost use Rattle.fields.specs.Fields.{HoldsTransitions, Readable};
+ghost use Rattle.format.specs.Format.{maxProduct, transitionBytes};
+ghost use Rattle.table.specs.Layout.{arityOf};
+ghost use Rattle.uses.specs.Spans.{Noted, NotedTo, UsesWithin};
+use fields::arg_of;
+use fields::arity_of;
+use format::BYTE_VALUES;
+use format::TRANSITION_BYTES;
+use format::wide;
+use format::widened;
+
+// Notes transition i for its argument k.
+fn note_arg(
+    transitions: &[u8],
+    i: usize,
+    k: usize,
+    lows: &mut [u16; BYTE_VALUES],
+    lasts: &mut [u16; BYTE_VALUES],
+)
+    requires { ⌜ Readable (now transitions) (transitionBytes * i) ⌝ }
+    requires { ⌜ i < maxProduct ⌝ }
+    requires { ⌜ k < arityOf (now transitions) (transitionBytes * i) ⌝ }
+    requires { ⌜ NotedTo (now transitions) i k (now lows) (now lasts) ⌝ }
+    ensures { λ _. ⌜ NotedTo (now (transitions .entry)) i (k + 1) (now (lows .exit)) (now (lasts .exit)) ⌝ }
+{
+    let q = arg_of(transitions, TRANSITION_BYTES * i, k);
+    if lasts[q] == 0 {
+        lows[q] = i as u16;
+        lasts[q] = (i + 1) as u16;
+        return;
+    }
+    lasts[q] = (i + 1) as u16;
+}
+
+// Notes transition i for each of its arguments.
+fn note_args(
+    transitions: &[u8],
+    i: usize,
+    lows: &mut [u16; BYTE_VALUES],
+    lasts: &mut [u16; BYTE_VALUES],
+)
+    requires { ⌜ Readable (now transitions) (transitionBytes * i) ⌝ }
+    requires { ⌜ i < maxProduct ⌝ }
+    requires { ⌜ Noted (now transitions) i (now lows) (now lasts) ⌝ }
+    ensures { λ _. ⌜ Noted (now (transitions .entry)) (i + 1) (now (lows .exit)) (now (lasts .exit)) ⌝ }
+{
+    let arity = arity_of(transitions, TRANSITION_BYTES * i);
+    let mut k = 0;
+    while k < arity {
+        note_arg(transitions, i, k, lows, lasts);
+        k += 1;
+    }
+}
+
+// The index of the first transition that has a state as an argument, above every index for none, and the number, from
+// 1, of the last; 0 for none.
+pub struct Uses {
+    pub lows: [u16; BYTE_VALUES],
+    pub lasts: [u16; BYTE_VALUES],
+}
+
+// One pass over the arguments.
+pub fn uses_of(transitions: &[u8], count: usize) -> Uses
+    requires { ⌜ HoldsTransitions (now transitions) count ⌝ }
+    ensures { λ r. ⌜ UsesWithin (now (transitions .entry)) count (r .lows) (r .lasts) ⌝ }
+{
+    let mut lows = [65535u16; BYTE_VALUES];
+    let mut lasts = [0u16; BYTE_VALUES];
+    let mut i = 0;
+    while i < count {
+        note_args(transitions, i, &mut lows, &mut lasts);
+        i += 1;
+    }
+    Uses {
+        lows: lows,
+        lasts: lasts,
+    }
+}
+
+// The entry of a state.
+pub fn entry(numbers: &[u16; BYTE_VALUES], q: u8) -> usize
+    ensures { λ r. ⌜ r ≡ getD (now (numbers .entry)) q 0 ⌝ }
+{
+    widened(numbers[wide(q)])
+}
