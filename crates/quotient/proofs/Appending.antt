@@ -1,7 +1,7 @@
 -- Entries put into two arrays one after another: those made, and those left to make.
 use mathlib.Core.List.{List, [], _++_, _∷_, append-assoc, append-nil, map, map-append}
 use mathlib.Core.Path.{_∙_, _≡_, ap, refl, subst, sym}
-use Prim.Native.Nat.{_+_, ℕ}
+use Prim.Native.Nat.{_+_, _≤_, ℕ}
 use native.Mathlib.Numerals.{add-one}
 use native.Mathlib.Omega.{arith}
 use lib.ListN.{length, length-append, length-set, set, take}
@@ -25,7 +25,7 @@ appended-one {h} {a} {n} x y R = record {
   heads-size = length-set h n x;
   args-size = length-set a n y;
   count = refl;
-  heads = rw (add-one n) (take-suc-set h n x (omega (arith, R .heads-size, R .within)));
+  heads = rw (add-one n) (take-suc-set h n x (omega (arith, R .within)));
   args = rw (add-one n) (take-suc-set a n y (omega (arith, R .args-size, R .within)));
 }
 
@@ -52,6 +52,15 @@ appended-then {h} {a} {h'} {a'} {h''} {a''} {n} {n'} {n''} {ps} {qs} X Y = recor
       Y .args ∙ ap (λ (l : List ℕ). l ++ map snd qs) (X .args)
       ∙ append-assoc (take n a) (map snd ps) (map snd qs)
       ∙ ap (λ (l : List ℕ). take n a ++ l) (sym (map-append snd ps qs));
+}
+
+-- there is as much room after it
+pub appended-room : {h a h' a' : List ℕ} {n n' k j : ℕ} {ps : List Pair} → Appended h a n ps h' a' n' → Room h a k →
+    j ≤ length h → Room h' a' j
+appended-room X R l = record {
+  few = omega (arith, X .heads-size, R .few);
+  args-size = X .args-size ∙ R .args-size ∙ sym (X .heads-size);
+  within = omega (arith, X .heads-size);
 }
 
 -- of all entries some are made and the rest are left
@@ -82,16 +91,14 @@ module _ {h a : List ℕ} {n : ℕ} {all : List Pair} where
   -- there is room for the next entries
   pub making-room : {rest : List Pair} (ps rest' : List Pair) {h' a' : List ℕ} {n' : ℕ} →
       Making h a n all rest h' a' n' → rest ≡ ps ++ rest' → Room h a (n + length all) → Room h' a' (n' + length ps)
-  making-room {rest} ps rest' M e R = record {
-    heads-size = M .appended .heads-size ∙ R .heads-size;
-    args-size = M .appended .args-size ∙ R .args-size;
-    within = omega (
-      arith,
-      R .within,
-      M .appended .count,
-      ap length (sym (M .left)),
-      length-append (M .done) rest,
-      ap length e,
-      length-append ps rest',
-    );
-  }
+  making-room {rest} ps rest' M e R =
+      appended-room (M .appended) R
+      (omega (
+        arith,
+        R .within,
+        M .appended .count,
+        ap length (sym (M .left)),
+        length-append (M .done) rest,
+        ap length e,
+        length-append ps rest',
+      ))

@@ -11,7 +11,7 @@ use borrow.Author.Tests.{le-leb, lt-leb}
 use Rattle.automata.specs.Automaton.{Automaton, Transition, states}
 use Rattle.automata.specs.OpenStates.{openState, sumOver}
 use Rattle.automata.specs.Quotient.{goneCount, hasOwn, isGone, isNew, newCount, ownName}
-use Rattle.format.specs.Format.{maxStates, maxTransitions}
+use Rattle.format.specs.Format.{maxStates}
 use Rattle.lists.specs.Positions.{upFrom}
 use Rattle.lists.specs.Tests.{_∈_, filter}
 use Rattle.pairs.specs.Counts.{entry}
@@ -102,17 +102,17 @@ module _ {A : Automaton} {t : Tree} {ν : Tree → ℕ} {s : List ℕ} {count n 
       sym (ap (λ (d : Bool). d && b) (lt-leb (keptCount A t (bottomUp t) ν) maxStates (omega (arith, e, kept-count))))
 
   -- the names fit, and the sum decides
-  pub fits-sum : {x new gone : ℕ} {w : Bool} {firsts nexts sizes : List ℕ} →
+  pub fits-sum : (limit : ℕ) {x new gone : ℕ} {w : Bool} {firsts nexts sizes : List ℕ} →
       x ≡ length (filter (keptName n o v) (upFrom 1 (n + m))) → x ≤ maxStates →
       new ≡ length (filter (newAt n r c q v) (upFrom 0 m)) → gone ≡ length (filter (goneAt n r c q v) (upFrom 0 m)) →
       KeptAbove n m o q v 0 firsts nexts sizes →
-      w ≡ leb (sumOver (entry sizes) (transitionsIn s count) + new) (maxTransitions + gone) →
+      w ≡ leb (sumOver (entry sizes) (transitionsIn s count) + new) (limit + gone) →
       w ≡ (leb (keptCount A t (bottomUp t) ν) maxStates &&
       leb (sumOver (keptLengths A t ν) (A .transitions) + newCount A (bottomUp t) ν)
-      (maxTransitions + goneCount A (bottomUp t) ν))
-  fits-sum {x} {new} {gone} {w} e h f g K d =
+      (limit + goneCount A (bottomUp t) ν))
+  fits-sum limit {x} {new} {gone} {w} e h f g K d =
       d ∙ ap₂ (λ (a b : ℕ). leb a b)
-      (ap₂ (λ (a b : ℕ). a + b) (sum-link K) (f ∙ new-count)) (ap (λ (a : ℕ). maxTransitions + a) (g ∙ gone-count))
+      (ap₂ (λ (a b : ℕ). a + b) (sum-link K) (f ∙ new-count)) (ap (λ (a : ℕ). limit + a) (g ∙ gone-count))
       ∙ sym (ap (λ (b : Bool). b && leb (sumOver (keptLengths A t ν) (A .transitions) + newCount A (bottomUp t) ν)
-      (maxTransitions + goneCount A (bottomUp t) ν))
+      (limit + goneCount A (bottomUp t) ν))
       (le-leb (keptCount A t (bottomUp t) ν) maxStates (omega (arith, e, kept-count))))

@@ -11,3 +11,4 @@ pub mod KeptLink
 pub mod NodeLink
 pub mod Linking
 pub mod CountLink
+pub mod OneChoice

@@ -110,6 +110,17 @@ module _ (s : List ℕ) (at k : ℕ) (firsts nexts : List ℕ) (n m : ℕ) (meta
   unfolding chosenLeft
   chosen-end R own prefix x e = ap (concatMap (withNext own prefix)) (chain-end nexts R x e)
 
+-- at the last place each name has one entry
+pub last-next : (s : List ℕ) (at k : ℕ) (firsts nexts : List ℕ) (n m : ℕ) (metas keys v : List ℕ) → Rises nexts →
+    (own : Bool) (prefix x y : ℕ) → k + 1 ≡ arityOf s at → 1 ≤ x → y ≡ entry nexts x →
+    chosenLeft s at k firsts nexts n m metas keys v own prefix x ≡
+    finished s at metas keys v m (own && ltb n x) (withName prefix x) ++
+    chosenLeft s at k firsts nexts n m metas keys v own prefix y
+last-next s at k firsts nexts n m metas keys v R own prefix x y l h e =
+    chosen-next s at k firsts nexts n m metas keys v R own prefix x y h e
+    ∙ ap (λ (ps : List Pair). ps ++ chosenLeft s at k firsts nexts n m metas keys v own prefix y)
+    (chosen-last s at (k + 1) firsts nexts n m metas keys v (own && ltb n x) (withName prefix x) l)
+
 -- ---- one transition or subtree after another
 
 -- what f gives for the numbers from i on

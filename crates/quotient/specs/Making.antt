@@ -24,11 +24,11 @@ pub record Appended (h a : List ℕ) (n : ℕ) (ps : List Pair) (h' a' : List �
   pub heads : take n' h' ≡ take n h ++ map fst ps
   pub args : take n' a' ≡ take n a ++ map snd ps
 
--- the arrays have room for so many entries
+-- the arrays are of one length, no more than a table has transitions, with room for so many entries
 pub record Room (h a : List ℕ) (n : ℕ) : Type 0 where
-  pub heads-size : length h ≡ maxTransitions
-  pub args-size : length a ≡ maxTransitions
-  pub within : n ≤ maxTransitions
+  pub few : length h ≤ maxTransitions
+  pub args-size : length a ≡ length h
+  pub within : n ≤ length h
 
 -- ---- the entries
 

@@ -6,7 +6,7 @@ use lib.ListN.{getD, length}
 use Rattle.automata.specs.Automaton.{Automaton, states}
 use Rattle.automata.specs.OpenStates.{openState}
 use Rattle.automata.specs.Quotient.{hasOwn, keptNames, quotientList}
-use Rattle.format.specs.Format.{maxNodes, maxTransitions}
+use Rattle.format.specs.Format.{maxNodes}
 use Rattle.lists.specs.Positions.{upFrom}
 use Rattle.lists.specs.Tests.{filter}
 use Rattle.pairs.specs.Counts.{Open, Setting}
@@ -31,12 +31,12 @@ pub record Chosen (A : Automaton) (t : Tree) (ν : Tree → ℕ) (s : List ℕ) 
   pub changed : Changed A t ν s count n m o l r c q v
   pub chained : Chained n m o q v 0 firsts nexts
 
--- the transitions between names are no more than a table may have
-abbrev pub FewChosen : List ℕ → ℕ → ℕ → ℕ → List ℕ → List ℕ → List ℕ → List ℕ → List ℕ → List ℕ → List ℕ → Type 0
-FewChosen s count n m l r c q v firsts nexts =
+-- the transitions between names are no more than a limit
+abbrev pub FewChosen : List ℕ → ℕ → ℕ → ℕ → List ℕ → List ℕ → List ℕ → List ℕ → List ℕ → List ℕ → List ℕ → ℕ → Type 0
+FewChosen s count n m l r c q v firsts nexts limit =
     (A : Automaton) × (t : Tree) × (ν : (Tree → ℕ)) × (o : List ℕ) ×
     Chosen A t ν s count n m o l r c q v firsts nexts ×
-    (length (quotientList A t (bottomUp t) ν) ≤ maxTransitions)
+    (length (quotientList A t (bottomUp t) ν) ≤ limit)
 
 -- the number of names that are kept
 unfoldable pub keptCount : Automaton → Tree → List Tree → (Tree → ℕ) → ℕ

@@ -24,7 +24,6 @@ use crate::nodes::is_new;
 use format::BYTE_VALUES;
 use format::MAX_NODES;
 use format::MAX_STATES;
-use format::MAX_TRANSITIONS;
 use pairs::sum_fits;
 
 // One more if a test passes.
@@ -107,7 +106,7 @@ fn count_gone(
     sum
 }
 
-// Whether a table has room for the kept names and the transitions between them.
+// Whether a table has room for the kept names, and an array of so many entries for the transitions between them.
 pub fn table_fits(
     transitions: &[u8],
     count: usize,
@@ -120,22 +119,25 @@ pub fn table_fits(
     names: &[u8; MAX_NODES],
     opens: &[u8; BYTE_VALUES],
     sizes: &[u8; BYTE_VALUES],
+    limit: usize,
 ) -> bool
     requires { ⌜ HoldsTransitions (now transitions) count ⌝ }
     requires { ⌜ n ≤ maxStates ⌝ }
     requires { ⌜ Nodes m (now labels) (now arities) (now children) ⌝ }
+    requires { ⌜ maxNodes ≤ limit ⌝ }
+    requires { ⌜ limit ≤ maxTransitions ⌝ }
     ensures { λ r. ⌜ ((A : Automaton) (t : Tree) (ν : (Tree → ℕ)) (firsts nexts : List ℕ) → Changed A t ν (now
         (transitions .entry)) count n m (now (opens .entry)) (now (labels .entry)) (now (arities .entry)) (now
         (children .entry)) (now (states .entry)) (now (names .entry)) → KeptAbove n m (now (opens .entry)) (now
         (states .entry)) (now (names .entry)) 0 firsts nexts (now (sizes .entry)) →
         r ≡ (leb (keptCount A t (bottomUp t) ν) maxStates &&
         leb (sumOver (keptLengths A t ν) (A .transitions) + newCount A (bottomUp t) ν)
-        (maxTransitions + goneCount A (bottomUp t) ν))) ⌝ }
+        (limit + goneCount A (bottomUp t) ν))) ⌝ }
 {
     if count_kept(n, m, opens, names) > MAX_STATES {
         return false;
     }
     let new = count_new(n, m, labels, arities, children, states, names);
     let gone = count_gone(n, m, labels, arities, children, states, names);
-    sum_fits(transitions, count, new, MAX_TRANSITIONS + gone, sizes)
+    sum_fits(transitions, count, new, limit + gone, sizes)
 }

@@ -4,16 +4,9 @@ ghost use mathlib.Core.List.{[], _∷_};
 ghost use Prim.Native.Nat.{_+_, _<_, _^_};
 ghost use lib.ListN.{length};
 ghost use Rattle.quotient.specs.Making.{Appended, Room, entryOf};
-use format::MAX_TRANSITIONS;
 
 // One entry more.
-pub fn push(
-    heads: &mut [u64; MAX_TRANSITIONS],
-    args: &mut [u64; MAX_TRANSITIONS],
-    count: usize,
-    head: u64,
-    key: u64,
-) -> usize
+pub fn push(heads: &mut [u64], args: &mut [u64], count: usize, head: u64, key: u64) -> usize
     requires { ⌜ Room (now heads) (now args) (count + 1) ⌝ }
     ensures { λ r. ⌜ Appended (now (heads .entry)) (now (args .entry)) count ((head, key) ∷ []) (now (heads .exit)) (now
         (args .exit)) r ⌝ }
@@ -25,8 +18,8 @@ pub fn push(
 
 // The entry of a transition, none if its output is 0.
 pub fn emit(
-    heads: &mut [u64; MAX_TRANSITIONS],
-    args: &mut [u64; MAX_TRANSITIONS],
+    heads: &mut [u64],
+    args: &mut [u64],
     count: usize,
     meta: u64,
     key: u64,

@@ -4,6 +4,7 @@
 mod choosing; // all choices of names for the arguments of a transition
 mod counting; // how many states and transitions the new table has
 mod entries; // transitions put into two arrays
+mod finishing; // the entry of one choice
 mod kept; // the names that are kept, by state
 mod making; // all transitions
 mod nodes; // subtrees as nodes over own names

@@ -6,7 +6,7 @@ ghost use lib.ListN.{length};
 ghost use Rattle.automata.specs.Automaton.{Automaton};
 ghost use Rattle.automata.specs.Quotient.{quotientList};
 ghost use Rattle.fields.specs.Fields.{HoldsTransitions};
-ghost use Rattle.format.specs.Format.{maxNodes, maxStates};
+ghost use Rattle.format.specs.Format.{maxNodes, maxStates, maxTransitions};
 ghost use Rattle.packed.specs.Heads.{HoldsEntries};
 ghost use Rattle.subtrees.specs.Store.{bottomUp};
 ghost use Rattle.trees.specs.Tree.{Tree};
@@ -14,7 +14,7 @@ ghost use Rattle.quotient.specs.Kept.{Rises};
 ghost use Rattle.quotient.specs.Making.{Appended, Room, chosenIn, newEntry, newIn};
 ghost use Rattle.quotient.specs.Nodes.{EachNode, Nodes, metaOf};
 ghost use Rattle.quotient.specs.Setting.{Chosen, FewChosen};
-use crate::choosing::choose;
+use crate::choosing::choose_names;
 use crate::entries::push;
 use crate::nodes::CHILD_NUMBERS;
 use crate::nodes::is_new;
@@ -22,9 +22,17 @@ use crate::nodes::keys_of;
 use crate::nodes::metas_of;
 use format::BYTE_VALUES;
 use format::MAX_NODES;
-use format::MAX_TRANSITIONS;
 use format::TRANSITION_BYTES;
 use pairs::index;
+
+// Notes how many entries there are after transition i, if there is room for it.
+fn note_end(ends: &mut [u16], i: usize, made: usize)
+    requires { ⌜ made ≤ maxTransitions ⌝ }
+{
+    if i < ends.len() {
+        ends[i] = made as u16;
+    }
+}
 
 // The entries of the transitions of the table over all choices of kept names for their arguments.
 fn choose_all(
@@ -37,8 +45,9 @@ fn choose_all(
     metas: &[u64; MAX_NODES],
     keys: &[u64; MAX_NODES],
     names: &[u8; MAX_NODES],
-    heads: &mut [u64; MAX_TRANSITIONS],
-    args: &mut [u64; MAX_TRANSITIONS],
+    heads: &mut [u64],
+    args: &mut [u64],
+    ends: &mut [u16],
 ) -> usize
     requires { ⌜ HoldsTransitions (now transitions) count ⌝ }
     requires { ⌜ Rises (now nexts) ⌝ }
@@ -52,10 +61,9 @@ fn choose_all(
     let mut made = 0;
     let mut i = 0;
     while i < count {
-        made = choose(
+        made = choose_names(
             transitions,
             TRANSITION_BYTES * i,
-            0,
             firsts,
             nexts,
             n,
@@ -63,12 +71,11 @@ fn choose_all(
             metas,
             keys,
             names,
-            true,
-            0,
             heads,
             args,
             made,
         );
+        note_end(ends, i, made);
         i += 1;
     }
     made
@@ -86,8 +93,8 @@ fn add_new(
     metas: &[u64; MAX_NODES],
     keys: &[u64; MAX_NODES],
     j: usize,
-    heads: &mut [u64; MAX_TRANSITIONS],
-    args: &mut [u64; MAX_TRANSITIONS],
+    heads: &mut [u64],
+    args: &mut [u64],
     count: usize,
 ) -> usize
     requires { ⌜ n ≤ maxStates ⌝ }
@@ -118,8 +125,8 @@ fn add_lost(
     names: &[u8; MAX_NODES],
     metas: &[u64; MAX_NODES],
     keys: &[u64; MAX_NODES],
-    heads: &mut [u64; MAX_TRANSITIONS],
-    args: &mut [u64; MAX_TRANSITIONS],
+    heads: &mut [u64],
+    args: &mut [u64],
     count: usize,
 ) -> usize
     requires { ⌜ n ≤ maxStates ⌝ }
@@ -167,13 +174,14 @@ pub fn make(
     names: &[u8; MAX_NODES],
     firsts: &[u8; BYTE_VALUES],
     nexts: &[u8; BYTE_VALUES],
-    heads: &mut [u64; MAX_TRANSITIONS],
-    args: &mut [u64; MAX_TRANSITIONS],
+    heads: &mut [u64],
+    args: &mut [u64],
+    ends: &mut [u16],
 ) -> usize
     requires { ⌜ HoldsTransitions (now transitions) count ⌝ }
     requires { ⌜ Room (now heads) (now args) 0 ⌝ }
     requires { ⌜ FewChosen (now transitions) count n m (now labels) (now arities) (now children) (now states) (now names)
-        (now firsts) (now nexts) ⌝ }
+        (now firsts) (now nexts) (length (now heads)) ⌝ }
     ensures { λ r. ⌜ Room (now (heads .exit)) (now (args .exit)) r ⌝ }
     ensures { λ r. ⌜ ((A : Automaton) (t : Tree) (ν : (Tree → ℕ)) (o : List ℕ) → Chosen A t ν (now
         (transitions .entry)) count n m o (now (labels .entry)) (now (arities .entry)) (now (children .entry)) (now
@@ -194,6 +202,7 @@ pub fn make(
         names,
         heads,
         args,
+        ends,
     );
     add_lost(
         n,

@@ -22,7 +22,8 @@ use Rattle.quotient.proofs.choosing.+choose.Lts-choose as choose-lts
 use Rattle.fields.proofs.arg_of.Reads as arg-of-reads
 use Rattle.fields.proofs.arity_of.Reads as arity-of-reads
 use Rattle.pairs.proofs.index.Reads as index-reads
-use Rattle.quotient.proofs.choosing.finish.Reads as finish-reads
+use Rattle.quotient.proofs.choosing.choose_last.Reads as choose-last-reads
+use Rattle.quotient.proofs.finishing.finish.Reads as finish-reads
 use Rattle.quotient.proofs.choosing.+choose.{statement}
 use Rattle.quotient.proofs.choosing.+choose.Tie.{close}
 
@@ -41,6 +42,8 @@ choose-calls t = (
   arity-of-reads.Learnt,
   finish-reads.Asked,
   finish-reads.Learnt,
+  choose-last-reads.Asked,
+  choose-last-reads.Learnt,
   arg-of-reads.Asked,
   arg-of-reads.Learnt,
   index-reads.Asked,
@@ -50,19 +53,19 @@ choose-calls t = (
 )
 
 abbrev choose-Inv-loop : choose-lts.InvT-loop
-choose-Inv-loop transitions at k firsts nexts n m metas keys names own prefix heads₀ args₀ count made₀ x₀ heads args made x =
+choose-Inv-loop transitions at k firsts nexts n m metas keys names own prefix heads₀ args₀ count arity made₀ x₀ heads args made x =
     Making heads₀ args₀ count (chosenFrom transitions at k firsts nexts n m metas keys names own prefix)
     (chosenLeft transitions at k firsts nexts n m metas keys names own prefix x) heads args made × (x < byteValues)
 
 abbrev choose-μ-loop : choose-lts.MeasureT-loop
-choose-μ-loop transitions at k firsts nexts n m metas keys names own prefix heads₀ args₀ count made₀ x₀ heads args made x = chainLeft x
+choose-μ-loop transitions at k firsts nexts n m metas keys names own prefix heads₀ args₀ count arity made₀ x₀ heads args made x = chainLeft x
 
 choose-arity-of-requires : (t : ℕ) → choose-lts.Need-arity-of-requires (choose-calls t) (choose-at t) choose.Post choose-Inv-loop choose-μ-loop
 choose-arity-of-requires t c κs = search needs
 
 choose-finish-requires : (t : ℕ) → choose-lts.Need-finish-requires (choose-calls t) (choose-at t) choose.Post choose-Inv-loop choose-μ-loop
 choose-finish-requires t c κs =
-    let start = c .before .before .before .before .before in
+    let start = c .before .before .before .before .before .before .before in
     let a = start .args in
     let arity-of-call = c .before .before .before .arity-of in
     let if1 = c .before .before .if1 in (
@@ -79,27 +82,53 @@ choose-finish-requires t c κs =
       ),
     )
 
+choose-same-length : (t : ℕ) → choose-lts.Need-same-length (choose-calls t) (choose-at t) choose.Post choose-Inv-loop choose-μ-loop
+choose-same-length t c = search needs
+
+choose-same-length-2 : (t : ℕ) → choose-lts.Need-same-length-2 (choose-calls t) (choose-at t) choose.Post choose-Inv-loop choose-μ-loop
+choose-same-length-2 t c = search needs
+
 choose-returns : (t : ℕ) → choose-lts.Need-returns (choose-calls t) (choose-at t) choose.Post choose-Inv-loop choose-μ-loop
 choose-returns t c =
-    let start = c .before .before .before .before .before .before in
+    let start = c .before .before .before .before .before .before .before .before .before .before .before .before in
     let a = start .args in
-    let arity-of-call = c .before .before .before .before .arity-of in
-    let if1 = c .before .before .before .if1 in
+    let arity-of-call = c .before .before .before .before .before .before .before .before .arity-of in
+    let if1 = c .before .before .before .before .before .before .before .if1 in
     appended-same (sym (chosen-last (a .transitions .now) (a .at) (a .k) (a .firsts .now) (a .nexts .now) (a .n) (a
     .m) (a .metas .now) (a .keys .now) (a .names .now) (a .own) (a .prefix) (if1 .taken ∙ arity-of-call .ensures)))
-    (c .finish .ensures)
+    (c .before .before .before .before .finish .ensures)
+
+choose-add-if2 : (t : ℕ) → choose-lts.Need-add-if2 (choose-calls t) (choose-at t) choose.Post choose-Inv-loop choose-μ-loop
+choose-add-if2 t c =
+    let pre = c .before .before .before .before .before .pre in
+    omega (arith, pre .1 .0 .narrow, pre .1 .1 .0)
+
+choose-choose-last-requires : (t : ℕ) → choose-lts.Need-choose-last-requires (choose-calls t) (choose-at t) choose.Post choose-Inv-loop choose-μ-loop
+choose-choose-last-requires t c κs =
+    let pre = c .before .before .before .before .before .before .before .before .pre in
+    let arity-of-call = c .before .before .before .before .arity-of in
+    (pre .1 .0, ((c .before .before .if2 .taken) ∙ arity-of-call .ensures, pre .1 .1 .1))
+
+choose-same-length-3 : (t : ℕ) → choose-lts.Need-same-length-3 (choose-calls t) (choose-at t) choose.Post choose-Inv-loop choose-μ-loop
+choose-same-length-3 t c = search needs
+
+choose-same-length-4 : (t : ℕ) → choose-lts.Need-same-length-4 (choose-calls t) (choose-at t) choose.Post choose-Inv-loop choose-μ-loop
+choose-same-length-4 t c = search needs
+
+choose-returns-2 : (t : ℕ) → choose-lts.Need-returns-2 (choose-calls t) (choose-at t) choose.Post choose-Inv-loop choose-μ-loop
+choose-returns-2 t c = search needs
 
 choose-arg-of-requires : (t : ℕ) → choose-lts.Need-arg-of-requires (choose-calls t) (choose-at t) choose.Post choose-Inv-loop choose-μ-loop
 choose-arg-of-requires t c κs =
-    let start = c .before .before .before in (
+    let start = c .before .before .before .before .before .before in (
       start .pre .1 .0 .inside,
       omega (
         arith,
         start .pre .1 .0 .narrow,
-        c .before .arity-of .ensures,
+        c .before .before .arity-of .ensures,
         start .pre .1
             .1 .0,
-        c .if1 .left,
+        c .before .if1 .left,
       ),
     )
 
@@ -111,32 +140,31 @@ choose-index-requires t c κs = search needs
 
 choose-loop-holds : (t : ℕ) → choose-lts.Need-loop-holds (choose-calls t) (choose-at t) choose.Post choose-Inv-loop choose-μ-loop
 choose-loop-holds t c =
-    let start = c .before .before .before .before .before .before in
+    let start = c .before .before .before .before .before .before .before .before .before in
     let a = start .args in
-    let arity-of-call = c .before .before .before .before .arity-of in
-    let if1 = c .before .before .before .if1 in (
+    let arity-of-call = c .before .before .before .before .before .arity-of in
+    let if1 = c .before .before .before .before .if1 in (
       making-start (chosen-first (a .transitions .now) (a .at) (a .k) (a .firsts .now) (a .nexts .now) (a .n) (a .m)
           (a .metas .now) (a .keys .now) (a .names .now) (a .own) (a .prefix) (c .index .result) (omega (
             arith,
             arity-of-call .ensures,
             start .pre .1 .1 .0,
             if1 .left,
-          )) (c .index .ensures .0 ∙ ap (entry (a .firsts .now)) (c
-          .before .before .arg-of .ensures .0))),
+          )) (c .index .ensures .0 ∙ ap (entry (a .firsts .now)) (c .before .before .arg-of .ensures .0))),
       c .index .ensures .1,
     )
 
 choose-add-choose : (t : ℕ) → choose-lts.Need-add-choose (choose-calls t) (choose-at t) choose.Post choose-Inv-loop choose-μ-loop
 choose-add-choose t c =
-    let start = c .before .before .before .before .before .before .before .before in
+    let start = c .before .before .before .before .before .before .before .before .before .before .before in
     omega (arith, start .pre .1 .0 .narrow, start .pre .1 .1 .0)
 
 choose-mul-choose : (t : ℕ) → choose-lts.Need-mul-choose (choose-calls t) (choose-at t) choose.Post choose-Inv-loop choose-μ-loop
 choose-mul-choose t c =
-    let start = c .before .before .before .before .before .before .before .before in
+    let start = c .before .before .before .before .before .before .before .before .before .before .before in
     let a = start .args in
-    let arity-of-call = c .before .before .before .before .before .before .arity-of in
-    let if1 = c .before .before .before .before .before .if1 in
+    let arity-of-call = c .before .before .before .before .before .before .before .arity-of in
+    let if1 = c .before .before .before .before .before .before .if1 in
     omega (
       arith,
       digit-fits (a .k) (a .prefix) (c .before .loop .x) (omega (
@@ -151,10 +179,10 @@ choose-mul-choose t c =
 
 choose-add-choose-2 : (t : ℕ) → choose-lts.Need-add-choose-2 (choose-calls t) (choose-at t) choose.Post choose-Inv-loop choose-μ-loop
 choose-add-choose-2 t c =
-    let start = c .before .before .before .before .before .before .before .before in
+    let start = c .before .before .before .before .before .before .before .before .before .before .before in
     let a = start .args in
-    let arity-of-call = c .before .before .before .before .before .before .arity-of in
-    let if1 = c .before .before .before .before .before .if1 in
+    let arity-of-call = c .before .before .before .before .before .before .before .arity-of in
+    let if1 = c .before .before .before .before .before .before .if1 in
     omega (
       arith,
       digit-fits (a .k) (a .prefix) (c .before .loop .x) (omega (
@@ -169,10 +197,11 @@ choose-add-choose-2 t c =
 
 choose-choose-requires : (t : ℕ) → choose-lts.Need-choose-requires (choose-calls t) (choose-at t) choose.Post choose-Inv-loop choose-μ-loop
 choose-choose-requires t c κs =
-    let start = c .before .before .before .before .before .before .before .before .before .before in
+    let start = c .before .before .before .before .before .before .before .before .before .before .before
+    .before .before in
     let a = start .args in
-    let arity-of-call = c .before .before .before .before .before .before .before .before .arity-of in
-    let if1 = c .before .before .before .before .before .before .before .if1 in
+    let arity-of-call = c .before .before .before .before .before .before .before .before .before .arity-of in
+    let if1 = c .before .before .before .before .before .before .before .before .if1 in
     let loop = c .before .before .before .loop in (
       omega (arith, start .pre .0, start .pre .1 .0 .narrow, arity-of-call .ensures, start .pre .1 .1 .0, if1 .left),
       (
@@ -202,35 +231,42 @@ choose-choose-requires t c κs =
     )
 
 choose-element-copy-out-index-2 : (t : ℕ) → choose-lts.Need-element-copy-out-index-2 (choose-calls t) (choose-at t) choose.Post choose-Inv-loop choose-μ-loop
-choose-element-copy-out-index-2 t c = omega (arith, c .before .before .before .before .loop .inv .1)
+choose-element-copy-out-index-2 t c =
+    omega (arith, c .before .before .before .before .before .before .before .before .loop .inv .1)
 
 choose-index-requires-2 : (t : ℕ) → choose-lts.Need-index-requires-2 (choose-calls t) (choose-at t) choose.Post choose-Inv-loop choose-μ-loop
 choose-index-requires-2 t c κs = search needs
 
 choose-loop-less : (t : ℕ) → choose-lts.Need-loop-less (choose-calls t) (choose-at t) choose.Post choose-Inv-loop choose-μ-loop
 choose-loop-less t c =
-    let start = c .before .before .before .before .before .before .before .before .before .before .before .before
-    .before in
-    let loop = c .before .before .before .before .before .before .loop in
+    let start = c .before .before .before .before .before .before .before .before .before .before .before
+    .before .before .before .before .before .before .before .before .before in
+    let loop = c .before .before .before .before .before .before .before .before .before .before .loop in
     rw (c .index2 .ensures .0) (chain-less (loop .x) (start .pre .1 .1 .1 .0) (omega arith) (loop .inv .1))
 
 choose-loop-again : (t : ℕ) → choose-lts.Need-loop-again (choose-calls t) (choose-at t) choose.Post choose-Inv-loop choose-μ-loop
 choose-loop-again t c =
-    let start = c .before .before .before .before .before .before .before .before .before .before .before .before
-    .before in
+    let start = c .before .before .before .before .before .before .before .before .before .before .before
+    .before .before .before .before .before .before .before .before .before in
     let a = start .args in
-    let loop = c .before .before .before .before .before .before .loop in (
+    let loop = c .before .before .before .before .before .before .before .before .before .before .loop in (
       making-next (chosenLeft (a .transitions .now) (a .at) (a .k) (a .firsts .now) (a .nexts .now) (a .n) (a .m) (a
           .metas .now) (a .keys .now) (a .names .now) (a .own) (a .prefix) (c .index2 .result)) (loop .inv .0)
           (chosen-next (a .transitions .now) (a .at) (a .k) (a .firsts .now) (a .nexts .now) (a .n) (a .m) (a .metas .now)
           (a .keys .now) (a .names .now) (start .pre .1 .1 .1 .0) (a .own) (a .prefix) (loop .x) (c .index2 .result)
-          (omega arith) (c .index2 .ensures .0)) (c .before .before .choose .ensures),
+          (omega arith) (c .index2 .ensures .0)) (c .before .before .before .before .before .before .choose .ensures),
       c .index2 .ensures .1,
     )
 
-choose-returns-2 : (t : ℕ) → choose-lts.Need-returns-2 (choose-calls t) (choose-at t) choose.Post choose-Inv-loop choose-μ-loop
-choose-returns-2 t c =
-    let start = c .before .before .before .before .before .before .before .before in
+choose-same-length-5 : (t : ℕ) → choose-lts.Need-same-length-5 (choose-calls t) (choose-at t) choose.Post choose-Inv-loop choose-μ-loop
+choose-same-length-5 t c = search needs
+
+choose-same-length-6 : (t : ℕ) → choose-lts.Need-same-length-6 (choose-calls t) (choose-at t) choose.Post choose-Inv-loop choose-μ-loop
+choose-same-length-6 t c = search needs
+
+choose-returns-3 : (t : ℕ) → choose-lts.Need-returns-3 (choose-calls t) (choose-at t) choose.Post choose-Inv-loop choose-μ-loop
+choose-returns-3 t c =
+    let start = c .before .before .before .before .before .before .before .before .before .before .before in
     let a = start .args in
     making-end (c .before .loop .inv .0) (chosen-end (a .transitions .now) (a .at) (a .k) (a .firsts .now) (a .nexts
     .now) (a .n) (a .m) (a .metas .now) (a .keys .now) (a .names .now) (start .pre .1 .1 .1 .0) (a .own) (a .prefix)
@@ -244,7 +280,14 @@ pub +choose-spec : {M : Type 1} → statement M
     choose-μ-loop
     (choose-arity-of-requires t)
     (choose-finish-requires t)
+    (choose-same-length t)
+    (choose-same-length-2 t)
     (choose-returns t)
+    (choose-add-if2 t)
+    (choose-choose-last-requires t)
+    (choose-same-length-3 t)
+    (choose-same-length-4 t)
+    (choose-returns-2 t)
     (choose-arg-of-requires t)
     (choose-element-copy-out-index t)
     (choose-index-requires t)
@@ -257,4 +300,6 @@ pub +choose-spec : {M : Type 1} → statement M
     (choose-index-requires-2 t)
     (choose-loop-less t)
     (choose-loop-again t)
-    (choose-returns-2 t)
+    (choose-same-length-5 t)
+    (choose-same-length-6 t)
+    (choose-returns-3 t)

@@ -28,7 +28,8 @@ add-sum-fits c =
       c .count-gone .ensures,
       (tally-few (goneAt (a .n) (a .arities .now) (a .children .now) (a .states
           .now) (a .names .now)) 0 (a .m)),
-      start .pre .1 .1 .few,
+      start .pre .1 .1 .0 .few,
+      start .pre .1 .1 .1 .1,
     )
 
 sum-fits-requires : tie.Need-sum-fits-requires
@@ -42,7 +43,8 @@ sum-fits-requires c κs =
           c .before .count-new .ensures,
           (tally-few (newAt (a .n) (a .arities .now) (a
               .children .now) (a .states .now) (a .names .now)) 0 (a .m)),
-          start .pre .1 .1 .few,
+          start .pre .1 .1 .0 .few,
+          start .pre .1 .1 .1 .0,
         ),
         omega (
           arith,
@@ -50,7 +52,8 @@ sum-fits-requires c κs =
               .ensures,
           (tally-few (goneAt (a .n) (a .arities .now) (a .children .now) (a .states .now) (a .names .now)) 0 (a
               .m)),
-          start .pre .1 .1 .few,
+          start .pre .1 .1 .0 .few,
+          start .pre .1 .1 .1 .1,
         ),
       ),
     )
@@ -58,8 +61,9 @@ sum-fits-requires c κs =
 returns-2 : tie.Need-returns-2
 returns-2 c =
     let count-kept-call = c .before .before .before .before .count-kept in
-    λ A t ν firsts nexts H K. fits-sum H (count-kept-call .ensures) (omega arith) (c .before .before .count-new
-    .ensures) (c .before .count-gone .ensures) K (c .sum-fits .ensures)
+    let limit = c .before .before .before .before .before .before .args .limit in
+    λ A t ν firsts nexts H K. fits-sum H limit (count-kept-call .ensures) (omega arith)
+    (c .before .before .count-new .ensures) (c .before .count-gone .ensures) K (c .sum-fits .ensures)
 
 pub table-fits-spec : {M : Type 1} → statement M
 table-fits-spec =

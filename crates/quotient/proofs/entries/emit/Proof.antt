@@ -6,7 +6,7 @@ use Rattle.quotient.proofs.entries.emit.Statement.{statement}
 use Rattle.quotient.proofs.entries.emit.Tie as tie
 
 returns : tie.Need-returns
-returns c = rw (eq-eqb (c .before .args .out) 0 (c .if1 .taken)) appended-none
+returns c = rw (eq-eqb (c .before .before .before .args .out) 0 (c .if1 .taken)) appended-none
 
 mul-push : tie.Need-mul-push
 mul-push c = search needs
@@ -16,16 +16,22 @@ add-push c = search needs
 
 push-requires : tie.Need-push-requires
 push-requires c κs =
-    let start = c .before .before .before in
+    let start = c .before .before .before .before .before in
     let a = start .args in
     rw (ne-eqb (a .out) 0 (c .before .before .if1 .left)) at (start .pre .0)
 
+same-length : tie.Need-same-length
+same-length c = search needs
+
+same-length-2 : tie.Need-same-length-2
+same-length-2 c = search needs
+
 returns-2 : tie.Need-returns-2
 returns-2 c =
-    let start = c .before .before .before .before in
+    let start = c .before .before .before .before .before .before .before .before .before .before in
     let a = start .args in
-    let if1 = c .before .before .before .if1 in
-    rw (ne-eqb (a .out) 0 (if1 .left)) (c .push .ensures)
+    let if1 = c .before .before .before .before .before .before .before .if1 in
+    rw (ne-eqb (a .out) 0 (if1 .left)) (c .before .before .before .before .push .ensures)
 
 pub emit-spec : {M : Type 1} → statement M
-emit-spec = tie.close (tie.spec returns mul-push add-push push-requires returns-2)
+emit-spec = tie.close (tie.spec returns mul-push add-push push-requires same-length same-length-2 returns-2)

@@ -17,15 +17,16 @@ abbrev μ-loop : tie.MeasureT-loop
 μ-loop n m labels arities children states names metas keys heads₀ args₀ count made₀ j₀ heads args made j = m - j
 
 loop-holds : tie.Need-loop-holds Inv-loop μ-loop
-loop-holds c = (
-  making-start (new-start (c .args .n) (c .args .m) (c .args .arities .now) (c .args .children .now) (c .args
-      .states .now) (c .args .names .now) (c .args .metas .now) (c .args .keys .now)),
-  omega arith,
-)
+loop-holds c =
+    let a = c .before .before .args in (
+      making-start (new-start (a .n) (a .m) (a .arities .now) (a .children .now) (a .states .now) (a .names .now)
+          (a .metas .now) (a .keys .now)),
+      omega arith,
+    )
 
 add-new-requires : tie.Need-add-new-requires Inv-loop μ-loop
 add-new-requires c κs =
-    let start = c .before .before .before .before in
+    let start = c .before .before .before .before .before .before in
     let a = start .args in
     let loop = c .before .before .before .loop in (
       start .pre .0,
@@ -54,19 +55,25 @@ loop-less c = omega arith
 
 loop-again : tie.Need-loop-again Inv-loop μ-loop
 loop-again c =
-    let start = c .before .before .before .before .before in
+    let start = c .before .before .before .before .before .before .before .before .before .before .before in
     let a = start .args in
-    let loop = c .before .before .before .before .loop in (
+    let loop = c .before .before .before .before .before .before .before .before .loop in (
       making-next (leftFrom (((newEntry (a .n) (a .arities .now) (a .children .now) (a .states .now) (a .names .now)
           (a .metas .now) (a .keys .now)))) (a .m) (loop .j + 1)) (loop .inv .0) (left-next (((newEntry (a .n) (a .arities
           .now) (a .children .now) (a .states .now) (a .names .now) (a .metas .now) (a .keys .now)))) (a .m) (loop .j)
-          (omega arith)) (c .add-new .ensures),
+          (omega arith)) (c .before .before .before .before .add-new .ensures),
       omega arith,
     )
 
+same-length : tie.Need-same-length Inv-loop μ-loop
+same-length c = search needs
+
+same-length-2 : tie.Need-same-length-2 Inv-loop μ-loop
+same-length-2 c = search needs
+
 returns : tie.Need-returns Inv-loop μ-loop
 returns c =
-    let start = c .before .before in
+    let start = c .before .before .before .before in
     let a = start .args in
     making-end (c .before .loop .inv .0) (left-end (((newEntry (a .n) (a .arities .now) (a .children .now) (a
     .states .now) (a .names .now) (a .metas .now) (a .keys .now)))) (a .m) (c .before .loop .j) (omega arith))
@@ -74,4 +81,4 @@ returns c =
 pub add-lost-spec : {M : Type 1} → statement M
 add-lost-spec =
     tie.close
-    (tie.spec Inv-loop μ-loop loop-holds add-new-requires add-j loop-less loop-again returns)
+    (tie.spec Inv-loop μ-loop loop-holds add-new-requires add-j loop-less loop-again same-length same-length-2 returns)

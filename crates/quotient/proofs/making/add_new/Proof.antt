@@ -16,7 +16,7 @@ is-new-requires c κs = search needs
 
 returns : tie.Need-returns
 returns c =
-    let start = c .before .before in
+    let start = c .before .before .before .before in
     let a = start .args in
     appended-same (sym (entry-none (a .n) (a .arities .now) (a .children .now) (a .states .now) (a .names .now) (a
     .metas .now) (a .keys .now) (a .j) (sym (c .before .is-new .ensures) ∙ not-true _ (c .if1 .taken))))
@@ -36,7 +36,7 @@ element-copy-out-push c = search needs
 
 mul-push-2 : tie.Need-mul-push-2
 mul-push-2 c =
-    let start = c .before .before .before .before .before .before .before in
+    let start = c .before .before .before .before .before .before .before .before .before in
     let a = start .args in
     omega (
       arith,
@@ -48,7 +48,7 @@ mul-push-2 c =
 
 add-push : tie.Need-add-push
 add-push c =
-    let start = c .before .before .before .before .before .before .before in
+    let start = c .before .before .before .before .before .before .before .before .before in
     let a = start .args in
     let index-call = c .before .before .before .index in
     omega (
@@ -68,7 +68,7 @@ element-copy-out-push-2 c = search needs
 
 push-requires : tie.Need-push-requires
 push-requires c κs =
-    let start = c .before .before .before .before .before .before .before .before in
+    let start = c .before .before .before .before .before .before .before .before .before .before in
     let a = start .args in
     let is-new-call = c .before .before .before .before .before .before .before .is-new in
     let if1 = c .before .before .before .before .before .before .if1 in
@@ -76,16 +76,25 @@ push-requires c κs =
     .metas .now) (a .keys .now) (a .j) (sym (is-new-call .ensures) ∙ not-false _ (if1 .left))) (start .pre .1 .1 .1
     .1)
 
+same-length : tie.Need-same-length
+same-length c = search needs
+
+same-length-2 : tie.Need-same-length-2
+same-length-2 c = search needs
+
 returns-2 : tie.Need-returns-2
 returns-2 c =
-    let start = c .before .before .before .before .before .before .before .before .before in
+    let start = c .before .before .before .before .before .before .before .before .before .before .before
+    .before .before .before .before in
     let a = start .args in
-    let is-new-call = c .before .before .before .before .before .before .before .before .is-new in
-    let if1 = c .before .before .before .before .before .before .before .if1 in
-    let index-call = c .before .before .before .before .before .index in
+    let is-new-call = c .before .before .before .before .before .before .before .before .before .before .before
+    .before .is-new in
+    let if1 = c .before .before .before .before .before .before .before .before .before .before .before .if1 in
+    let index-call = c .before .before .before .before .before .before .before .before .before .index in
     appended-same (ap (λ (x : ℕ). (256 * getD (a .metas .now) (a .j) 0 + x, getD (a .keys .now) (a .j) 0) ∷ [])
     (index-call .ensures .0) ∙ sym (entry-new (a .n) (a .arities .now) (a .children .now) (a .states .now) (a .names
-    .now) (a .metas .now) (a .keys .now) (a .j) (sym (is-new-call .ensures) ∙ not-false _ (if1 .left)))) (c .push
+    .now) (a .metas .now) (a .keys .now) (a .j) (sym (is-new-call .ensures) ∙ not-false _ (if1 .left)))) (c
+    .before .before .before .before .push
     .ensures)
 
 pub add-new-spec : {M : Type 1} → statement M
@@ -103,4 +112,6 @@ add-new-spec =
     mul-push-3
     element-copy-out-push-2
     push-requires
+    same-length
+    same-length-2
     returns-2)

@@ -1,10 +1,9 @@
 -- `quotient::making::make` meets its contract: the entries are those of the transitions between names, and there is
 -- room for them.
 use native.Mathlib.Omega.{arith}
-use mathlib.Core.Path.{_∙_}
 use Rattle.automata.specs.Quotient.{quotientList}
 use Rattle.subtrees.specs.Store.{bottomUp}
-use Rattle.quotient.proofs.Appending.{appended-then}
+use Rattle.quotient.proofs.Appending.{appended-room, appended-then}
 use Rattle.quotient.proofs.Linking.{all-length, all-link, entries-held}
 use Rattle.quotient.proofs.Numbered.{nodes}
 use borrow.Author.Needs.{needs}
@@ -13,7 +12,7 @@ use Rattle.quotient.proofs.making.make.Tie as tie
 
 metas-of-requires : tie.Need-metas-of-requires
 metas-of-requires c κs =
-    let start = c .before in
+    let start = c .before .before .before .before in
     let F = start .pre .1 .1 in
     let H = F .4 .changed in
     let N = nodes (H .stored) (H .size) (H .few) in
@@ -21,7 +20,7 @@ metas-of-requires c κs =
 
 keys-of-requires : tie.Need-keys-of-requires
 keys-of-requires c κs =
-    let start = c .before .before in
+    let start = c .before .before .before .before .before in
     let F = start .pre .1 .1 in
     let H = F .4 .changed in
     let N = nodes (H .stored) (H .size) (H .few) in
@@ -29,21 +28,21 @@ keys-of-requires c κs =
 
 choose-all-requires : tie.Need-choose-all-requires
 choose-all-requires c κs =
-    let start = c .before .before .before .before .before .before .before in
+    let start = c .before .before .before .before .before .before .before .before .before .before .before in
     let F = start .pre .1 .1 in
     let H = F .4 .changed in
-    let known = c .before .before .before .before .before .before .shared-slice-known in
-    let metas-of-call = c .before .before .before .before .before .metas-of in
-    let keys-of-call = c .before .before .before .before .keys-of in (
+    let known = c .before .before .before .before .before .before .before .before .before
+    .before .shared-slice-known in
+    let metas-of-call = c .before .before .before .before .before .before .metas-of in
+    let keys-of-call = c .before .before .before .before .before .keys-of in (
       start .pre .0,
       (
         F .4 .chained .rises,
         (
           H .few,
           record {
-            heads-size = start .pre .1 .0 .heads-size;
-            args-size
-                = start .pre .1 .0 .args-size;
+            few = start .pre .1 .0 .few;
+            args-size = start .pre .1 .0 .args-size;
             within = omega (
               arith,
               all-length (F .4) (metas-of-call .ensures) (keys-of-call
@@ -57,64 +56,68 @@ choose-all-requires c κs =
 
 add-lost-requires : tie.Need-add-lost-requires
 add-lost-requires c κs =
-    let start = c .before .before .before .before .before .before .before .before .before .before .before .before in
+    let start = c .before .before .before .before .before .before .before .before .before .before .before
+    .before .before .before .before .before .before .before .before .before .before .before in
     let F = start .pre .1 .1 in
     let H = F .4 .changed in
     let N = nodes (H .stored) (H .size) (H .few) in
     let known = c .before .before .before .before .before .before .before .before .before .before .before
-    .shared-slice-known in
-    let metas-of-call = c .before .before .before .before .before .before .before .before .before .before .metas-of
+    .before .before .before .before .before .before .before .before .before .before .shared-slice-known in
+    let metas-of-call = c .before .before .before .before .before .before .before .before .before .before
+    .before .before .before .before .before .before .before .metas-of
     in
-    let keys-of-call = c .before .before .before .before .before .before .before .before .before .keys-of in
-    let choose-all-call = c .before .before .before .before .choose-all in (
+    let keys-of-call = c .before .before .before .before .before .before .before .before .before .before
+    .before .before .before .before .before .before .keys-of in
+    let choose-all-call = c .before .before .before .before .before .before .before .before .before
+    .before .choose-all in (
       omega (arith, H .size, H .setting .few),
       (
         N,
         (
           metas-of-call .ensures,
-          record {
-            heads-size = choose-all-call
-                .ensures .heads-size ∙ start .pre .1 .0 .heads-size;
-            args-size = choose-all-call .ensures .args-size ∙ start
-                .pre .1 .0 .args-size;
-            within = omega (
-              arith,
-              choose-all-call .ensures .count,
-              all-length (F .4) (metas-of-call
-                  .ensures) (keys-of-call .ensures) (start .pre .0) (λ i. omega (arith, known .given i)),
-              F .5,
-            );
-          },
+          appended-room (choose-all-call .ensures) (start .pre .1 .0) (omega (
+            arith,
+            choose-all-call .ensures .count,
+            all-length (F .4) (metas-of-call .ensures) (keys-of-call .ensures) (start .pre .0)
+                (λ i. omega (arith, known .given i)),
+            F .5,
+          )),
         ),
       ),
     )
 
+same-length : tie.Need-same-length
+same-length c = search needs
+
+same-length-2 : tie.Need-same-length-2
+same-length-2 c = search needs
+
+same-length-3 : tie.Need-same-length-3
+same-length-3 c = search needs
+
 returns : tie.Need-returns
 returns c =
-    let start = c .before .before .before .before .before .before .before .before .before .before .before .before
-    .before in
-    let known = c .before .before .before .before .before .before .before .before .before .before .before .before
-    .shared-slice-known in
-    let metas-of-call = c .before .before .before .before .before .before .before .before .before .before .before
-    .metas-of in
-    let keys-of-call = c .before .before .before .before .before .before .before .before .before .before .keys-of in
-    let choose-all-call = c .before .before .before .before .before .choose-all in
-    let all = appended-then (choose-all-call .ensures) (c .add-lost .ensures) in (
-      record {
-        heads-size = all
-            .heads-size ∙ start .pre .1 .0 .heads-size;
-        args-size = all .args-size ∙ start .pre .1 .0 .args-size;
-        within =
-            omega (
-              arith,
-              choose-all-call .ensures .count,
-              c .add-lost .ensures .count,
-              all-length ((start .pre .1 .1) .4)
-                  (metas-of-call .ensures) (keys-of-call .ensures) (start .pre .0) (λ i. omega (arith, known .given i)),
-              (start
-                  .pre .1 .1) .5,
-            );
-      },
+    let start = c .before .before .before .before .before .before .before .before .before .before .before
+    .before .before .before .before .before .before .before .before .before .before .before .before .before
+    .before .before .before in
+    let known = c .before .before .before .before .before .before .before .before .before .before .before
+    .before .before .before .before .before .before .before .before .before .before .before .before .before
+    .before .before .shared-slice-known in
+    let metas-of-call = c .before .before .before .before .before .before .before .before .before .before
+    .before .before .before .before .before .before .before .before .before .before .before .before .metas-of in
+    let keys-of-call = c .before .before .before .before .before .before .before .before .before .before
+    .before .before .before .before .before .before .before .before .before .before .before .keys-of in
+    let choose-all-call = c .before .before .before .before .before .before .before .before .before .before
+    .before .before .before .before .before .choose-all in
+    let all = appended-then (choose-all-call .ensures) (c .before .before .before .before .add-lost .ensures) in (
+      appended-room all (start .pre .1 .0) (omega (
+        arith,
+        choose-all-call .ensures .count,
+        c .before .before .before .before .add-lost .ensures .count,
+        all-length (start .pre .1 .1 .4) (metas-of-call .ensures) (keys-of-call .ensures) (start .pre .0)
+            (λ i. omega (arith, known .given i)),
+        start .pre .1 .1 .5,
+      )),
       λ A t ν o C. entries-held (quotientList A t (bottomUp t) ν) (all-link C (metas-of-call
           .ensures) (keys-of-call .ensures) (start .pre .0) (λ i. omega (arith, known .given i))) all,
     )
@@ -122,4 +125,12 @@ returns c =
 pub make-spec : {M : Type 1} → statement M
 make-spec =
     tie.close
-    (tie.spec metas-of-requires keys-of-requires choose-all-requires add-lost-requires returns)
+    (tie.spec
+    metas-of-requires
+    keys-of-requires
+    choose-all-requires
+    add-lost-requires
+    same-length
+    same-length-2
+    same-length-3
+    returns)

@@ -1,4 +1,4 @@
--- `quotient::choosing::finish` meets its contract: the output is the name of the subtree that is
+-- `quotient::finishing::finish` meets its contract: the output is the name of the subtree that is
 -- found, or the transition's own.
 use Rattle.quotient.proofs.Appending.{appended-same, room-same}
 use Prim.Native.Nat.{_+_}
@@ -6,8 +6,8 @@ use native.Mathlib.Omega.{arith}
 use mathlib.Core.Path.{sym}
 use Rattle.quotient.proofs.Walking.{finished-own, finished-state}
 use borrow.Author.Needs.{needs}
-use Rattle.quotient.proofs.choosing.finish.Statement.{statement}
-use Rattle.quotient.proofs.choosing.finish.Tie as tie
+use Rattle.quotient.proofs.finishing.finish.Statement.{statement}
+use Rattle.quotient.proofs.finishing.finish.Tie as tie
 
 meta-at-requires : tie.Need-meta-at-requires
 meta-at-requires c κs = search needs
@@ -17,7 +17,7 @@ arity-of-requires c κs = search needs
 
 padded-requires : tie.Need-padded-requires
 padded-requires c κs =
-    let start = c .before .before .before in
+    let start = c .before .before .before .before .before in
     (omega (arith, c .arity-of .ensures, start .pre .0 .narrow), rw (c .arity-of .ensures) (start .pre .1 .1 .0))
 
 out-of-requires : tie.Need-out-of-requires
@@ -31,9 +31,10 @@ node-name-requires c κs = search needs
 
 emit-requires : tie.Need-emit-requires
 emit-requires c κs =
-    let start = c .before .before .before .before .before .before .before .before .before in
+    let start = c .before .before .before .before .before .before .before .before .before .before .before in
     let a = start .args in
-    let known = c .before .before .before .before .before .before .before .before .shared-slice-known in
+    let known = c .before .before .before .before .before .before .before .before .before
+    .before .shared-slice-known in
     let meta-at-call = c .before .before .before .before .before .before .before .meta-at in
     let arity-of-call = c .before .before .before .before .before .before .arity-of in
     let padded-call = c .before .before .before .before .before .padded in
@@ -46,25 +47,34 @@ emit-requires c κs =
           (arith, meta-at-call .ensures, start .pre .0 .narrow, known .given (a .at), known .given (a .at + 1)),
     )
 
+same-length : tie.Need-same-length
+same-length c = search needs
+
+same-length-2 : tie.Need-same-length-2
+same-length-2 c = search needs
+
 returns : tie.Need-returns
 returns c =
-    let start = c .before .before .before .before .before .before .before .before .before .before in
+    let start = c .before .before .before .before .before .before .before .before .before .before .before
+    .before .before .before .before .before in
     let a = start .args in
-    let meta-at-call = c .before .before .before .before .before .before .before .before .meta-at in
-    let arity-of-call = c .before .before .before .before .before .before .before .arity-of in
-    let padded-call = c .before .before .before .before .before .before .padded in
-    let out-of-call = c .before .before .before .before .before .out-of in
-    let if1 = c .before .before .before .before .if1 in
-    let node-name-call = c .before .before .before .node-name in
+    let meta-at-call = c .before .before .before .before .before .before .before .before .before .before
+    .before .before .meta-at in
+    let arity-of-call = c .before .before .before .before .before .before .before .before .before .before
+    .before .arity-of in
+    let padded-call = c .before .before .before .before .before .before .before .before .before .before .padded in
+    let out-of-call = c .before .before .before .before .before .before .before .before .before .out-of in
+    let if1 = c .before .before .before .before .before .before .before .before .if1 in
+    let node-name-call = c .before .before .before .before .before .before .before .node-name in
     appended-same ((finished-own (a .transitions .now) (a .at) (a .metas .now) (a .keys .now) (a .names .now) (a .m)
     (a .own) (a .prefix) (meta-at-call .ensures) (arity-of-call .ensures) (padded-call .ensures) (out-of-call
-    .ensures .0)) (if1 .taken) (node-name-call .ensures)) (c .emit .ensures)
+    .ensures .0)) (if1 .taken) (node-name-call .ensures)) (c .before .before .before .before .emit .ensures)
 
 emit-requires-2 : tie.Need-emit-requires-2
 emit-requires-2 c κs =
-    let start = c .before .before .before .before .before .before .before .before in
+    let start = c .before .before .before .before .before .before .before .before .before .before in
     let a = start .args in
-    let known = c .before .before .before .before .before .before .before .shared-slice-known in
+    let known = c .before .before .before .before .before .before .before .before .before .shared-slice-known in
     let meta-at-call = c .before .before .before .before .before .before .meta-at in
     let arity-of-call = c .before .before .before .before .before .arity-of in
     let padded-call = c .before .before .before .before .padded in
@@ -82,18 +92,26 @@ emit-requires-2 c κs =
       ),
     )
 
+same-length-3 : tie.Need-same-length-3
+same-length-3 c = search needs
+
+same-length-4 : tie.Need-same-length-4
+same-length-4 c = search needs
+
 returns-2 : tie.Need-returns-2
 returns-2 c =
-    let start = c .before .before .before .before .before .before .before .before .before in
+    let start = c .before .before .before .before .before .before .before .before .before .before .before
+    .before .before .before .before in
     let a = start .args in
-    let meta-at-call = c .before .before .before .before .before .before .before .meta-at in
-    let arity-of-call = c .before .before .before .before .before .before .arity-of in
-    let padded-call = c .before .before .before .before .before .padded in
-    let out-of-call = c .before .before .before .before .out-of in
-    let if1 = c .before .before .before .if1 in
+    let meta-at-call = c .before .before .before .before .before .before .before .before .before .before
+    .before .meta-at in
+    let arity-of-call = c .before .before .before .before .before .before .before .before .before .before .arity-of in
+    let padded-call = c .before .before .before .before .before .before .before .before .before .padded in
+    let out-of-call = c .before .before .before .before .before .before .before .before .out-of in
+    let if1 = c .before .before .before .before .before .before .before .if1 in
     appended-same ((finished-state (a .transitions .now) (a .at) (a .metas .now) (a .keys .now) (a .names .now) (a
     .m) (a .own) (a .prefix) (meta-at-call .ensures) (arity-of-call .ensures) (padded-call .ensures) (out-of-call
-    .ensures .0)) (if1 .left)) (c .emit2 .ensures)
+    .ensures .0)) (if1 .left)) (c .before .before .before .before .emit2 .ensures)
 
 pub finish-spec : {M : Type 1} → statement M
 finish-spec =
@@ -106,6 +124,10 @@ finish-spec =
     cast-out
     node-name-requires
     emit-requires
+    same-length
+    same-length-2
     returns
     emit-requires-2
+    same-length-3
+    same-length-4
     returns-2)
