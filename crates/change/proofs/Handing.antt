@@ -12,8 +12,8 @@ use Rattle.automata.specs.Change.{subtreeNumber}
 use Rattle.automata.specs.NamedChange.{changedAutomaton}
 use Rattle.change.specs.Between.{betweenNames}
 use Rattle.change.specs.Classes.{Classed, classOfName}
-use Rattle.change.specs.Given.{Fitting, Given, Named}
-use Rattle.format.specs.Format.{headBytes, maxArity, maxNodes, maxStates, maxTransitions, tableBytes}
+use Rattle.change.specs.Given.{Fitting, Given, Named, fitsWithin}
+use Rattle.format.specs.Format.{headBytes, maxArity, maxNodes, maxStates, tableBytes}
 use Rattle.naming.specs.Choice.{nameIn}
 use Rattle.quotient.specs.Kept.{KeptAbove}
 use Rattle.quotient.specs.Nodes.{Nodes}
@@ -95,18 +95,20 @@ module _ {inserting : Bool} {t : Tree} {b : List ℕ} {k n : ℕ} {r : Subtrees}
       (r .arities) (r .children) (r .states) names firsts nexts
   fitting-chosen = record { changed = named-arrays (F .named); chained = F .chained }
 
-  pub fitting-few : length (betweenNames t b names) ≤ maxTransitions
-  fitting-few =
-      let A = decode b in
-      let g = F .named .given in
-      let B = changedAutomaton inserting t A in
-      let h = leb-true (length (B .transitions)) maxTransitions (and-right (leb (states B) maxStates) _ (F .fits)) in
-      omega (
-        arith,
-        h,
-        searched-length inserting A (given-canonical g) t (bottomUp t) (given-listed g) (nameIn (bottomUp t) names)
-            (F .named .searched),
-      )
+-- the transitions between names are no more than those of the changed automaton
+pub between-few : {inserting : Bool} {t : Tree} {b : List ℕ} {k n : ℕ} {r : Subtrees} {o names : List ℕ} →
+    Named inserting t b k n r o names → (limit : ℕ) →
+    fitsWithin limit (changedAutomaton inserting t (decode b)) ≡ true → length (betweenNames t b names) ≤ limit
+between-few {inserting} {t} {b} {k} {n} {r} {o} {names} N limit e =
+    let A = decode b in
+    let B = changedAutomaton inserting t A in
+    let h = leb-true (length (B .transitions)) limit (and-right (leb (states B) maxStates) _ e) in
+    omega (
+      arith,
+      h,
+      searched-length inserting A (given-canonical (N .given)) t (bottomUp t) (given-listed (N .given))
+          (nameIn (bottomUp t) names) (N .searched),
+    )
 
 -- a table has room, and the classes stand beside
 pub fitting : {inserting : Bool} {t : Tree} {b : List ℕ} {k n : ℕ} {r : Subtrees} {o names firsts nexts sizes cl : List ℕ}

@@ -28,6 +28,7 @@ use Rattle.lists.proofs.Parts.{part}
 use Rattle.table.proofs.Decoded.{decoded-class, decoded-states}
 use Rattle.table.proofs.Laid.{layout-laid}
 use Rattle.trees.proofs.Trees.{eqTree-same}
+use Rattle.uses.specs.Spans.{UsesWithin}
 
 module _ {t : Tree} {b : List ℕ} {k n : ℕ} {r : Subtrees} (g : Given t b k n r) where
   given-padded : (i : ℕ) → i < k → Padded (part b headBytes) (transitionBytes * i)
@@ -50,13 +51,15 @@ module _ {t : Tree} {b : List ℕ} {k n : ℕ} {r : Subtrees} (g : Given t b k n
     child-before = g .lists .stored .child-before;
   }
 
-  pub given-sized : Sized b (part b headBytes) k n (r .count) (r .arities) (r .children)
-  given-sized = record {
+  pub given-sized : {lows lasts : List ℕ} → UsesWithin (part b headBytes) k lows lasts →
+      Sized b (part b headBytes) k n (r .count) (r .arities) (r .children) lows lasts
+  given-sized within = record {
     table = given-size g;
     searchable = given-searchable;
     over = given-over g;
     states = given-few g;
     shaped = given-shaped;
+    uses = within;
   }
 
   pub given-held : Holds (decode b) t (bottomUp t) (r .count) (r .labels) (r .arities) (r .children) (r .states)

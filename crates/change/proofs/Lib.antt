@@ -1,5 +1,6 @@
 pub mod Classing
 pub mod Inputs
+pub mod Blank
 pub mod SubtreeStates
 pub mod Outputs
 pub mod NameClasses

@@ -43,3 +43,8 @@ pub fitting-same : {inserting : Bool} {t : Tree} {b b' : List ℕ} {k n : ℕ} {
     Fitting inserting t b' k n r o names firsts nexts cl
 fitting-same {inserting} {t} {b} {b'} {k} {n} {r} {o} {names} {firsts} {nexts} {cl} e F =
     subst (λ (x : List ℕ). Fitting inserting t x k n r o names firsts nexts cl) (sym e) F
+
+pub some-same : {b b' : List ℕ} {k n : ℕ} {r : Subtrees} {names firsts nexts : List ℕ} {limit : ℕ} → b' ≡ b →
+    SomeFitting b k n r names firsts nexts limit → SomeFitting b' k n r names firsts nexts limit
+some-same {b} {b'} {k} {n} {r} {names} {firsts} {nexts} {limit} e F =
+    subst (λ (x : List ℕ). SomeFitting x k n r names firsts nexts limit) (sym e) F

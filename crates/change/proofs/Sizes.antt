@@ -13,18 +13,18 @@ use Rattle.automata.specs.OpenStates.{openState, sumOver}
 use Rattle.automata.specs.Quotient.{goneCount, hasOwn, newCount, ownName}
 use Rattle.calls.specs.Calls.{changed}
 use Rattle.change.specs.Changing.{changeOf}
-use Rattle.change.specs.Given.{Named}
-use Rattle.format.specs.Format.{maxStates, maxTransitions}
+use Rattle.change.specs.Given.{Named, fitsWithin}
+use Rattle.format.specs.Format.{maxStates}
 use Rattle.lists.specs.Positions.{upFrom}
 use Rattle.lists.specs.Tests.{filter}
 use Rattle.naming.specs.Choice.{nameIn}
 use Rattle.quotient.specs.Setting.{keptCount, keptLengths}
 use Rattle.subtrees.specs.Store.{bottomUp}
 use Rattle.subtrees.specs.declared.Subtrees.{Subtrees}
-use Rattle.table.specs.Intake.{fitsTable}
 use Rattle.table.specs.Layout.{decode}
 use Rattle.trees.specs.Tree.{Tree}
 use Rattle.automata.proofs.NamedChange.{searched-states, searched-transitions}
+use Rattle.lists.proofs.Tests.{and-both, and-left, and-right}
 use Rattle.change.proofs.Inputs.{given-canonical, given-listed}
 
 pub changed-automaton : (inserting : Bool) (t : Tree) (A : Automaton) →
@@ -49,15 +49,15 @@ kept-used A t ts ν =
     ∙ ap (λ (k : ℕ). length (filter (openState A t) (upFrom 1 (states A))) + k)
     (length-map (filter (hasOwn A ts ν) ts) (ownName A ts))
 
--- the counts say whether a table has room for the changed automaton
+-- the counts say whether the changed automaton is within a limit
 pub counts-fit : {inserting : Bool} {t : Tree} {b : List ℕ} {k n : ℕ} {r : Subtrees} {o names : List ℕ} →
-    Named inserting t b k n r o names → {f : Bool} →
+    Named inserting t b k n r o names → (limit : ℕ) {f : Bool} →
     f ≡ (leb (keptCount (decode b) t (bottomUp t) (nameIn (bottomUp t) names)) maxStates &&
     leb (sumOver (keptLengths (decode b) t (nameIn (bottomUp t) names)) (decode b .transitions) +
     newCount (decode b) (bottomUp t) (nameIn (bottomUp t) names))
-    (maxTransitions + goneCount (decode b) (bottomUp t) (nameIn (bottomUp t) names))) →
-    f ≡ fitsTable (changedAutomaton inserting t (decode b))
-counts-fit {inserting} {t} {b} {k} {n} {r} {o} {names} N {f} e =
+    (limit + goneCount (decode b) (bottomUp t) (nameIn (bottomUp t) names))) →
+    f ≡ fitsWithin limit (changedAutomaton inserting t (decode b))
+counts-fit {inserting} {t} {b} {k} {n} {r} {o} {names} N limit {f} e =
     let A = decode b in
     let ts = bottomUp t in
     let ν = nameIn (bottomUp t) names in
@@ -66,5 +66,11 @@ counts-fit {inserting} {t} {b} {k} {n} {r} {o} {names} N {f} e =
     e ∙ ap₂ (λ (x y : Bool). x && y)
     (ap (λ (i : ℕ). leb i maxStates) (sym (kept-used A t ts ν) ∙ sym (searched-states inserting A X t ts L ν (N .searched))))
     (leb-added (length (changedAutomaton inserting t A .transitions))
-    (sumOver (keptLengths A t ν) (A .transitions) + newCount A ts ν) maxTransitions (goneCount A ts ν)
+    (sumOver (keptLengths A t ν) (A .transitions) + newCount A ts ν) limit (goneCount A ts ν)
     (searched-transitions inserting A X t ts L ν (N .searched)))
+
+-- what is within a limit is within a greater one
+pub within-more : (A : Automaton) (l g : ℕ) → l ≤ g → fitsWithin l A ≡ true → fitsWithin g A ≡ true
+within-more A l g h e =
+    let few = leb-true (length (A .transitions)) l (and-right (leb (states A) maxStates) _ e) in
+    and-both (and-left (leb (states A) maxStates) _ e) (le-leb (length (A .transitions)) g (omega arith))

@@ -1,13 +1,16 @@
 -- What a change works on: a table that passed and a tree with its subtrees, their names after the change, and what is
 -- known once a table has room for the changed automaton.
-use mathlib.Core.Bool.{Bool, true}
+use mathlib.Core.Bool.{Bool, _&&_, true}
 use mathlib.Core.List.{List}
 use mathlib.Core.Path.{_≡_}
-use Prim.Native.Nat.{_+_, ℕ}
+use Prim.Native.Nat.{_+_, _≤_, ℕ}
+use lib.Dec.{leb}
+use lib.ListN.{length}
+use Rattle.automata.specs.Automaton.{Automaton, states}
 use Rattle.automata.specs.Change.{subtreeNumber}
 use Rattle.automata.specs.NamedChange.{changedAutomaton, changedSet}
 use Rattle.automata.specs.Searched.{Searched}
-use Rattle.format.specs.Format.{AllBytes}
+use Rattle.format.specs.Format.{AllBytes, maxStates}
 use Rattle.naming.specs.Choice.{nameIn}
 use Rattle.pairs.specs.Counts.{Open}
 use Rattle.quotient.specs.Kept.{Chained}
@@ -17,6 +20,7 @@ use Rattle.table.specs.Intake.{fitsTable, tableRefusal}
 use Rattle.table.specs.Layout.{decode, stateCount, transitionCount}
 use Rattle.trees.specs.Legal.{Legal}
 use Rattle.trees.specs.Tree.{Tree}
+use Rattle.change.specs.Between.{betweenNames}
 use Rattle.change.specs.Classes.{Classed, classOfName}
 
 -- the table b passed, with k transitions over n states, and r has the subtrees of the legal tree t
@@ -39,6 +43,19 @@ pub record Named (inserting : Bool) (t : Tree) (b : List ℕ) (k n : ℕ) (r : S
   pub searched : Searched (decode b) t (changedSet inserting (decode b) t) (subtreeNumber (bottomUp t))
       (nameIn (bottomUp t) names)
 
+-- an automaton has no more states than a table holds, and no more transitions than a limit
+abbrev pub fitsWithin : ℕ → Automaton → Bool
+fitsWithin limit A = leb (states A) maxStates && leb (length (A .transitions)) limit
+
+-- the length of small arrays
+abbrev pub smallTransitions : ℕ
+smallTransitions = 64
+
+-- a table has room for an automaton, and small arrays have
+pub record Fits (fits small : Bool) (A : Automaton) : Type 0 where
+  pub table : fits ≡ fitsTable A
+  pub few : small ≡ true → fitsWithin smallTransitions A ≡ true
+
 -- a table has room for the changed automaton; the kept names are chained, and cl has their classes
 pub record Fitting (inserting : Bool) (t : Tree) (b : List ℕ) (k n : ℕ) (r : Subtrees)
     (o names firsts nexts cl : List ℕ) : Type 0 where
@@ -47,8 +64,8 @@ pub record Fitting (inserting : Bool) (t : Tree) (b : List ℕ) (k n : ℕ) (r :
   pub classed : Classed (classOfName b n (r .states) (n + r .root) inserting) (n + r .count) cl
   pub fits : fitsTable (changedAutomaton inserting t (decode b)) ≡ true
 
--- some change of some tree does
-abbrev pub SomeFitting : List ℕ → ℕ → ℕ → Subtrees → List ℕ → List ℕ → List ℕ → Type 0
-SomeFitting b k n r names firsts nexts =
+-- some change of some tree does, with no more transitions between names than a limit
+abbrev pub SomeFitting : List ℕ → ℕ → ℕ → Subtrees → List ℕ → List ℕ → List ℕ → ℕ → Type 0
+SomeFitting b k n r names firsts nexts limit =
     (inserting : Bool) × (t : Tree) × (o : List ℕ) × (cl : List ℕ) ×
-    Fitting inserting t b k n r o names firsts nexts cl
+    Fitting inserting t b k n r o names firsts nexts cl × (length (betweenNames t b names) ≤ limit)

@@ -1,5 +1,6 @@
 // A tree put into the set of a table, or taken out. Its subtrees get names after the change, and the new transitions stand
 // between names. Refusals 16 and 17 are found by counting, before anything is written.
+mod arrays; // the arrays that a change works in
 mod classes; // a class for each name
 mod rebuilding; // the new table
 
@@ -10,26 +11,27 @@ ghost use Prim.Native.Nat.{_≤_, ℕ};
 ghost use lib.ListN.{length, replicate};
 ghost use Rattle.automata.specs.NamedChange.{changedAutomaton};
 ghost use Rattle.calls.specs.declared.Answer.the-variants.{Done};
-ghost use Rattle.format.specs.Format.{scratchBytes, tableBytes};
+ghost use Rattle.format.specs.Format.{maxNodes, maxTransitions, scratchBytes, tableBytes};
 ghost use Rattle.pairs.specs.Counts.{PairsCounted};
 ghost use Rattle.quotient.specs.Kept.{KeptAbove};
 ghost use Rattle.running.specs.Running.{HoldsStates};
-ghost use Rattle.table.specs.Intake.{fitsTable, tableRefusal};
+ghost use Rattle.table.specs.Intake.{tableRefusal};
 ghost use Rattle.table.specs.Layout.{decode, stateCount, transitionCount};
 ghost use Rattle.trees.specs.Listing.{listingRefusal, readTree};
 ghost use Rattle.trees.specs.Tree.{Tree};
 ghost use Rattle.change.specs.Changing.{Worked, changeOf, changedOutcome, resultOf};
-ghost use Rattle.change.specs.Given.{Given, Named, SomeGiven};
+ghost use Rattle.change.specs.Given.{Fits, Given, Named, SomeGiven, fitsWithin, smallTransitions};
+use arrays::SMALL;
 use calls::Answer;
 use classes::name_classes;
 use fields::transition_count;
 use format::BYTE_VALUES;
 use format::HEAD_BYTES;
 use format::MAX_NODES;
+use format::MAX_TRANSITIONS;
 use format::wide;
 use naming::classes_of;
 use naming::name_all;
-use naming::uses_of;
 use pairs::Pairs;
 use pairs::count_pairs;
 use quotient::keep;
@@ -37,6 +39,7 @@ use quotient::table_fits;
 use rebuilding::replace;
 use subtrees::Subtrees;
 use subtrees::collect;
+use uses::uses_of;
 
 // Zeroes every byte.
 fn clear(scratch: &mut [u8])
@@ -71,7 +74,9 @@ fn name(
     let opens = p.opens;
     let weights = p.weights;
     let classes = classes_of(table, m, &states, wide(s.root), inserting);
-    let uses = uses_of(&table[HEAD_BYTES..], count);
+    let spans = uses_of(&table[HEAD_BYTES..], count);
+    let lows = spans.lows;
+    let lasts = spans.lasts;
     name_all(
         table,
         &table[HEAD_BYTES..],
@@ -84,12 +89,14 @@ fn name(
         &states,
         &weights,
         &classes,
-        &uses,
+        &lows,
+        &lasts,
         &opens,
     )
 }
 
-// Whether a table has room for the changed automaton. `sizes` has the number of kept names of each state.
+// Whether the changed automaton has no more states than a table and no more transitions than the limit. `sizes` has the
+// number of kept names of each state.
 fn fits(
     table: &[u8],
     count: usize,
@@ -98,12 +105,16 @@ fn fits(
     names: &[u8; MAX_NODES],
     opens: &[u8; BYTE_VALUES],
     sizes: &[u8; BYTE_VALUES],
+    limit: usize,
 ) -> bool
     requires { ⌜ SomeGiven (now table) count n s ⌝ }
+    requires { ⌜ maxNodes ≤ limit ⌝ }
+    requires { ⌜ limit ≤ maxTransitions ⌝ }
     ensures { λ r. ⌜ ((inserting : Bool) (t : Tree) (firsts nexts : List ℕ) →
         Named inserting t (now (table .entry)) count n s (now (opens .entry)) (now (names .entry)) →
-        KeptAbove n (s .count) (now (opens .entry)) (s .states) (now (names .entry)) 0 firsts nexts (now (sizes .entry)) →
-        r ≡ fitsTable (changedAutomaton inserting t (decode (now (table .entry))))) ⌝ }
+        KeptAbove n (s .count) (now (opens .entry)) (s .states) (now (names .entry)) 0 firsts nexts (now
+        (sizes .entry)) →
+        r ≡ fitsWithin limit (changedAutomaton inserting t (decode (now (table .entry))))) ⌝ }
 {
     let m = s.count;
     let labels = s.labels;
@@ -122,7 +133,66 @@ fn fits(
         names,
         opens,
         sizes,
+        limit,
     )
+}
+
+// The same for small arrays, which are not asked if the table has more transitions.
+fn fits_small(
+    table: &[u8],
+    count: usize,
+    n: usize,
+    s: Subtrees,
+    names: &[u8; MAX_NODES],
+    opens: &[u8; BYTE_VALUES],
+    sizes: &[u8; BYTE_VALUES],
+) -> bool
+    requires { ⌜ SomeGiven (now table) count n s ⌝ }
+    ensures { λ r. ⌜ (r ≡ true → (inserting : Bool) (t : Tree) (firsts nexts : List ℕ) →
+        Named inserting t (now (table .entry)) count n s (now (opens .entry)) (now (names .entry)) →
+        KeptAbove n (s .count) (now (opens .entry)) (s .states) (now (names .entry)) 0 firsts nexts (now
+        (sizes .entry)) →
+        fitsWithin smallTransitions (changedAutomaton inserting t (decode (now (table .entry)))) ≡ true) ⌝ }
+{
+    if count > SMALL {
+        return false;
+    }
+    fits(table, count, n, s, names, opens, sizes, SMALL)
+}
+
+// Whether a table has room for the changed automaton, and whether small arrays have.
+struct Fit {
+    fits: bool,
+    small: bool,
+}
+
+fn fit_of(
+    table: &[u8],
+    count: usize,
+    n: usize,
+    s: Subtrees,
+    names: &[u8; MAX_NODES],
+    opens: &[u8; BYTE_VALUES],
+    sizes: &[u8; BYTE_VALUES],
+) -> Fit
+    requires { ⌜ SomeGiven (now table) count n s ⌝ }
+    ensures { λ r. ⌜ ((inserting : Bool) (t : Tree) (firsts nexts : List ℕ) →
+        Named inserting t (now (table .entry)) count n s (now (opens .entry)) (now (names .entry)) →
+        KeptAbove n (s .count) (now (opens .entry)) (s .states) (now (names .entry)) 0 firsts nexts (now
+        (sizes .entry)) →
+        Fits (r .fits) (r .small) (changedAutomaton inserting t (decode (now (table .entry))))) ⌝ }
+{
+    if fits_small(table, count, n, s, names, opens, sizes) {
+        return Fit {
+            fits: true,
+            small: true,
+        };
+    }
+    let large = fits(table, count, n, s, names, opens, sizes, MAX_TRANSITIONS);
+    Fit {
+        fits: large,
+        small: false,
+    }
 }
 
 // The answer of a change that was done, from the new table.
@@ -164,7 +234,8 @@ fn apply(
     let firsts = kept.firsts;
     let nexts = kept.nexts;
     let sizes = kept.sizes;
-    if !fits(table, count, n, s, &names, &opens, &sizes) {
+    let fit = fit_of(table, count, n, s, &names, &opens, &sizes);
+    if !fit.fits {
         return Answer::Refused { number: 17 };
     }
     let own = n + wide(s.root);
@@ -179,6 +250,7 @@ fn apply(
         &firsts,
         &nexts,
         &classes,
+        fit.small,
     );
     done(table)
 }

@@ -1,38 +1,33 @@
 // The table of the changed set. Its transitions are made between names. If the numbers of the names are found at once they
 // are written with them; else they go through the scratch, and the numbers are found by the rule.
-ghost use mathlib.Core.Bool.{Bool, cond, false};
+ghost use mathlib.Core.Bool.{Bool, cond, false, true};
 ghost use mathlib.Core.List.{List};
 ghost use mathlib.Core.Path.{_≡_};
 ghost use Prim.Native.Nat.{_+_, _≤_, ℕ};
 ghost use lib.ListN.{length};
 ghost use Rattle.automata.specs.NamedChange.{changedAutomaton};
-ghost use Rattle.format.specs.Format.{byteValues, scratchBytes};
+ghost use Rattle.format.specs.Format.{byteValues, maxTransitions, scratchBytes};
 ghost use Rattle.packed.specs.Heads.{Room};
 ghost use Rattle.table.specs.Layout.{decode, encode};
 ghost use Rattle.trees.specs.Tree.{Tree};
 ghost use Rattle.change.specs.Between.{Packed, Run};
-ghost use Rattle.change.specs.Given.{Fitting, SomeFitting};
+ghost use Rattle.change.specs.Given.{Fitting, SomeFitting, smallTransitions};
+use crate::arrays::few_entries;
+use crate::arrays::few_links;
+use crate::arrays::no_entries;
+use crate::arrays::no_links;
 use format::BYTE_VALUES;
 use format::HEAD_BYTES;
 use format::MAX_NODES;
-use format::MAX_TRANSITIONS;
 use minimize::write::write;
+use numbering::givers_of;
 use numbering::rebuild;
 use numbering::write_run;
 use quotient::make;
 use subtrees::Subtrees;
 
-// No entries. A function of its own, so that no other proof computes with so many numbers.
-fn no_entries() -> [u64; MAX_TRANSITIONS] {
-    [0u64; MAX_TRANSITIONS]
-}
-
-// No links. For the same reason.
-fn no_links() -> [u16; MAX_TRANSITIONS] {
-    [0u16; MAX_TRANSITIONS]
-}
-
-// The transitions between names, as two numbers each, and how many they are.
+// The transitions between names, as two numbers each, and how many they are. `ends` gets their number after each
+// transition of the table.
 fn make_all(
     table: &[u8],
     count: usize,
@@ -41,10 +36,11 @@ fn make_all(
     names: &[u8; MAX_NODES],
     firsts: &[u8; BYTE_VALUES],
     nexts: &[u8; BYTE_VALUES],
-    heads: &mut [u64; MAX_TRANSITIONS],
-    args: &mut [u64; MAX_TRANSITIONS],
+    heads: &mut [u64],
+    args: &mut [u64],
+    ends: &mut [u16],
 ) -> usize
-    requires { ⌜ SomeFitting (now table) count n s (now names) (now firsts) (now nexts) ⌝ }
+    requires { ⌜ SomeFitting (now table) count n s (now names) (now firsts) (now nexts) (length (now heads)) ⌝ }
     requires { ⌜ Room (now heads) (now args) ⌝ }
     ensures { λ r. ⌜ ((inserting : Bool) (t : Tree) (o cl : List ℕ) → Fitting inserting t (now (table .entry)) count n s o
         (now (names .entry)) (now (firsts .entry)) (now (nexts .entry)) cl →
@@ -69,11 +65,13 @@ fn make_all(
         nexts,
         heads,
         args,
+        ends,
     )
 }
 
-// Writes the new table if the numbers of the names are found at once; else leaves the table as it is.
-fn rebuild_table(
+// Writes the new table if the numbers of the names are found at once; else leaves the table as it is. The arrays are lent.
+// `few` says whether the numbers are sought from few transitions first.
+fn rebuild_in(
     table: &mut [u8],
     count: usize,
     n: usize,
@@ -82,8 +80,103 @@ fn rebuild_table(
     firsts: &[u8; BYTE_VALUES],
     nexts: &[u8; BYTE_VALUES],
     classes: &[u8; BYTE_VALUES],
+    heads: &mut [u64],
+    args: &mut [u64],
+    room: &mut [u64],
+    spare: &mut [u64],
+    next: &mut [u16],
+    ends: &mut [u16],
+    few: bool,
 ) -> bool
-    requires { ⌜ SomeFitting (now table) count n s (now names) (now firsts) (now nexts) ⌝ }
+    requires { ⌜ SomeFitting (now table) count n s (now names) (now firsts) (now nexts) (length (now heads)) ⌝ }
+    requires { ⌜ Room (now heads) (now args) ⌝ }
+    requires { ⌜ Room (now room) (now spare) ⌝ }
+    requires { ⌜ length (now room) ≡ length (now heads) ⌝ }
+    requires { ⌜ length (now next) ≡ length (now heads) ⌝ }
+    requires { ⌜ length (now classes) ≡ byteValues ⌝ }
+    ensures { λ r. ⌜ ((inserting : Bool) (t : Tree) (o : List ℕ) → Fitting inserting t (now (table .entry)) count n s o
+        (now (names .entry)) (now (firsts .entry)) (now (nexts .entry)) (now (classes .entry)) →
+        now (table .exit) ≡ cond r (encode (changedAutomaton inserting t (decode (now (table .entry)))))
+        (now (table .entry))) ⌝ }
+    ensures { λ r. ⌜ (r ≡ false → now (table .exit) ≡ now (table .entry)) ⌝ }
+{
+    let made = make_all(table, count, n, s, names, firsts, nexts, heads, args, ends);
+    let givers = givers_of(&table[HEAD_BYTES..], count);
+    rebuild(
+        heads,
+        args,
+        made,
+        room,
+        spare,
+        next,
+        classes,
+        table,
+        n,
+        count,
+        ends,
+        &givers,
+        few,
+    )
+}
+
+// The same with small arrays.
+fn rebuild_small(
+    table: &mut [u8],
+    count: usize,
+    n: usize,
+    s: Subtrees,
+    names: &[u8; MAX_NODES],
+    firsts: &[u8; BYTE_VALUES],
+    nexts: &[u8; BYTE_VALUES],
+    classes: &[u8; BYTE_VALUES],
+    few: bool,
+) -> bool
+    requires { ⌜ SomeFitting (now table) count n s (now names) (now firsts) (now nexts) smallTransitions ⌝ }
+    requires { ⌜ length (now classes) ≡ byteValues ⌝ }
+    ensures { λ r. ⌜ ((inserting : Bool) (t : Tree) (o : List ℕ) → Fitting inserting t (now (table .entry)) count n s o
+        (now (names .entry)) (now (firsts .entry)) (now (nexts .entry)) (now (classes .entry)) →
+        now (table .exit) ≡ cond r (encode (changedAutomaton inserting t (decode (now (table .entry)))))
+        (now (table .entry))) ⌝ }
+    ensures { λ r. ⌜ (r ≡ false → now (table .exit) ≡ now (table .entry)) ⌝ }
+{
+    let mut heads = few_entries();
+    let mut args = few_entries();
+    let mut room = few_entries();
+    let mut spare = few_entries();
+    let mut next = few_links();
+    let mut ends = few_links();
+    rebuild_in(
+        table,
+        count,
+        n,
+        s,
+        names,
+        firsts,
+        nexts,
+        classes,
+        &mut heads,
+        &mut args,
+        &mut room,
+        &mut spare,
+        &mut next,
+        &mut ends,
+        few,
+    )
+}
+
+// The same with arrays for all transitions of a table.
+fn rebuild_large(
+    table: &mut [u8],
+    count: usize,
+    n: usize,
+    s: Subtrees,
+    names: &[u8; MAX_NODES],
+    firsts: &[u8; BYTE_VALUES],
+    nexts: &[u8; BYTE_VALUES],
+    classes: &[u8; BYTE_VALUES],
+    few: bool,
+) -> bool
+    requires { ⌜ SomeFitting (now table) count n s (now names) (now firsts) (now nexts) maxTransitions ⌝ }
     requires { ⌜ length (now classes) ≡ byteValues ⌝ }
     ensures { λ r. ⌜ ((inserting : Bool) (t : Tree) (o : List ℕ) → Fitting inserting t (now (table .entry)) count n s o
         (now (names .entry)) (now (firsts .entry)) (now (nexts .entry)) (now (classes .entry)) →
@@ -96,7 +189,8 @@ fn rebuild_table(
     let mut room = no_entries();
     let mut spare = no_entries();
     let mut next = no_links();
-    let made = make_all(
+    let mut ends = no_links();
+    rebuild_in(
         table,
         count,
         n,
@@ -104,19 +198,44 @@ fn rebuild_table(
         names,
         firsts,
         nexts,
+        classes,
         &mut heads,
         &mut args,
-    );
-    rebuild(
-        &mut heads,
-        &mut args,
-        made,
         &mut room,
         &mut spare,
         &mut next,
-        classes,
-        table,
+        &mut ends,
+        few,
     )
+}
+
+// The same with the arrays that are needed.
+fn rebuild_table(
+    table: &mut [u8],
+    count: usize,
+    n: usize,
+    s: Subtrees,
+    names: &[u8; MAX_NODES],
+    firsts: &[u8; BYTE_VALUES],
+    nexts: &[u8; BYTE_VALUES],
+    classes: &[u8; BYTE_VALUES],
+    small: bool,
+    few: bool,
+) -> bool
+    requires { ⌜ SomeFitting (now table) count n s (now names) (now firsts) (now nexts) maxTransitions ⌝ }
+    requires { ⌜ (small ≡ true → SomeFitting (now table) count n s (now names) (now firsts) (now nexts)
+        smallTransitions) ⌝ }
+    requires { ⌜ length (now classes) ≡ byteValues ⌝ }
+    ensures { λ r. ⌜ ((inserting : Bool) (t : Tree) (o : List ℕ) → Fitting inserting t (now (table .entry)) count n s o
+        (now (names .entry)) (now (firsts .entry)) (now (nexts .entry)) (now (classes .entry)) →
+        now (table .exit) ≡ cond r (encode (changedAutomaton inserting t (decode (now (table .entry)))))
+        (now (table .entry))) ⌝ }
+    ensures { λ r. ⌜ (r ≡ false → now (table .exit) ≡ now (table .entry)) ⌝ }
+{
+    if small {
+        return rebuild_small(table, count, n, s, names, firsts, nexts, classes, few);
+    }
+    rebuild_large(table, count, n, s, names, firsts, nexts, classes, few)
 }
 
 // Writes the transitions between names into the scratch. Returns how many they are.
@@ -130,7 +249,7 @@ fn write_scratch(
     nexts: &[u8; BYTE_VALUES],
     scratch: &mut [u8],
 ) -> usize
-    requires { ⌜ SomeFitting (now table) count n s (now names) (now firsts) (now nexts) ⌝ }
+    requires { ⌜ SomeFitting (now table) count n s (now names) (now firsts) (now nexts) maxTransitions ⌝ }
     requires { ⌜ length (now scratch) ≡ scratchBytes ⌝ }
     ensures { λ r. ⌜ ((inserting : Bool) (t : Tree) (o cl : List ℕ) → Fitting inserting t (now (table .entry)) count n s o
         (now (names .entry)) (now (firsts .entry)) (now (nexts .entry)) cl →
@@ -138,6 +257,7 @@ fn write_scratch(
 {
     let mut heads = no_entries();
     let mut args = no_entries();
+    let mut ends = no_links();
     let made = make_all(
         table,
         count,
@@ -148,6 +268,7 @@ fn write_scratch(
         nexts,
         &mut heads,
         &mut args,
+        &mut ends,
     );
     write_run(scratch, 0, &heads, &args, made);
     made
@@ -165,7 +286,7 @@ fn renumber_table(
     nexts: &[u8; BYTE_VALUES],
     classes: &[u8; BYTE_VALUES],
 )
-    requires { ⌜ SomeFitting (now table) count n s (now names) (now firsts) (now nexts) ⌝ }
+    requires { ⌜ SomeFitting (now table) count n s (now names) (now firsts) (now nexts) maxTransitions ⌝ }
     requires { ⌜ length (now scratch) ≡ scratchBytes ⌝ }
     ensures { λ _. ⌜ ((inserting : Bool) (t : Tree) (o : List ℕ) → Fitting inserting t (now (table .entry)) count n s o
         (now (names .entry)) (now (firsts .entry)) (now (nexts .entry)) (now (classes .entry)) →
@@ -176,7 +297,7 @@ fn renumber_table(
     write(scratch, made, classes, n + m, table);
 }
 
-// Writes the new table.
+// Writes the new table. If `small`, its transitions fit small arrays.
 pub fn replace(
     table: &mut [u8],
     scratch: &mut [u8],
@@ -187,15 +308,43 @@ pub fn replace(
     firsts: &[u8; BYTE_VALUES],
     nexts: &[u8; BYTE_VALUES],
     classes: &[u8; BYTE_VALUES],
+    small: bool,
 )
-    requires { ⌜ SomeFitting (now table) count n s (now names) (now firsts) (now nexts) ⌝ }
+    requires { ⌜ SomeFitting (now table) count n s (now names) (now firsts) (now nexts) maxTransitions ⌝ }
+    requires { ⌜ (small ≡ true → SomeFitting (now table) count n s (now names) (now firsts) (now nexts)
+        smallTransitions) ⌝ }
     requires { ⌜ length (now scratch) ≡ scratchBytes ⌝ }
     requires { ⌜ length (now classes) ≡ byteValues ⌝ }
     ensures { λ _. ⌜ ((inserting : Bool) (t : Tree) (o : List ℕ) → Fitting inserting t (now (table .entry)) count n s o
         (now (names .entry)) (now (firsts .entry)) (now (nexts .entry)) (now (classes .entry)) →
         now (table .exit) ≡ encode (changedAutomaton inserting t (decode (now (table .entry))))) ⌝ }
 {
-    if rebuild_table(table, count, n, s, names, firsts, nexts, classes) {
+    if rebuild_table(
+        table,
+        count,
+        n,
+        s,
+        names,
+        firsts,
+        nexts,
+        classes,
+        small,
+        true,
+    ) {
+        return;
+    }
+    if rebuild_table(
+        table,
+        count,
+        n,
+        s,
+        names,
+        firsts,
+        nexts,
+        classes,
+        small,
+        false,
+    ) {
         return;
     }
     renumber_table(table, scratch, count, n, s, names, firsts, nexts, classes);

@@ -13,25 +13,14 @@ use Rattle.automata.specs.Renumber.{renumberBy}
 use Rattle.fields.specs.Fields.{firstArgs}
 use Rattle.format.specs.Format.{maxArity}
 use Rattle.lists.specs.Positions.{upFrom}
-use Rattle.lists.specs.Tests.{every}
-use Rattle.marking.specs.Marks.{marked}
 use Rattle.minimize.specs.Renaming.{nameIn}
 use Rattle.table.specs.Layout.{argOf, arityOf, labelOf, transitionAt}
 use Rattle.fields.proofs.Searching.{LexFrom, lex-agrees, lex-differs, lex-start}
-use Rattle.fields.proofs.Transitions.{args-every, args-length}
-use Rattle.lists.proofs.Loops.{EveryFrom}
-
--- argument j of the transition at a byte is marked
-abbrev pub argMarked : List ℕ → List ℕ → ℕ → ℕ → Bool
-argMarked marks s at j = marked marks (argOf s at j)
+use Rattle.fields.proofs.Transitions.{args-length}
 
 -- the name of argument j of the transition at a byte
 abbrev pub argName : List ℕ → List ℕ → ℕ → ℕ → ℕ
 argName names s at j = nameIn names (argOf s at j)
-
-pub marked-start : (marks s : List ℕ) (at : ℕ) {n : ℕ} → n ≡ arityOf s at →
-    EveryFrom (every (marked marks) (transitionAt s at .args)) (argMarked marks s at) n 0
-marked-start marks s at e = args-every (marked marks) s at e
 
 pub names-start : (names s : List ℕ) (a b n : ℕ) →
     LexFrom (lex (map (nameIn names) (firstArgs s a n)) (map (nameIn names) (firstArgs s b n)))

@@ -1,5 +1,4 @@
 -- No names: a table of zeros.
-use mathlib.Core.List.{List}
 use mathlib.Core.Path.{_≡_, refl}
 use Prim.Native.Nat.{suc, zero, ℕ}
 use lib.ListN.{getD, length, length-replicate}

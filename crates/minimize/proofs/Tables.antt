@@ -40,6 +40,7 @@ pub record ClassesBelow (b t : List ℕ) (f : ℕ → ℕ) (q : ℕ) : Type 0 wh
   pub size : length t ≡ length b
   pub class : (p : ℕ) → 1 ≤ p → p < q → getD t p 0 ≡ f p
   pub first : getD t 0 0 ≡ getD b 0 0
+  pub beyond : (i : ℕ) → q ≤ i → getD t i 0 ≡ getD b i 0
 
 pub classes-start : {b : List ℕ} {f : ℕ → ℕ} → ClassesBelow b b f 1
 classes-start = record {
@@ -47,6 +48,7 @@ classes-start = record {
   size = refl;
   class = λ p h l. absurd (omega arith);
   first = refl;
+  beyond = λ i h. refl;
 }
 
 module _ {b t : List ℕ} {f : ℕ → ℕ} {q : ℕ} (inv : ClassesBelow b t f q) where
@@ -56,13 +58,15 @@ module _ {b t : List ℕ} {f : ℕ → ℕ} {q : ℕ} (inv : ClassesBelow b t f 
     size = length-set t q x ∙ inv .size;
     class = set-next-from (λ y. y) f 1 t q x (omega (arith, inv .size)) e (inv .class);
     first = getD-set-other t q 0 x 0 (λ z. omega (arith, inv .some-state)) ∙ inv .first;
+    beyond = λ i l. getD-set-other t q i x 0 (λ z. omega arith) ∙ inv .beyond i (omega arith);
   }
 
-  pub classes-end : maxStates < q → ClassesWritten b t f
-  classes-end h = record {
+  pub classes-end : maxStates < q → q ≤ maxStates + 1 → ClassesWritten b t f
+  classes-end h most = record {
     size = inv .size;
     class = λ p l m. inv .class p l (omega arith);
     first = inv .first;
+    beyond = λ i l. inv .beyond i (omega arith);
   }
 
 -- ---- body

@@ -1,5 +1,5 @@
 -- Numbers given by the rule, from a table of the numbers so far.
-use mathlib.Core.Bool.{Bool, _&&_, _||_, cond, not, true}
+use mathlib.Core.Bool.{Bool, _&&_, _||_, cond, not}
 use mathlib.Core.List.{List}
 use mathlib.Core.Option.{Option, none, some}
 use mathlib.Core.Path.{_≡_}
@@ -13,7 +13,7 @@ use Rattle.format.specs.Format.{byteValues, transitionBytes}
 use Rattle.lists.specs.Tests.{every}
 use Rattle.marking.specs.Marks.{marked}
 use Rattle.minimize.specs.Renaming.{nameIn}
-use Rattle.table.specs.Layout.{arityOf, labelOf, nthTransition, outOf}
+use Rattle.table.specs.Layout.{nthTransition, outOf}
 
 -- a table of numbers gives each state its number in an order
 pub record NumbersOf (numbers o : List ℕ) : Type 0 where

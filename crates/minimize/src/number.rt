@@ -8,8 +8,6 @@ ghost use Rattle.automata.specs.Order.{lex, precedes};
 ghost use Rattle.automata.specs.Renumber.{best, renumberBy};
 ghost use Rattle.fields.specs.Fields.{Readable, HoldsTransitions, firstArgs};
 ghost use Rattle.format.specs.Format.{byteValues, maxArity};
-ghost use Rattle.lists.specs.Tests.{every};
-ghost use Rattle.marking.specs.Marks.{marked};
 ghost use Rattle.table.specs.Layout.{transitionAt, transitionsIn};
 ghost use Rattle.minimize.specs.Renaming.{nameIn};
 ghost use Rattle.minimize.specs.Numbering.{NumberingHeld, NumbersOf, Outputs};

@@ -136,6 +136,7 @@ place-numbered numbers a k {q} e t h = go (or-cases (eqb q 0) (not (eqb (getD nu
 pub record RenumberedTo (numbers hs us ts vs : List ℕ) (n i : ℕ) : Type 0 where
   pub within : i ≤ n
   pub room : Room ts vs
+  pub size : length ts ≡ length hs
   pub packs : (j : ℕ) → j < i → Packs (getD ts j 0) (getD vs j 0)
   pub has : (j : ℕ) → j < i → HasNumbers numbers (getD hs j 0) (getD us j 0)
   pub each : (j : ℕ) → j < i → nthPacked ts vs j ≡ renumberBy (nameIn numbers) (nthPacked hs us j)
@@ -147,6 +148,7 @@ pub renumbered-start : (numbers : List ℕ) {hs us : List ℕ} {n : ℕ} → Hol
 renumbered-start numbers holds = record {
   within = omega arith;
   room = holds .room;
+  size = refl;
   packs = λ j h. absurd (omega arith);
   has = λ j h. absurd (omega arith);
   each = λ j h. absurd (omega arith);
@@ -158,7 +160,7 @@ module _ {numbers hs us ts vs : List ℕ} {n i : ℕ} (inv : RenumberedTo number
     (holds : HoldsPacked hs us n) where
   pub renumbered-end : n ≤ i → Renumbered numbers hs us ts vs n
   renumbered-end h = record {
-    holds = record { room = inv .room; few = holds .few; each = λ j l. inv .packs j (omega arith) };
+    holds = record { room = inv .room; few = omega (arith, inv .size, holds .few); each = λ j l. inv .packs j (omega arith) };
     has = λ j l. inv .has j (omega arith);
     each = λ j l. inv .each j (omega arith);
   }
@@ -174,6 +176,7 @@ module _ {numbers hs us ts vs : List ℕ} {n i : ℕ} (inv : RenumberedTo number
     renumbered-next {g} {b} has head arg = record {
       within = omega arith;
       room = room-set (inv .room) i g b;
+      size = length-set ts i g ∙ inv .size;
       packs = λ j m. packs j m (eqb j i) refl;
       has = λ j m. having j m (eqb j i) refl;
       each = λ j m. each j m (eqb j i) refl;
@@ -182,10 +185,10 @@ module _ {numbers hs us ts vs : List ℕ} {n i : ℕ} (inv : RenumberedTo number
     }
       where
         here : getD (set ts i g) i 0 ≡ g
-        here = getD-set-same ts i g 0 (omega (arith, inv .room .heads, holds .few))
+        here = getD-set-same ts i g 0 (omega (arith, inv .size, holds .few))
 
         here′ : getD (set vs i b) i 0 ≡ b
-        here′ = getD-set-same vs i b 0 (omega (arith, inv .room .args, holds .few))
+        here′ = getD-set-same vs i b 0 (omega (arith, inv .room .args, inv .size, holds .few))
 
         old : getD ts i 0 ≡ getD hs i 0
         old = inv .heads i (omega arith)

@@ -52,7 +52,7 @@ pub settled-holds : {numbers hs us ts vs xs ys : List ℕ} {n : ℕ} → Renumbe
     Picked ts vs n xs ys n → HoldsPacked xs ys n
 settled-holds given taken = record {
   room = taken .room;
-  few = given .holds .few;
+  few = taken .few;
   each = λ i h. let (j, l, p, q) = taken .each i h in rw (p, q) (given .holds .each j l);
 }
 

@@ -5,17 +5,17 @@ use mathlib.Core.Path.{_∙_, _≡_, ap, refl, sym}
 use Prim.Native.Nat.{_%_, _*_, _+_, _-_, _/_, _<_, _≤_, ℕ}
 use native.Mathlib.Omega.{arith}
 use lib.Dec.{eqb, ltb}
-use lib.ListN.{List·getD-eq-default, getD, length, length-set, set}
+use lib.ListN.{getD, length, length-set, set}
 use lib.Seq.{getD-set-other, getD-set-same}
 use borrow.Author.Count.{below-more}
 use borrow.Author.Tests.{eqb-false, eqb-true, ltb-false, ltb-true}
-use Rattle.fields.specs.Entries.{HasFields, noArg, putAt}
+use Rattle.fields.specs.Entries.{HasFields, putAt}
 use Rattle.format.specs.Format.{countAt, headBytes, maxArity, tableBytes, transitionBytes}
 use Rattle.minimize.specs.Written.{ClassesWritten}
 use Rattle.sorted.specs.Sorted.{SameBytes, Written}
 use Rattle.table.specs.Layout.{argOf, arityOf, labelOf, outOf}
 use Rattle.packed.specs.Heads.{headArity, headLabel, headOut, placeOf}
-use Rattle.numbering.specs.Tables.{EntryAt, RunPut, TablePut, ZerosFrom}
+use Rattle.numbering.specs.Tables.{BlankAfter, EntryAt, RunPut, TablePut, ZerosBetween}
 use Rattle.fields.proofs.Entries.{put-other, put-same}
 use Rattle.lists.proofs.Filling.{set-next-from}
 use Rattle.sorted.proofs.Placed.{same-arg, same-arity, same-label, same-out}
@@ -30,17 +30,6 @@ pub record EntryTo (entry : List ℕ) (h a k : ℕ) : Type 0 where
   pub arity : arityOf entry 0 ≡ headArity h
   pub args : (j : ℕ) → j < k → argOf entry 0 j ≡ placeOf a j
   pub out : outOf entry 0 ≡ headOut h
-
-pub entry-start : (h a : ℕ) {entry : List ℕ} {l n q : ℕ} → HasFields entry l n noArg q → l ≡ headLabel h →
-    n ≡ headArity h → q ≡ headOut h → EntryTo entry h a 0
-entry-start h a is x y z = record {
-  size = is .size;
-  within = omega arith;
-  label = is .label ∙ x;
-  arity = is .arity ∙ y;
-  args = λ j l. absurd (omega arith);
-  out = is .out ∙ z;
-}
 
 module _ {entry : List ℕ} {h a k : ℕ} (inv : EntryTo entry h a k) where
   pub entry-next : k < maxArity → {x : ℕ} → x ≡ placeOf a k → {put : List ℕ} →
@@ -78,7 +67,7 @@ entry-same same is = record {
 }
 
 pub run-start : (b hs us : List ℕ) (start : ℕ) → RunPut b b hs us start 0
-run-start b hs us start = record { size = refl; head = λ i h. refl; each = λ i h. absurd (omega arith) }
+run-start b hs us start = record { size = refl; head = λ i h. refl; each = λ i h. absurd (omega arith); beyond = λ i h. refl }
 
 pub run-next : {b t t′ hs us entry : List ℕ} {start i : ℕ} → RunPut b t hs us start i →
     HasFields entry (headLabel (getD hs i 0)) (headArity (getD hs i 0)) (placeOf (getD us i 0)) (headOut (getD hs i 0)) →
@@ -89,6 +78,7 @@ run-next {b} {t} {t′} {hs} {us} {entry} {start} {i} inv is w = record {
   each = below-more (λ j. EntryAt t′ (start + transitionBytes * j) (getD hs j 0) (getD us j 0)) i
       (λ j h. entry-same (record { byte = λ k l. w .below _ (omega arith) }) (inv .each j h))
       (entry-same (w .bytes) (record { label = is .label; arity = is .arity; arg = is .arg; out = is .out }));
+  beyond = λ j h. w .beyond j (omega arith) ∙ inv .beyond j (omega arith);
 }
 
 -- ---- zeros
@@ -99,6 +89,7 @@ pub record ZerosTo (b t : List ℕ) (start i : ℕ) : Type 0 where
   pub size : length t ≡ length b
   pub below : (j : ℕ) → j < start → getD t j 0 ≡ getD b j 0
   pub zeros : (j : ℕ) → start ≤ j → j < i → getD t j 0 ≡ 0
+  pub beyond : (j : ℕ) → i ≤ j → getD t j 0 ≡ getD b j 0
 
 pub zeros-start : (b : List ℕ) (start : ℕ) → ZerosTo b b start start
 zeros-start b start = record {
@@ -106,6 +97,7 @@ zeros-start b start = record {
   size = refl;
   below = λ j h. refl;
   zeros = λ j h l. absurd (omega arith);
+  beyond = λ j h. refl;
 }
 
 module _ {b t : List ℕ} {start i : ℕ} (inv : ZerosTo b t start i) where
@@ -115,21 +107,28 @@ module _ {b t : List ℕ} {start i : ℕ} (inv : ZerosTo b t start i) where
     size = length-set t i 0 ∙ inv .size;
     below = λ j l. getD-set-other t i j 0 0 (λ z. omega (arith, inv .order)) ∙ inv .below j l;
     zeros = set-next-from (λ y. y) (λ _. 0) start t i 0 (omega (arith, inv .size)) refl (inv .zeros);
+    beyond = λ j l. getD-set-other t i j 0 0 (λ z. omega arith) ∙ inv .beyond j (omega arith);
   }
 
-  pub zeros-end : length b ≤ i → ZerosFrom b t start
-  zeros-end h = record { size = inv .size; below = inv .below; zeros = λ j l. zero j l (ltb j i) refl }
+  pub zeros-end : {end : ℕ} → end ≤ i → i ≤ start + (end - start) → ZerosBetween b t start end
+  zeros-end {end} h m = record {
+    size = inv .size;
+    below = inv .below;
+    zeros = λ j l o. inv .zeros j l (omega arith);
+    beyond = λ j l. same j l (ltb j start) refl;
+  }
     where
-      zero : (j : ℕ) → start ≤ j → (c : Bool) → ltb j i ≡ c → getD t j 0 ≡ 0
-      zero j l true e = inv .zeros j l (ltb-true j i e)
-      zero j l false e = List·getD-eq-default t 0 (omega (arith, ltb-false j i e, inv .size))
+      same : (j : ℕ) → end ≤ j → (c : Bool) → ltb j start ≡ c → getD t j 0 ≡ getD b j 0
+      same j l true e = inv .below j (ltb-true j start e)
+      same j l false e = let o = ltb-false j start e in inv .beyond j (omega arith)
 
 -- ---- the whole table
 
-module _ (b t : List ℕ) (n c high low : ℕ) {u v : List ℕ} {f : ℕ → ℕ} {hs us : List ℕ} (room : length b ≡ tableBytes)
+module _ (b t : List ℕ) (n c old high low : ℕ) {u v : List ℕ} {f : ℕ → ℕ} {hs us : List ℕ} (room : length b ≡ tableBytes)
     (classes : ClassesWritten (set b 0 n) t f)
     (put : RunPut (set (set t countAt high) (countAt + 1) low) u hs us headBytes c)
-    (cleared : ZerosFrom u v (headBytes + transitionBytes * c)) where
+    (cleared : ZerosBetween u v (headBytes + transitionBytes * c) (headBytes + transitionBytes * old))
+    (blank : BlankAfter b old) where
   length₁ : length t ≡ tableBytes
   length₁ = classes .size ∙ length-set b 0 n ∙ room
 
@@ -145,6 +144,19 @@ module _ (b t : List ℕ) (n c high low : ℕ) {u v : List ℕ} {f : ℕ → ℕ
       kept i (omega arith) ∙ getD-set-other (set t countAt high) (countAt + 1) i low 0 (λ z. omega arith)
       ∙ getD-set-other t countAt i high 0 (λ z. omega arith)
 
+  -- a byte after the old transitions and the new is not written
+  stays : (i : ℕ) → headBytes + transitionBytes * c ≤ i → headBytes + transitionBytes * old ≤ i → getD v i 0 ≡ 0
+  stays i h l =
+      cleared .beyond i l ∙ put .beyond i h
+      ∙ getD-set-other (set t countAt high) (countAt + 1) i low 0 (λ z. omega arith)
+      ∙ getD-set-other t countAt i high 0 (λ z. omega arith) ∙ classes .beyond i (omega arith)
+      ∙ getD-set-other b 0 i n 0 (λ z. omega arith) ∙ blank i l
+
+  after : (i : ℕ) → headBytes + transitionBytes * c ≤ i → (d : Bool) → ltb i (headBytes + transitionBytes * old) ≡ d →
+      getD v i 0 ≡ 0
+  after i h true e = cleared .zeros i h (ltb-true i (headBytes + transitionBytes * old) e)
+  after i h false e = stays i h (ltb-false i (headBytes + transitionBytes * old) e)
+
   pub table-put : high ≡ c / 256 → low ≡ c % 256 → TablePut v n f hs us c
   table-put d e = record {
     size = cleared .size ∙ put .size ∙ length₂;
@@ -157,5 +169,5 @@ module _ (b t : List ℕ) (n c high low : ℕ) {u v : List ℕ} {f : ℕ → ℕ
         ∙ getD-set-same (set t countAt high) (countAt + 1) low 0
         (omega (arith, length-set t countAt high, length₁)) ∙ e;
     each = λ i h. entry-same (record { byte = λ k l. cleared .below _ (omega arith) }) (put .each i h);
-    zeros = cleared .zeros;
+    zeros = λ i h. after i h (ltb i (headBytes + transitionBytes * old)) refl;
   }

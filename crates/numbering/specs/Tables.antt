@@ -19,12 +19,18 @@ pub record RunPut (b t hs us : List ℕ) (start n : ℕ) : Type 0 where
   pub size : length t ≡ length b
   pub head : (i : ℕ) → i < start → getD t i 0 ≡ getD b i 0
   pub each : (i : ℕ) → i < n → EntryAt t (start + transitionBytes * i) (getD hs i 0) (getD us i 0)
+  pub beyond : (i : ℕ) → start + transitionBytes * n ≤ i → getD t i 0 ≡ getD b i 0
 
--- t is b with zeros from a byte on
-pub record ZerosFrom (b t : List ℕ) (start : ℕ) : Type 0 where
+-- t is b with zeros from a byte up to another, if that comes later
+pub record ZerosBetween (b t : List ℕ) (start end : ℕ) : Type 0 where
   pub size : length t ≡ length b
   pub below : (i : ℕ) → i < start → getD t i 0 ≡ getD b i 0
-  pub zeros : (i : ℕ) → start ≤ i → getD t i 0 ≡ 0
+  pub zeros : (i : ℕ) → start ≤ i → i < end → getD t i 0 ≡ 0
+  pub beyond : (i : ℕ) → end ≤ i → getD t i 0 ≡ getD b i 0
+
+-- every byte of a table after its first n transitions is 0
+abbrev pub BlankAfter : List ℕ → ℕ → Type 0
+BlankAfter t n = (i : ℕ) → headBytes + transitionBytes * n ≤ i → getD t i 0 ≡ 0
 
 -- every byte of a table: n states with classes f, and c transitions
 pub record TablePut (t : List ℕ) (n : ℕ) (f : ℕ → ℕ) (hs us : List ℕ) (c : ℕ) : Type 0 where
@@ -34,4 +40,4 @@ pub record TablePut (t : List ℕ) (n : ℕ) (f : ℕ → ℕ) (hs us : List ℕ
   pub high : getD t countAt 0 ≡ c / 256
   pub low : getD t (countAt + 1) 0 ≡ c % 256
   pub each : (i : ℕ) → i < c → EntryAt t (headBytes + transitionBytes * i) (getD hs i 0) (getD us i 0)
-  pub zeros : (i : ℕ) → headBytes + transitionBytes * c ≤ i → getD t i 0 ≡ 0
+  pub zeros : BlankAfter t c

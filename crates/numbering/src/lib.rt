@@ -6,6 +6,8 @@ mod sorting; // sorting by merging runs
 mod looking; // whether the result is right
 mod writing; // the new table
 mod heap; // a heap of transitions
+mod placing; // transitions to their outputs, or to wait
+mod givers; // few transitions to place first
 mod order; // an order of the names, guessed
 
 ghost use mathlib.Core.Bool.{cond, true};
@@ -13,10 +15,12 @@ ghost use mathlib.Core.Path.{_≡_};
 ghost use Prim.Native.Nat.{_≤_};
 ghost use lib.ListN.{length};
 ghost use Rattle.automata.specs.Renumber.{renumbered};
-ghost use Rattle.format.specs.Format.{byteValues, maxStates, tableBytes};
+ghost use Rattle.format.specs.Format.{byteValues, maxStates, maxTransitions, tableBytes};
 ghost use Rattle.table.specs.Layout.{classAt, encode};
 ghost use Rattle.packed.specs.Heads.{HoldsPacked, Room, packedIn};
 ghost use Rattle.numbering.specs.Steps.{Settled};
+ghost use Rattle.numbering.specs.Tables.{BlankAfter};
+pub use crate::givers::givers_of;
 use crate::looking::sound;
 use crate::order::guess;
 use crate::renumbering::number_names;
@@ -26,21 +30,21 @@ pub use crate::writing::write_run;
 use crate::writing::write_table;
 use format::BYTE_VALUES;
 use format::MAX_STATES;
-use format::MAX_TRANSITIONS;
 use minimize::renaming::no_names;
 
 // Gives the transitions the numbers of an order and sorts them. Returns whether they are right by the rule.
 fn settle(
-    heads: &mut [u64; MAX_TRANSITIONS],
-    args: &mut [u64; MAX_TRANSITIONS],
+    heads: &mut [u64],
+    args: &mut [u64],
     count: usize,
-    room: &mut [u64; MAX_TRANSITIONS],
-    spare: &mut [u64; MAX_TRANSITIONS],
+    room: &mut [u64],
+    spare: &mut [u64],
     order: &[u8; BYTE_VALUES],
     states: usize,
 ) -> bool
     requires { ⌜ HoldsPacked (now heads) (now args) count ⌝ }
     requires { ⌜ Room (now room) (now spare) ⌝ }
+    requires { ⌜ length (now room) ≡ length (now heads) ⌝ }
     requires { ⌜ states ≤ maxStates ⌝ }
     requires { ⌜ length (now order) ≡ byteValues ⌝ }
     ensures { λ r. ⌜ (r ≡ true → Settled (now (heads .entry)) (now (args .entry)) count (now (order .entry)) states
@@ -58,32 +62,57 @@ fn settle(
 }
 
 // Writes the table of the automaton that the transitions and the classes of their names give. Returns whether it did: if the
-// order that was guessed is wrong, the table stays as it is. The lists and the room have other numbers afterwards.
+// order that was guessed is wrong, the table stays as it is. The lists and the room have other numbers afterwards. The old
+// table has n states and so many transitions, `ends` says how many entries had been made after each of them, and `few`
+// whether an order is sought from few entries first.
 pub fn rebuild(
-    heads: &mut [u64; MAX_TRANSITIONS],
-    args: &mut [u64; MAX_TRANSITIONS],
+    heads: &mut [u64],
+    args: &mut [u64],
     count: usize,
-    room: &mut [u64; MAX_TRANSITIONS],
-    spare: &mut [u64; MAX_TRANSITIONS],
-    next: &mut [u16; MAX_TRANSITIONS],
+    room: &mut [u64],
+    spare: &mut [u64],
+    next: &mut [u16],
     classes: &[u8; BYTE_VALUES],
     table: &mut [u8],
+    n: usize,
+    old: usize,
+    ends: &[u16],
+    givers: &[u16; BYTE_VALUES],
+    few: bool,
 ) -> bool
     requires { ⌜ HoldsPacked (now heads) (now args) count ⌝ }
     requires { ⌜ Room (now room) (now spare) ⌝ }
+    requires { ⌜ length (now room) ≡ length (now heads) ⌝ }
+    requires { ⌜ length (now next) ≡ length (now heads) ⌝ }
     requires { ⌜ length (now classes) ≡ byteValues ⌝ }
     requires { ⌜ length (now table) ≡ tableBytes ⌝ }
+    requires { ⌜ n ≤ maxStates ⌝ }
+    requires { ⌜ old ≤ maxTransitions ⌝ }
+    requires { ⌜ BlankAfter (now table) old ⌝ }
     ensures { λ r. ⌜ now (table .exit) ≡ cond r (encode (renumbered (classAt (now (classes .entry)))
         (packedIn (now (heads .entry)) (now (args .entry)) count))) (now (table .entry)) ⌝ }
 {
     let mut order = no_names();
-    let states = guess(heads, args, count, next, room, spare, &mut order);
+    let states = guess(
+        heads,
+        args,
+        count,
+        next,
+        room,
+        spare,
+        &mut order,
+        n,
+        old,
+        ends,
+        givers,
+        few,
+    );
     if states > MAX_STATES {
         return false;
     }
     if !settle(heads, args, count, room, spare, &order, states) {
         return false;
     }
-    write_table(table, classes, &order, states, heads, args, count);
+    write_table(table, classes, &order, states, heads, args, count, old);
     true
 }

@@ -18,14 +18,13 @@ use crate::reading::out_of;
 use crate::reading::place_of;
 use crate::reading::word_at;
 use format::BYTE_VALUES;
-use format::MAX_TRANSITIONS;
 use format::wide;
 use validity::all_seen;
 use validity::greater;
 use validity::leads_to;
 
 // Whether each transition comes before the next.
-fn rises(heads: &[u64; MAX_TRANSITIONS], args: &[u64; MAX_TRANSITIONS], count: usize) -> bool
+fn rises(heads: &[u64], args: &[u64], count: usize) -> bool
     requires { ⌜ HoldsPacked (now heads) (now args) count ⌝ }
     ensures { λ r. ⌜ (r ≡ true → rising (packedIn (now (heads .entry)) (now (args .entry)) count) ≡ true) ⌝ }
 {
@@ -61,13 +60,7 @@ fn top_place(args: u64, arity: usize) -> usize
 
 // Reads transition i: whether every state strictly between its arguments and its output has been seen. Then the
 // output is seen, and its mark says so of them all. A mark that says more is kept.
-fn read(
-    heads: &[u64; MAX_TRANSITIONS],
-    args: &[u64; MAX_TRANSITIONS],
-    i: usize,
-    count: usize,
-    seen: &mut [u8; BYTE_VALUES],
-) -> bool
+fn read(heads: &[u64], args: &[u64], i: usize, count: usize, seen: &mut [u8; BYTE_VALUES]) -> bool
     requires { ⌜ HoldsPacked (now heads) (now args) count ⌝ }
     requires { ⌜ i < count ⌝ }
     requires { ⌜ length (now seen) ≡ byteValues ⌝ }
@@ -111,12 +104,7 @@ fn seen_up_to(seen: &[u8; BYTE_VALUES], low: usize, states: usize) -> usize
 
 // Whether the transitions give each of the numbers by the rule. One whose output is below a state up to which all have been
 // seen says nothing new.
-fn ruled(
-    heads: &[u64; MAX_TRANSITIONS],
-    args: &[u64; MAX_TRANSITIONS],
-    count: usize,
-    states: usize,
-) -> bool
+fn ruled(heads: &[u64], args: &[u64], count: usize, states: usize) -> bool
     requires { ⌜ HoldsPacked (now heads) (now args) count ⌝ }
     requires { ⌜ states ≤ maxStates ⌝ }
     ensures { λ r. ⌜ (r ≡ true → Ruled (now (heads .entry)) (now (args .entry)) count states) ⌝ }
@@ -139,12 +127,7 @@ fn ruled(
 }
 
 // The look at the result.
-pub fn sound(
-    heads: &[u64; MAX_TRANSITIONS],
-    args: &[u64; MAX_TRANSITIONS],
-    count: usize,
-    states: usize,
-) -> bool
+pub fn sound(heads: &[u64], args: &[u64], count: usize, states: usize) -> bool
     requires { ⌜ HoldsPacked (now heads) (now args) count ⌝ }
     requires { ⌜ states ≤ maxStates ⌝ }
     ensures { λ r. ⌜ (r ≡ true → Sound (now (heads .entry)) (now (args .entry)) count states) ⌝ }

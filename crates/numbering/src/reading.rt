@@ -1,18 +1,17 @@
 // The parts of a transition that is two numbers.
 ghost use mathlib.Core.Path.{_≡_};
 ghost use Prim.Native.Nat.{_<_};
-ghost use lib.ListN.{getD};
-ghost use Rattle.format.specs.Format.{byteValues, maxArity, maxTransitions};
+ghost use lib.ListN.{getD, length};
+ghost use Rattle.format.specs.Format.{byteValues, maxArity};
 ghost use Rattle.minimize.specs.Renaming.{nameIn};
 ghost use Rattle.packed.specs.Packed.{before};
 ghost use Rattle.packed.specs.Heads.{headArity, headLabel, headMeta, headOut, placeOf};
 use format::BYTE_VALUES;
-use format::MAX_TRANSITIONS;
 use packed::comes_before;
 
 // Entry i of one of the two lists.
-pub fn word_at(list: &[u64; MAX_TRANSITIONS], i: usize) -> u64
-    requires { ⌜ i < maxTransitions ⌝ }
+pub fn word_at(list: &[u64], i: usize) -> u64
+    requires { ⌜ i < length (now list) ⌝ }
     ensures { λ r. ⌜ r ≡ getD (now (list .entry)) i 0 ⌝ }
 {
     list[i]

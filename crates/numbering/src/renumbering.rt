@@ -14,7 +14,6 @@ use crate::reading::out_of;
 use crate::reading::place_of;
 use format::BYTE_VALUES;
 use format::MAX_ARITY;
-use format::MAX_TRANSITIONS;
 use format::wide;
 
 // Gives the first names of an order their numbers. Returns whether no name is 0 or there twice.
@@ -112,8 +111,8 @@ fn has_numbers(head: u64, args: u64, numbers: &[u8; BYTE_VALUES]) -> bool
 
 // Gives the states of the first transitions their numbers. Stops if one has none.
 pub fn renumber(
-    heads: &mut [u64; MAX_TRANSITIONS],
-    args: &mut [u64; MAX_TRANSITIONS],
+    heads: &mut [u64],
+    args: &mut [u64],
     count: usize,
     numbers: &[u8; BYTE_VALUES],
 ) -> bool

@@ -3,10 +3,10 @@ ghost use mathlib.Core.Path.{_≡_};
 ghost use Prim.Native.Nat.{_*_, _+_, _<_, _≤_, ℕ};
 ghost use lib.ListN.{getD, length};
 ghost use Rattle.fields.specs.Entries.{HasFields};
-ghost use Rattle.format.specs.Format.{headBytes, maxStates, tableBytes, transitionBytes};
+ghost use Rattle.format.specs.Format.{headBytes, maxStates, maxTransitions, tableBytes, transitionBytes};
 ghost use Rattle.minimize.specs.Written.{Ordered, classByte};
 ghost use Rattle.packed.specs.Heads.{HoldsPacked, Packs, headArity, headLabel, headOut, placeOf};
-ghost use Rattle.numbering.specs.Tables.{RunPut, TablePut, ZerosFrom};
+ghost use Rattle.numbering.specs.Tables.{BlankAfter, RunPut, TablePut, ZerosBetween};
 use crate::reading::arity_of;
 use crate::reading::label_of;
 use crate::reading::out_of;
@@ -20,8 +20,6 @@ use format::BYTE_VALUES;
 use format::COUNT_AT;
 use format::HEAD_BYTES;
 use format::MAX_ARITY;
-use format::MAX_TRANSITIONS;
-use format::TABLE_BYTES;
 use format::TRANSITION_BYTES;
 use minimize::write::write_classes;
 use sorted::write;
@@ -44,13 +42,7 @@ fn entry_of(head: u64, args: u64) -> [u8; TRANSITION_BYTES]
 }
 
 // Writes the transitions from a byte on.
-pub fn write_run(
-    to: &mut [u8],
-    start: usize,
-    heads: &[u64; MAX_TRANSITIONS],
-    args: &[u64; MAX_TRANSITIONS],
-    count: usize,
-)
+pub fn write_run(to: &mut [u8], start: usize, heads: &[u64], args: &[u64], count: usize)
     requires { ⌜ start ≤ headBytes ⌝ }
     requires { ⌜ start + transitionBytes * count ≤ length (now to) ⌝ }
     requires { ⌜ HoldsPacked (now heads) (now args) count ⌝ }
@@ -64,30 +56,33 @@ pub fn write_run(
     }
 }
 
-// Zeros from a byte of the table on.
-fn clear_from(table: &mut [u8], start: usize)
+// Zeros from a byte of the table up to another.
+fn clear_between(table: &mut [u8], start: usize, end: usize)
     requires { ⌜ length (now table) ≡ tableBytes ⌝ }
-    requires { ⌜ start ≤ tableBytes ⌝ }
-    ensures { λ _. ⌜ ZerosFrom (now (table .entry)) (now (table .exit)) start ⌝ }
+    requires { ⌜ end ≤ tableBytes ⌝ }
+    ensures { λ _. ⌜ ZerosBetween (now (table .entry)) (now (table .exit)) start end ⌝ }
 {
     let mut i = start;
-    while i < TABLE_BYTES {
+    while i < end {
         table[i] = 0;
         i += 1;
     }
 }
 
-// Writes every byte of a table.
+// Writes a table over one of so many transitions, whose bytes after them are 0 already.
 pub fn write_table(
     table: &mut [u8],
     classes: &[u8],
     order: &[u8; BYTE_VALUES],
     states: usize,
-    heads: &[u64; MAX_TRANSITIONS],
-    args: &[u64; MAX_TRANSITIONS],
+    heads: &[u64],
+    args: &[u64],
     count: usize,
+    old: usize,
 )
     requires { ⌜ length (now table) ≡ tableBytes ⌝ }
+    requires { ⌜ old ≤ maxTransitions ⌝ }
+    requires { ⌜ BlankAfter (now table) old ⌝ }
     requires { ⌜ states ≤ maxStates ⌝ }
     requires { ⌜ Ordered (now classes) (now order) states ⌝ }
     requires { ⌜ HoldsPacked (now heads) (now args) count ⌝ }
@@ -99,5 +94,9 @@ pub fn write_table(
     table[COUNT_AT] = (count / 256) as u8;
     table[COUNT_AT + 1] = (count % 256) as u8;
     write_run(table, HEAD_BYTES, heads, args, count);
-    clear_from(table, HEAD_BYTES + TRANSITION_BYTES * count);
+    clear_between(
+        table,
+        HEAD_BYTES + TRANSITION_BYTES * count,
+        HEAD_BYTES + TRANSITION_BYTES * old,
+    );
 }

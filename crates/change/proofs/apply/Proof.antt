@@ -3,9 +3,11 @@ use mathlib.Core.Path.{_∙_}
 use native.Mathlib.Omega.{arith}
 use borrow.Author.Tests.{not-false, not-true}
 use Rattle.automata.specs.NamedChange.{changedAutomaton}
+use Rattle.change.specs.Given.{smallTransitions}
+use Rattle.format.specs.Format.{maxTransitions}
 use Rattle.table.specs.Layout.{decode}
 use Rattle.change.proofs.Answering.{worked-17, worked-done}
-use Rattle.change.proofs.Handing.{fitting, table-size}
+use Rattle.change.proofs.Handing.{between-few, fitting, table-size}
 use Rattle.change.proofs.Inputs.{given-few, given-size}
 use borrow.Author.Needs.{needs}
 use Rattle.change.proofs.apply.Statement.{statement}
@@ -19,63 +21,64 @@ keep-requires c κs =
     let start = c .before .before .before .before .before .before .before .before .before in
     (given-few (start .pre .0 .1), (start .pre .0 .1) .lists .few)
 
-fits-requires : tie.Need-fits-requires
-fits-requires c κs = search needs
+fit-of-requires : tie.Need-fit-of-requires
+fit-of-requires c κs = search needs
 
 same-length : tie.Need-same-length
 same-length c = search needs
 
 returns : tie.Need-returns
 returns c =
-    let at-fits2 = c .before in
-    let at-keep = at-fits2 .before .before .before .before .before .before .before .before in
+    let at-fit-of = c .before .before in
+    let at-keep = at-fit-of .before .before .before .before .before .before .before .before in
     let at-name = at-keep .before .before .before .before in
     let start = at-name .before .before .before .before .before .before in
-    λ t g. let P = start .pre .1 .1 .1 t g in worked-17 (start .args .inserting) t (start .args .table .now) P
-    (start .pre .1 .1 .0) (at-fits2 .fits2 .ensures (start .args .inserting) t (at-keep .keep .result .firsts)
-    (at-keep .keep .result .nexts) (at-name .name .ensures t g P) (at-keep .keep .ensures)) (not-true _ (c .if1
-    .taken))
+    λ t g. let P = start .pre .1 .1 .1 t g in
+    let fit = at-fit-of .fit-of .ensures (start .args .inserting) t (at-keep .keep .result .firsts)
+    (at-keep .keep .result .nexts) (at-name .name .ensures t g P) (at-keep .keep .ensures) in
+    worked-17 (start .args .inserting) t (start .args .table .now) P (start .pre .1 .1 .0) (fit .table)
+    (not-true _ (c .if1 .taken))
 
 wide-requires : tie.Need-wide-requires
 wide-requires c κs = search needs
 
 add-own : tie.Need-add-own
 add-own c =
-    let start = c .before .before .before .before .before .before .before .before .before .before .before .before .before .before .before .before .before .before .before .before in
-    omega (
-      arith,
-      given-few (start .pre .0 .1),
-      c .wide .ensures,
-      (start .pre .0 .1) .lists .root-known,
-      (start
-          .pre .0 .1) .lists .few,
-    )
+    let start = c .before .before .before .before .before .before .before .before .before .before .before .before
+    .before .before .before .before .before .before .before .before .before in
+    let g = start .pre .0 .1 in
+    omega (arith, given-few g, c .wide .ensures, g .lists .root-known, g .lists .few)
 
 name-classes-requires : tie.Need-name-classes-requires
 name-classes-requires c κs =
-    let start = c .before .before .before .before .before .before .before .before .before .before .before .before .before .before .before .before .before .before .before .before .before .before in
-    (given-size (start .pre .0 .1), (given-few (start .pre .0 .1), (start .pre .0 .1) .lists .few))
+    let start = c .before .before .before .before .before .before .before .before .before .before .before .before
+    .before .before .before .before .before .before .before .before .before .before .before in
+    let g = start .pre .0 .1 in
+    (given-size g, (given-few g, g .lists .few))
 
 replace-requires : tie.Need-replace-requires
 replace-requires c κs =
     let at-name-classes = c .before .before .before .before .before .before in
     let at-wide = at-name-classes .before .before .before in
     let at-if1 = at-wide .before in
-    let at-fits2 = at-if1 .before in
-    let at-keep = at-fits2 .before .before .before .before .before .before .before .before in
+    let at-fit-of = at-if1 .before .before in
+    let at-keep = at-fit-of .before .before .before .before .before .before .before .before in
     let at-name = at-keep .before .before .before .before in
     let start = at-name .before .before .before .before .before .before in
     let t = start .pre .0 .0 in
     let g = start .pre .0 .1 in
+    let inserting = start .args .inserting in
+    let opens = start .args .p .opens in
+    let classes = at-name-classes .name-classes in
     let N = at-name .name .ensures t g (start .pre .1 .1 .1 t g) in
-    let room = at-fits2 .fits2 .ensures (start .args .inserting) t (at-keep .keep .result .firsts) (at-keep .keep
-    .result .nexts) N (at-keep .keep .ensures) in
-    let F = fitting N (at-keep .keep .ensures) (at-wide .wide .ensures) (at-name-classes .name-classes .ensures) room
+    let fit = at-fit-of .fit-of .ensures inserting t (at-keep .keep .result .firsts) (at-keep .keep .result .nexts) N
+    (at-keep .keep .ensures) in
+    let F = fitting N (at-keep .keep .ensures) (at-wide .wide .ensures) (classes .ensures) (fit .table)
     (not-false _ (at-if1 .if1 .left)) in (
-      (start .args .inserting, t, start .args .p .opens, at-name-classes .name-classes .result, F),
+      (inserting, t, opens, classes .result, F, between-few N maxTransitions (F .fits)),
       (
-        start .pre .1 .0,
-        at-name-classes .name-classes .ensures .size,
+        λ e. (inserting, t, opens, classes .result, F, between-few N smallTransitions (fit .few e)),
+        (start .pre .1 .0, classes .ensures .size),
       ),
     )
 
@@ -85,17 +88,20 @@ done-requires c κs =
     let at-name-classes = at-replace .before .before .before .before .before .before .before in
     let at-wide = at-name-classes .before .before .before in
     let at-if1 = at-wide .before in
-    let at-fits2 = at-if1 .before in
-    let at-keep = at-fits2 .before .before .before .before .before .before .before .before in
+    let at-fit-of = at-if1 .before .before in
+    let at-keep = at-fit-of .before .before .before .before .before .before .before .before in
     let at-name = at-keep .before .before .before .before in
     let start = at-name .before .before .before .before .before .before in
-    table-size (changedAutomaton (start .args .inserting) (start .pre .0 .0) (decode (start .args .table .now)))
-    (at-replace .replace .ensures (start .args .inserting) (start .pre .0 .0) (start .args .p .opens) (fitting
-    (at-name .name .ensures (start .pre .0 .0) (start .pre .0 .1) (start .pre .1 .1 .1 (start .pre .0 .0) (start
-    .pre .0 .1))) (at-keep .keep .ensures) (at-wide .wide .ensures) (at-name-classes .name-classes .ensures)
-    (at-fits2 .fits2 .ensures (start .args .inserting) (start .pre .0 .0) (at-keep .keep .result .firsts) (at-keep
-    .keep .result .nexts) (at-name .name .ensures (start .pre .0 .0) (start .pre .0 .1) (start .pre .1 .1 .1 (start
-    .pre .0 .0) (start .pre .0 .1))) (at-keep .keep .ensures)) (not-false _ (at-if1 .if1 .left))))
+    let t = start .pre .0 .0 in
+    let g = start .pre .0 .1 in
+    let inserting = start .args .inserting in
+    let N = at-name .name .ensures t g (start .pre .1 .1 .1 t g) in
+    let fit = at-fit-of .fit-of .ensures inserting t (at-keep .keep .result .firsts) (at-keep .keep .result .nexts) N
+    (at-keep .keep .ensures) in
+    let F = fitting N (at-keep .keep .ensures) (at-wide .wide .ensures) (at-name-classes .name-classes .ensures)
+    (fit .table) (not-false _ (at-if1 .if1 .left)) in
+    table-size (changedAutomaton inserting t (decode (start .args .table .now)))
+    (at-replace .replace .ensures inserting t (start .args .p .opens) F)
 
 same-length-2 : tie.Need-same-length-2
 same-length-2 c = search needs
@@ -109,16 +115,20 @@ returns-2 c =
     let at-name-classes = at-replace .before .before .before .before .before .before .before in
     let at-wide = at-name-classes .before .before .before in
     let at-if1 = at-wide .before in
-    let at-fits2 = at-if1 .before in
-    let at-keep = at-fits2 .before .before .before .before .before .before .before .before in
+    let at-fit-of = at-if1 .before .before in
+    let at-keep = at-fit-of .before .before .before .before .before .before .before .before in
     let at-name = at-keep .before .before .before .before in
     let start = at-name .before .before .before .before .before .before in
-    λ t g. let P = start .pre .1 .1 .1 t g in let N = at-name .name .ensures t g P in let e = at-fits2 .fits2
-    .ensures (start .args .inserting) t (at-keep .keep .result .firsts) (at-keep .keep .result .nexts) N (at-keep
-    .keep .ensures) in let h = not-false _ (at-if1 .if1 .left) in worked-done (start .args .inserting) t (start
-    .args .table .now) P (start .pre .1 .1 .0) e h (at-replace .replace .ensures (start .args .inserting) t (start
-    .args .p .opens) (fitting N (at-keep .keep .ensures) (at-wide .wide .ensures) (at-name-classes .name-classes
-    .ensures) e h)) (c .done .ensures)
+    let inserting = start .args .inserting in
+    λ t g. let P = start .pre .1 .1 .1 t g in
+    let N = at-name .name .ensures t g P in
+    let fit = at-fit-of .fit-of .ensures inserting t (at-keep .keep .result .firsts) (at-keep .keep .result .nexts) N
+    (at-keep .keep .ensures) in
+    let h = not-false _ (at-if1 .if1 .left) in
+    let F = fitting N (at-keep .keep .ensures) (at-wide .wide .ensures) (at-name-classes .name-classes .ensures)
+    (fit .table) h in
+    worked-done inserting t (start .args .table .now) P (start .pre .1 .1 .0) (fit .table) h
+    (at-replace .replace .ensures inserting t (start .args .p .opens) F) (c .done .ensures)
 
 pub apply-spec : {M : Type 1} → statement M
 apply-spec =
@@ -126,7 +136,7 @@ apply-spec =
     (tie.spec
     name-requires
     keep-requires
-    fits-requires
+    fit-of-requires
     same-length
     returns
     wide-requires

@@ -1,4 +1,4 @@
--- `change::fits` meets its contract: the counts say whether a table has room for the changed automaton.
+-- `change::fits` meets its contract: the counts say whether the changed automaton is within the limit.
 use native.Mathlib.Omega.{arith}
 use Rattle.naming.specs.Choice.{nameIn}
 use Rattle.subtrees.specs.Store.{bottomUp}
@@ -11,10 +11,10 @@ use Rattle.change.proofs.fits.Statement.{statement}
 use Rattle.change.proofs.fits.Tie as tie
 
 sub-table-fits : tie.Need-sub-table-fits
-sub-table-fits c = omega (arith, given-size ((c .before .before .before .before .before .pre .1)))
+sub-table-fits c = omega (arith, given-size ((c .before .before .before .before .before .pre .0 .1)))
 
 part-table-fits-start : tie.Need-part-table-fits-start
-part-table-fits-start c = omega (arith, given-size ((c .before .before .before .before .before .pre .1)))
+part-table-fits-start c = omega (arith, given-size ((c .before .before .before .before .before .pre .0 .1)))
 
 part-table-fits-end : tie.Need-part-table-fits-end
 part-table-fits-end c = search needs
@@ -22,13 +22,15 @@ part-table-fits-end c = search needs
 table-fits-requires : tie.Need-table-fits-requires
 table-fits-requires c κs =
     let start = c .before .before .before .before .before .before .before .before .before .before in
-    (given-over (start .pre .1) .runs, (given-few (start .pre .1), given-nodes (start .pre .1)))
+    let g = start .pre .0 .1 in
+    (given-over g .runs, (given-few g, (given-nodes g, (start .pre .1 .0, start .pre .1 .1))))
 
 returns : tie.Need-returns
 returns c =
     let start = c .before .before .before .before .before .before .before .before .before .before .before in
-    λ inserting t firsts nexts N K. counts-fit N (c .table-fits .ensures (decode (start .args .table .now)) t
-    (nameIn (bottomUp t) (start .args .names .now)) firsts nexts (named-arrays N) K)
+    λ inserting t firsts nexts N K. counts-fit N (start .args .limit) (c .table-fits .ensures
+    (decode (start .args .table .now)) t (nameIn (bottomUp t) (start .args .names .now)) firsts nexts (named-arrays N)
+    K)
 
 pub fits-spec : {M : Type 1} → statement M
 fits-spec =

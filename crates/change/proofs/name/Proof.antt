@@ -38,12 +38,12 @@ uses-of-requires c κs =
 
 sub-name-all : tie.Need-sub-name-all
 sub-name-all c =
-    let start = c .before .before .before .before .before .before .before .before .before .before .before .before in
+    let start = c .before .before .before .before .before .before .before .before .before .before .before .before .before .before in
     omega (arith, given-size (start .pre .1))
 
 part-name-all-start : tie.Need-part-name-all-start
 part-name-all-start c =
-    let start = c .before .before .before .before .before .before .before .before .before .before .before .before in
+    let start = c .before .before .before .before .before .before .before .before .before .before .before .before .before .before in
     omega (arith, given-size (start .pre .1))
 
 part-name-all-end : tie.Need-part-name-all-end
@@ -51,12 +51,13 @@ part-name-all-end c = search needs
 
 name-all-requires : tie.Need-name-all-requires
 name-all-requires c κs =
-    let start = c .before .before .before .before .before .before .before .before .before .before .before .before .before .before .before .before .before .before .before .before .before in
-    given-sized (start .pre .1)
+    let at-uses = c .before .before .before .before .before .before .before .before .before .before .before .before in
+    let start = at-uses .before .before .before .before .before .before .before .before .before .before .before .before in
+    given-sized (start .pre .1) (at-uses .uses-of .ensures)
 
 returns : tie.Need-returns
 returns c =
-    let at-classes-of = c .before .before .before .before .before .before .before .before .before .before .before .before in
+    let at-classes-of = c .before .before .before .before .before .before .before .before .before .before .before .before .before .before .before in
     let at-wide = at-classes-of .before in
     let start = at-wide .before .before .before .before .before .before .before .before .before in
     λ t g P.

@@ -2,6 +2,7 @@
 use mathlib.Core.Bool.{false≢true}
 use borrow.Author.Tests.{not-false}
 use Rattle.numbering.proofs.Rebuilt.{numbered-bytes, settled, settled-holds}
+use native.Mathlib.Omega.{arith}
 use borrow.Author.Needs.{needs}
 use Rattle.numbering.proofs.settle.Statement.{statement}
 use Rattle.numbering.proofs.settle.Tie as tie
@@ -17,42 +18,64 @@ returns c = λ e. absurd (false≢true e)
 
 renumber-requires : tie.Need-renumber-requires
 renumber-requires c κs =
-    let n = (c .before .before .before .before .number-names .ensures (not-false _ (c .before .before .before .if1
-    .left))) in (
-      c .before .before .before .before .before .before .before .pre .0,
-      (
-        n .zero,
-        numbered-bytes n (c
-            .before .before .before .before .before .before .before .pre .1 .1 .1) (c .before .before .before .before .before
-            .before .before .pre .1 .1 .0),
-      ),
-    )
+    let at-if1 = c .before .before .before in
+    let at-number-names = at-if1 .before in
+    let start = at-number-names .before .before .before .before .before .before .before in
+    let n = at-number-names .number-names .ensures (not-false _ (at-if1 .if1 .left)) in
+    (start .pre .0, (n .zero, numbered-bytes n (start .pre .1 .1 .1 .1) (start .pre .1 .1 .1 .0)))
+
+same-length : tie.Need-same-length
+same-length c = search needs
+
+same-length-2 : tie.Need-same-length-2
+same-length-2 c = search needs
 
 returns-2 : tie.Need-returns-2
 returns-2 c = λ e. absurd (false≢true e)
 
 sort-requires : tie.Need-sort-requires
-sort-requires c κs = search needs
+sort-requires c κs =
+    let at-if2 = c .before .before .before .before in
+    let at-renumber = at-if2 .before .before .before .before .before in
+    let start = at-renumber .before .before .before .before .before .before .before .before .before .before .before
+    .before in
+    let g = at-renumber .renumber .ensures .1 (not-false _ (at-if2 .if2 .left)) in
+    (g .holds .few, (g .holds .room, (omega (arith, start .pre .0 .few, start .pre .1 .1 .0), start .pre .1 .0)))
 
 sound-requires : tie.Need-sound-requires
-sound-requires c κs = (
-  settled-holds ((c .before .before .before .before .before .before .before .before .renumber .ensures .1
-      (not-false _ (c .before .before .before .before .before .before .before .if2 .left)))) (c .before .before .sort
-      .ensures .0),
-  c .before .before .before .before .before .before .before .before .before .before .before .before
-      .before .before .before .before .pre .1 .1 .0,
-)
+sound-requires c κs =
+    let at-sort = c .before .before .before .before .before .before .before .before .before .before in
+    let at-if2 = at-sort .before .before .before .before .before in
+    let at-renumber = at-if2 .before .before .before .before .before in
+    let start = at-renumber .before .before .before .before .before .before .before .before .before .before .before
+    .before in (
+      settled-holds (at-renumber .renumber .ensures .1 (not-false _ (at-if2 .if2 .left))) (at-sort .sort .ensures .0),
+      start .pre .1 .1 .1 .0,
+    )
+
+same-length-3 : tie.Need-same-length-3
+same-length-3 c = search needs
+
+same-length-4 : tie.Need-same-length-4
+same-length-4 c = search needs
+
+same-length-5 : tie.Need-same-length-5
+same-length-5 c = search needs
+
+same-length-6 : tie.Need-same-length-6
+same-length-6 c = search needs
 
 returns-3 : tie.Need-returns-3
 returns-3 c =
-    λ e. settled (c .before .before .before .before .before .before .before .before .before .before .before .before
-    .before .before .before .before .before .pre .1 .1 .1) (c .before .before .before .before .before .before .before
-    .before .before .before .before .before .before .before .before .before .before .pre .1 .1 .0) ((c .before
-    .before .before .before .before .before .before .before .before .before .before .before .before .before
-    .number-names .ensures (not-false _ (c .before .before .before .before .before .before .before .before .before
-    .before .before .before .before .if1 .left)))) ((c .before .before .before .before .before .before .before
-    .before .before .renumber .ensures .1 (not-false _ (c .before .before .before .before .before .before .before
-    .before .if2 .left)))) (c .before .before .before .sort .ensures .0) (c .sound .ensures e)
+    let at-sort = c .before .before .before .before .before .before .before .before .before .before .before in
+    let at-if2 = at-sort .before .before .before .before .before in
+    let at-renumber = at-if2 .before .before .before .before .before in
+    let at-if1 = at-renumber .before .before .before .before in
+    let at-number-names = at-if1 .before in
+    let start = at-number-names .before .before .before .before .before .before .before in
+    λ e. settled (start .pre .1 .1 .1 .1) (start .pre .1 .1 .1 .0) (at-number-names .number-names .ensures (not-false
+    _ (at-if1 .if1 .left))) (at-renumber .renumber .ensures .1 (not-false _ (at-if2 .if2 .left)))
+    (at-sort .sort .ensures .0) (c .sound .ensures e)
 
 pub settle-spec : {M : Type 1} → statement M
 settle-spec =
@@ -62,7 +85,13 @@ settle-spec =
     number-names-requires
     returns
     renumber-requires
+    same-length
+    same-length-2
     returns-2
     sort-requires
     sound-requires
+    same-length-3
+    same-length-4
+    same-length-5
+    same-length-6
     returns-3)

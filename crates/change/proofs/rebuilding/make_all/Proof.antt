@@ -3,7 +3,7 @@ use native.Mathlib.Omega.{arith}
 use Rattle.naming.specs.Choice.{nameIn}
 use Rattle.subtrees.specs.Store.{bottomUp}
 use Rattle.table.specs.Layout.{decode}
-use Rattle.change.proofs.Handing.{fitting-chosen, fitting-few}
+use Rattle.change.proofs.Handing.{fitting-chosen}
 use Rattle.change.proofs.Inputs.{given-over, given-size}
 use Rattle.packed.proofs.Heads.{entries-in, entries-packed}
 use Rattle.change.proofs.Runs.{between-fit}
@@ -12,50 +12,71 @@ use Rattle.change.proofs.rebuilding.make_all.Statement.{statement}
 use Rattle.change.proofs.rebuilding.make_all.Tie as tie
 
 sub-make : tie.Need-sub-make
-sub-make c = omega (arith, given-size ((c .before .before .before .before .before .pre .0 .4 .named .given)))
+sub-make c =
+    let some = c .before .before .before .before .before .before .before .before .pre .0 in
+    omega (arith, given-size (some .4 .named .given))
 
 part-make-start : tie.Need-part-make-start
 part-make-start c =
-    omega (arith, given-size ((c .before .before .before .before .before .pre .0 .4 .named .given)))
+    let some = c .before .before .before .before .before .before .before .before .pre .0 in
+    omega (arith, given-size (some .4 .named .given))
 
 part-make-end : tie.Need-part-make-end
 part-make-end c = search needs
 
 make-requires : tie.Need-make-requires
 make-requires c κs =
-    let start = c .before .before .before .before .before .before .before .before .before .before .before .before in (
-      given-over (start .pre .0 .4 .named .given) .runs,
+    let start = c .before .before .before .before .before .before .before .before .before .before .before
+    .before .before .before .before .before in
+    let some = start .pre .0 in
+    let room = start .pre .1 in (
+      given-over (some .4 .named .given) .runs,
       (
-        record {
-          heads-size = start .pre .1 .heads;
-          args-size =
-              start .pre .1 .args;
-          within = omega arith;
-        },
+        record { few = room .few; args-size = room .args; within = omega arith },
         (
           decode (start .args .table .now),
-          start .pre .0 .1,
-          nameIn
-              (bottomUp (start .pre .0 .1)) (start .args .names .now),
-          start .pre .0 .2,
-          fitting-chosen (start .pre .0 .4),
-          fitting-few (start .pre .0 .4),
+          some .1,
+          nameIn (bottomUp (some .1)) (start .args .names .now),
+          some .2,
+          fitting-chosen (some .4),
+          some .5,
         ),
       ),
     )
 
+same-length : tie.Need-same-length
+same-length c = search needs
+
+same-length-2 : tie.Need-same-length-2
+same-length-2 c = search needs
+
+same-length-3 : tie.Need-same-length-3
+same-length-3 c = search needs
+
 returns : tie.Need-returns
 returns c =
-    let start = c .before .before .before .before .before .before .before .before .before .before .before .before .before in
-    let room = c .make .ensures .0 in
+    let start = c .before .before .before .before .before .before .before .before .before .before .before
+    .before .before .before .before .before .before .before .before .before .before .before .before in
+    let make-call = c .before .before .before .before .before .before .make in
+    let room = make-call .ensures .0 in
     λ inserting t o cl F.
-    let H = c .make .ensures .1 (decode (start .args .table .now)) t (nameIn (bottomUp t) (start .args .names .now))
+    let H = make-call .ensures .1 (decode (start .args .table .now)) t (nameIn (bottomUp t) (start .args .names .now))
     o (fitting-chosen F) in
     record {
-      holds = entries-packed H (between-fit (F .named)) record { heads = room .heads-size; args = room .args-size }
+      holds = entries-packed H (between-fit (F .named)) record { args = room .args-size; few = room .few }
           (room .within);
       list = entries-in H (between-fit (F .named));
     }
 
 pub make-all-spec : {M : Type 1} → statement M
-make-all-spec = tie.close (tie.spec sub-make part-make-start part-make-end make-requires returns)
+make-all-spec =
+    tie.close
+    (tie.spec
+    sub-make
+    part-make-start
+    part-make-end
+    make-requires
+    same-length
+    same-length-2
+    same-length-3
+    returns)

@@ -11,26 +11,54 @@ no-entries-requires c κs = search needs
 no-entries-requires-2 : tie.Need-no-entries-requires-2
 no-entries-requires-2 c κs = search needs
 
+no-links-requires : tie.Need-no-links-requires
+no-links-requires c κs = search needs
+
+slice-aggregate-make-all : tie.Need-slice-aggregate-make-all
+slice-aggregate-make-all c = search needs
+
+slice-aggregate-make-all-2 : tie.Need-slice-aggregate-make-all-2
+slice-aggregate-make-all-2 c = search needs
+
+slice-aggregate-make-all-3 : tie.Need-slice-aggregate-make-all-3
+slice-aggregate-make-all-3 c = search needs
+
 make-all-requires : tie.Need-make-all-requires
-make-all-requires c κs = search needs
+make-all-requires c κs =
+    let args = c .before .before .before .before in
+    let heads = args .before in
+    let some = heads .before .before .before .pre .0 in (
+      (some .0, some .1, some .2, some .3, some .4, omega (arith, heads .no-entries .ok, some .5)),
+      record {
+        args = omega (arith, heads .no-entries .ok, args .no-entries2 .ok);
+        few = omega (arith, heads .no-entries .ok);
+      },
+    )
+
+slice-aggregate-write-run : tie.Need-slice-aggregate-write-run
+slice-aggregate-write-run c = search needs
+
+slice-aggregate-write-run-2 : tie.Need-slice-aggregate-write-run-2
+slice-aggregate-write-run-2 c = search needs
 
 write-run-requires : tie.Need-write-run-requires
 write-run-requires c κs =
-    let at-make-all = c .before .before .before in
-    let start = at-make-all .before .before .before .before .before .before .before in
-    let P = (at-make-all .make-all .ensures (start .pre .0 .0) (start .pre .0 .1) (start .pre .0 .2) (start .pre .0
-    .3) (start .pre .0 .4)) in (omega arith, (omega (arith, P .holds .few, start .pre .1), P .holds))
+    let made = c .before .before .before .before .before .before in
+    let start = made .before .before .before .before .before .before .before .before .before in
+    let some = start .pre .0 in
+    let P = made .make-all .ensures (some .0) (some .1) (some .2) (some .3) (some .4) in
+    (omega arith, (omega (arith, P .holds .few, P .holds .room .few, start .pre .1), P .holds))
 
 same-length : tie.Need-same-length
 same-length c = search needs
 
 returns : tie.Need-returns
 returns c =
-    let at-write-run = c .before .before in
-    let at-make-all = at-write-run .before .before .before .before in
-    let start = at-make-all .before .before .before .before .before .before .before in
-    λ inserting t o cl F. let K = at-make-all .make-all .ensures inserting t o cl F in run-put (K .holds)
-    (at-write-run .write-run .ensures) (start .pre .1) (F .named) K
+    let wrote = c .before .before in
+    let made = wrote .before .before .before .before .before .before .before in
+    let start = made .before .before .before .before .before .before .before .before .before in
+    λ inserting t o cl F. let K = made .make-all .ensures inserting t o cl F in run-put (K .holds)
+    (wrote .write-run .ensures) (start .pre .1) (F .named) K
 
 pub write-scratch-spec : {M : Type 1} → statement M
 write-scratch-spec =
@@ -38,7 +66,13 @@ write-scratch-spec =
     (tie.spec
     no-entries-requires
     no-entries-requires-2
+    no-links-requires
+    slice-aggregate-make-all
+    slice-aggregate-make-all-2
+    slice-aggregate-make-all-3
     make-all-requires
+    slice-aggregate-write-run
+    slice-aggregate-write-run-2
     write-run-requires
     same-length
     returns)

@@ -6,7 +6,7 @@ use Rattle.fields.specs.Fields.{firstArgs}
 use Rattle.automata.specs.Order.{lex}
 use lib.Dec.{ltb}
 use native.Mathlib.Omega.{arith}
-use Prim.Native.Nat.{_+_, _-_}
+use Prim.Native.Nat.{_-_}
 use mathlib.Core.Path.{_∙_, ap, ap₂, sym}
 use mathlib.Core.List.{map}
 use borrow.Author.Needs.{needs}

@@ -4,7 +4,6 @@ use Rattle.marking.proofs.Sweeps.{nonzero-false, nonzero-true}
 use Rattle.table.specs.Layout.{transitionAt}
 use Rattle.marking.specs.Marks.{marked}
 use native.Mathlib.Omega.{arith}
-use Prim.Native.Nat.{_+_}
 use mathlib.Core.Path.{_∙_, ap, sym}
 use borrow.Author.Needs.{needs}
 use Rattle.minimize.proofs.number.ready.Statement.{statement}

@@ -16,8 +16,8 @@ use Rattle.numbering.proofs.looking.read.Tie as tie
 mul-head : tie.Need-mul-head
 mul-head c = search needs
 
-element-copy-out-head : tie.Need-element-copy-out-head
-element-copy-out-head c = search needs
+shared-slice-read-head : tie.Need-shared-slice-read-head
+shared-slice-read-head c = search needs
 
 out-of-requires : tie.Need-out-of-requires
 out-of-requires c κs = search needs
@@ -25,31 +25,29 @@ out-of-requires c κs = search needs
 mul-top-place : tie.Need-mul-top-place
 mul-top-place c = search needs
 
-element-copy-out-top-place : tie.Need-element-copy-out-top-place
-element-copy-out-top-place c = search needs
+shared-slice-read-top-place : tie.Need-shared-slice-read-top-place
+shared-slice-read-top-place c = search needs
 
 arity-of-requires : tie.Need-arity-of-requires
 arity-of-requires c κs = search needs
 
 top-place-requires : tie.Need-top-place-requires
 top-place-requires c κs =
-    omega (
-      arith,
-      c .arity-of .ensures,
-      c .before .before .before .before .pre .0 .each ((c .before .before .before
-          .before .args .i)) (c .before .before .before .before .pre .1 .0) .narrow,
-    )
+    let start = c .before .before .before .before .before .before in
+    omega (arith, c .arity-of .ensures, start .pre .0 .each (start .args .i) (start .pre .1 .0) .narrow)
 
 returns : tie.Need-returns
 returns c =
-    let t = (c .before .top-place .ensures ∙ ap (λ (n : ℕ). top (map (placeOf (getD ((c .before .before .before
-    .before .before .before .args .args .now)) ((c .before .before .before .before .before .before .args .i)) 0))
-    (upFrom 0 n))) (c .before .before .arity-of .ensures)) in read-low ((c .before .before .before .before .before
-    .before .args .heads .now)) ((c .before .before .before .before .before .before .args .args .now)) ((c .before
-    .before .before .before .before .before .args .i)) ((c .before .before .before .before .before .before .args
-    .seen .now)) ((c .before .before .before .before .before .before .pre .1 .1 .1 .0)) ((c .before .before .before
-    .before .before .before .pre .1 .1 .0)) ((c .before .before .before .before .before .before .pre .1 .1 .1 .1))
-    (omega (arith, t, c .before .before .before .before .out-of .ensures .0))
+    let at-out-of = c .before .before .before .before in
+    let start = at-out-of .before .before .before .before in
+    let t = (c .before .top-place .ensures ∙ ap (λ (n : ℕ). top (map (placeOf (getD (start .args .args .now)
+    (start .args .i) 0)) (upFrom 0 n))) (c .before .before .arity-of .ensures)) in
+    read-low (start .args .heads .now) (start .args .args .now) (start .args .i) (start .args .seen .now)
+    (start .pre .1 .1 .1 .0) (start .pre .1 .1 .0) (start .pre .1 .1 .1 .1) (omega (
+      arith,
+      t,
+      at-out-of .out-of .ensures .0,
+    ))
 
 element-copy-out-wide : tie.Need-element-copy-out-wide
 element-copy-out-wide c = search needs
@@ -65,25 +63,19 @@ leads-to-requires c κs = search needs
 
 returns-2 : tie.Need-returns-2
 returns-2 c =
-    let t = (c .before .before .before .before .before .top-place .ensures ∙ ap (λ (n : ℕ). top (map (placeOf (getD
-    ((c .before .before .before .before .before .before .before .before .before .before .args .args .now)) ((c
-    .before .before .before .before .before .before .before .before .before .before .args .i)) 0)) (upFrom 0 n))) (c
-    .before .before .before .before .before .before .arity-of .ensures)) in let o = c .before .before .before .before
-    .before .before .before .before .out-of .ensures .0 in let m = c .before .before .wide .ensures ∙ ap (λ (q : ℕ).
-    getD ((c .before .before .before .before .before .before .before .before .before .before .args .seen .now)) q 0)
-    o in let l = c .before .leads-to .ensures (c .if2 .taken) in read-known ((c .before .before .before .before
-    .before .before .before .before .before .before .args .heads .now)) ((c .before .before .before .before .before
-    .before .before .before .before .before .args .args .now)) ((c .before .before .before .before .before .before
-    .before .before .before .before .args .i)) ((c .before .before .before .before .before .before .before .before
-    .before .before .args .seen .now)) ((c .before .before .before .before .before .before .before .before .before
-    .before .pre .1 .1 .1 .0)) ((c .before .before .before .before .before .before .before .before .before .before
-    .pre .1 .1 .0)) ((c .before .before .before .before .before .before .before .before .before .before .pre .1 .1 .1
-    .1)) (omega (arith, t, o, c .before .before .before .before .if1 .left)) (omega (arith, l .0, m)) (omega (
-      arith,
-      l .1,
-      m,
-      t,
-    ))
+    let at-if1 = c .before .before .before .before in
+    let at-top-place = at-if1 .before in
+    let at-arity-of = at-top-place .before in
+    let at-out-of = at-arity-of .before .before in
+    let start = at-out-of .before .before .before .before in
+    let t = (at-top-place .top-place .ensures ∙ ap (λ (n : ℕ). top (map (placeOf (getD (start .args .args .now)
+    (start .args .i) 0)) (upFrom 0 n))) (at-arity-of .arity-of .ensures)) in
+    let o = at-out-of .out-of .ensures .0 in
+    let m = c .before .before .wide .ensures ∙ ap (λ (q : ℕ). getD (start .args .seen .now) q 0) o in
+    let l = c .before .leads-to .ensures (c .if2 .taken) in
+    read-known (start .args .heads .now) (start .args .args .now) (start .args .i) (start .args .seen .now)
+    (start .pre .1 .1 .1 .0) (start .pre .1 .1 .0) (start .pre .1 .1 .1 .1) (omega (arith, t, o, at-if1 .if1 .left))
+    (omega (arith, l .0, m)) (omega (arith, l .1, m, t))
 
 add-all-seen : tie.Need-add-all-seen
 add-all-seen c = search needs
@@ -93,14 +85,10 @@ all-seen-requires c κs = search needs
 
 returns-3 : tie.Need-returns-3
 returns-3 c =
-    read-broken ((c .before .before .before .before .before .before .before .before .before .before .before .before
-    .before .args .heads .now)) ((c .before .before .before .before .before .before .before .before .before .before
-    .before .before .before .args .args .now)) ((c .before .before .before .before .before .before .before .before
-    .before .before .before .before .before .args .i)) ((c .before .before .before .before .before .before .before
-    .before .before .before .before .before .before .args .seen .now)) ((c .before .before .before .before .before
-    .before .before .before .before .before .before .before .before .pre .1 .1 .1 .0)) ((c .before .before .before
-    .before .before .before .before .before .before .before .before .before .before .pre .1 .1 .0)) ((c .before
-    .before .before .before .before .before .before .before .before .before .before .before .before .pre .1 .1 .1 .1))
+    let start = c .before .before .before .before .before .before .before .before .before .before .before .before
+    .before .before .before in
+    read-broken (start .args .heads .now) (start .args .args .now) (start .args .i) (start .args .seen .now)
+    (start .pre .1 .1 .1 .0) (start .pre .1 .1 .0) (start .pre .1 .1 .1 .1)
 
 add-seen : tie.Need-add-seen
 add-seen c = search needs
@@ -113,42 +101,28 @@ element-write-seen c = search needs
 
 returns-4 : tie.Need-returns-4
 returns-4 c =
-    let t = (c .before .before .before .before .before .before .before .before .top-place .ensures ∙ ap (λ (n : ℕ).
-    top (map (placeOf (getD ((c .before .before .before .before .before .before .before .before .before .before
-    .before .before .before .args .args .now)) ((c .before .before .before .before .before .before .before .before
-    .before .before .before .before .before .args .i)) 0)) (upFrom 0 n))) (c .before .before .before .before .before
-    .before .before .before .before .arity-of .ensures)) in let o = c .before .before .before .before .before .before
-    .before .before .before .before .before .out-of .ensures .0 in let e = sym (c .before .all-seen .ensures) ∙
-    not-false _ (c .if3 .left) in rw (t, o) (read-next ((c .before .before .before .before .before .before .before
-    .before .before .before .before .before .before .args .heads .now)) ((c .before .before .before .before .before
-    .before .before .before .before .before .before .before .before .args .args .now)) ((c .before .before .before
-    .before .before .before .before .before .before .before .before .before .before .args .i)) ((c .before .before
-    .before .before .before .before .before .before .before .before .before .before .before .args .seen .now)) ((c
-    .before .before .before .before .before .before .before .before .before .before .before .before .before .pre .1
-    .1 .1 .0)) ((c .before .before .before .before .before .before .before .before .before .before .before .before
-    .before .pre .1 .1 .0)) ((c .before .before .before .before .before .before .before .before .before .before
-    .before .before .before .pre .1 .1 .1 .1)) (omega (
-      arith,
-      t,
-      o,
-      c .before .before .before .before .before .before
-          .before .if1 .left,
-    )) (omega (
-      arith,
-      o,
-      c .before .before .before .before .before .before .before .before .before
-          .before .before .out-of .ensures .1,
-    )) (rw (t, o) at e))
+    let at-if1 = c .before .before .before .before .before .before .before in
+    let at-top-place = at-if1 .before in
+    let at-arity-of = at-top-place .before in
+    let at-out-of = at-arity-of .before .before in
+    let start = at-out-of .before .before .before .before in
+    let t = (at-top-place .top-place .ensures ∙ ap (λ (n : ℕ). top (map (placeOf (getD (start .args .args .now)
+    (start .args .i) 0)) (upFrom 0 n))) (at-arity-of .arity-of .ensures)) in
+    let o = at-out-of .out-of .ensures .0 in
+    let e = sym (c .before .all-seen .ensures) ∙ not-false _ (c .if3 .left) in
+    rw (t, o) (read-next (start .args .heads .now) (start .args .args .now) (start .args .i) (start .args .seen .now)
+    (start .pre .1 .1 .1 .0) (start .pre .1 .1 .0) (start .pre .1 .1 .1 .1) (omega (arith, t, o, at-if1 .if1 .left))
+    (omega (arith, o, at-out-of .out-of .ensures .1)) (rw (t, o) at e))
 
 pub read-spec : {M : Type 1} → statement M
 read-spec =
     tie.close
     (tie.spec
     mul-head
-    element-copy-out-head
+    shared-slice-read-head
     out-of-requires
     mul-top-place
-    element-copy-out-top-place
+    shared-slice-read-top-place
     arity-of-requires
     top-place-requires
     returns

@@ -24,7 +24,9 @@ loop-holds : tie.Need-loop-holds Inv-loop μ-loop
 loop-holds c = (omega arith, λ j h. absurd (omega arith))
 
 add-loop : tie.Need-add-loop Inv-loop μ-loop
-add-loop c = omega (arith, c .before .pre .few, c .loop .inv .0)
+add-loop c =
+    let start = c .before .before .before in
+    omega (arith, start .pre .few, c .loop .inv .0)
 
 word-at-requires : tie.Need-word-at-requires Inv-loop μ-loop
 word-at-requires c κs = search needs
@@ -57,40 +59,31 @@ loop-less : tie.Need-loop-less Inv-loop μ-loop
 loop-less c = search needs
 
 loop-again : tie.Need-loop-again Inv-loop μ-loop
-loop-again c = (
-  omega arith,
-  below-more (λ j. precedes (nthPacked ((c .before .before .before .before .before .before .before
-      .before .args .heads .now)) ((c .before .before .before .before .before .before .before .before .args .args
-      .now)) j) (nthPacked ((c .before .before .before .before .before .before .before .before .args .heads .now)) ((c
-      .before .before .before .before .before .before .before .before .args .args .now)) (j + 1)) ≡ true) ((c .before
-      .before .before .before .before .before .before .loop .i)) (c .before .before .before .before .before .before
-      .before .loop .inv .1) (precedes-heads (c .before .before .before .before .before .before .before .before .pre
-      .each ((c .before .before .before .before .before .before .before .loop .i)) (omega arith)) (c .before .before
-      .before .before .before .before .before .before .pre .each ((c .before .before .before .before .before .before
-      .before .loop .i) + 1) (omega arith)) (omega (
-        arith,
-        c .before .before .before .before .word-at2 .ok,
-        c .before
-            .before .before .before .word-at2 .ensures,
-      )) (omega (
-        arith,
-        c .before .before .word-at4 .ok,
-        c .before .before
-            .word-at4 .ensures,
-      )) ∙ rw (
-        c .before .before .before .before .before .word-at .ensures,
-        c .before .before .before
-            .before .word-at2 .ensures,
-        c .before .before .before .word-at3 .ensures,
-        c .before .before .word-at4 .ensures,
-      )
-      at (sym (c .before .is-before .ensures) ∙ not-false _ (c .if1 .left))),
-)
+loop-again c =
+    let at-word-at3 = c .before .before .before in
+    let at-word-at2 = at-word-at3 .before in
+    let at-word-at = at-word-at2 .before in
+    let at-loop = at-word-at .before .before in
+    let start = at-loop .before .before .before in (
+      omega arith,
+      below-more (λ j. precedes (nthPacked (start .args .heads .now) (start .args .args .now) j)
+          (nthPacked (start .args .heads .now) (start .args .args .now) (j + 1)) ≡ true) (at-loop .loop .i)
+          (at-loop .loop .inv .1) (precedes-heads (start .pre .each (at-loop .loop .i) (omega arith)) (start .pre .each
+          ((at-loop .loop .i) + 1) (omega arith)) (omega (arith, at-word-at2 .word-at2 .ok, at-word-at2 .word-at2 .ensures))
+          (omega (arith, c .before .before .word-at4 .ok, c .before .before .word-at4 .ensures)) ∙ rw (
+            at-word-at .word-at .ensures,
+            at-word-at2 .word-at2 .ensures,
+            at-word-at3 .word-at3 .ensures,
+            c .before
+                .before .word-at4 .ensures,
+          ) at (sym (c .before .is-before .ensures) ∙ not-false _ (c .if1 .left))),
+    )
 
 returns-2 : tie.Need-returns-2 Inv-loop μ-loop
 returns-2 c =
-    λ _. rising-each ((c .before .before .args .heads .now)) ((c .before .before .args .args .now)) (c .before
-    .before .args .count) (λ j h. (c .before .loop) .inv .1 j (omega arith))
+    let start = c .before .before .before .before in
+    λ _. rising-each (start .args .heads .now) (start .args .args .now) (start .args .count) (λ j h.
+    (c .before .loop) .inv .1 j (omega arith))
 
 pub rises-spec : {M : Type 1} → statement M
 rises-spec =

@@ -30,8 +30,8 @@ loop-holds c = (
   omega arith,
   omega arith,
   length-replicate {A = ℕ} byteValues 0,
-  pass-start (c .args .heads .now) (c .args .args
-      .now),
+  pass-start (c .before .before .args .heads .now)
+      (c .before .before .args .args .now),
   spans-none,
   λ q a b. absurd (omega arith),
 )
@@ -39,8 +39,8 @@ loop-holds c = (
 mul-out-of : tie.Need-mul-out-of Inv-loop μ-loop
 mul-out-of c = search needs
 
-element-copy-out-out-of : tie.Need-element-copy-out-out-of Inv-loop μ-loop
-element-copy-out-out-of c = search needs
+shared-slice-read-out-of : tie.Need-shared-slice-read-out-of Inv-loop μ-loop
+shared-slice-read-out-of c = search needs
 
 out-of-requires : tie.Need-out-of-requires Inv-loop μ-loop
 out-of-requires c κs = search needs
@@ -52,49 +52,39 @@ loop-less : tie.Need-loop-less Inv-loop μ-loop
 loop-less c = search needs
 
 loop-again : tie.Need-loop-again Inv-loop μ-loop
-loop-again c = (
-  omega arith,
-  c .before .before .before .before .loop .inv .1,
-  c .before .before .before .before .loop .inv .2,
-  pass-below (c .before .before .before .before .before .args .heads .now) (c .before .before .before .before
-      .before .args .args .now) (c .before .before .before .before .loop .i) (c .before .before .before .before .loop
-      .seen) (c .before .before .before .before .loop .inv .3) (c .before .before .before .before .loop .low) (c
-      .before .before .before .before .loop .inv .5) (omega (arith, c .before .out-of .ensures .0)),
-  c .before .before
-      .before .before .loop .inv .4,
-  c .before .before .before .before .loop .inv .5,
-)
+loop-again c =
+    let at-loop = c .before .before .before .before in
+    let start = at-loop .before .before .before in (
+      omega arith,
+      at-loop .loop .inv .1,
+      at-loop .loop .inv .2,
+      pass-below (start .args .heads .now)
+          (start .args .args .now) (at-loop .loop .i) (at-loop .loop .seen) (at-loop .loop .inv .3) (at-loop .loop .low)
+          (at-loop .loop .inv .5) (omega (arith, c .before .out-of .ensures .0)),
+      at-loop .loop .inv .4,
+      at-loop .loop .inv .5,
+    )
 
 read-requires : tie.Need-read-requires Inv-loop μ-loop
-read-requires c κs = (
-  c .before .before .before .before .before .before .pre .0,
-  (
-    omega arith,
-    (
-      c .before .before .before .before
-          .before .loop .inv .2,
-      (
-        c .before .before .before .before .before .loop .inv .3,
-        c .before .before .before
-            .before .before .loop .inv .4,
-      ),
-    ),
-  ),
-)
+read-requires c κs =
+    let at-loop = c .before .before .before .before .before in
+    let start = at-loop .before .before .before in
+    (start .pre .0, (omega arith, (at-loop .loop .inv .2, (at-loop .loop .inv .3, at-loop .loop .inv .4))))
 
 returns : tie.Need-returns Inv-loop μ-loop
 returns c = λ e. absurd (false≢true e)
 
 seen-up-to-requires : tie.Need-seen-up-to-requires Inv-loop μ-loop
-seen-up-to-requires c κs = (
-  c .before .before .before .before .before .before .before .before .loop .inv .1,
-  (
-    c .before .before .before
-        .before .before .before .before .before .before .pre .1,
-    λ q a b. (c .before .before .read) .ensures .kept q (c
-        .before .before .before .before .before .before .before .before .loop .inv .5 q a b),
-  ),
-)
+seen-up-to-requires c κs =
+    let at-loop = c .before .before .before .before .before .before .before .before in
+    let start = at-loop .before .before .before in (
+      at-loop .loop .inv .1,
+      (
+        start .pre .1,
+        λ q a b. (c .before .before .read) .ensures .kept q (at-loop .loop .inv .5
+            q a b),
+      ),
+    )
 
 add-i-2 : tie.Need-add-i-2 Inv-loop μ-loop
 add-i-2 c = search needs
@@ -103,27 +93,27 @@ loop-less-2 : tie.Need-loop-less-2 Inv-loop μ-loop
 loop-less-2 c = search needs
 
 loop-again-2 : tie.Need-loop-again-2 Inv-loop μ-loop
-loop-again-2 c = (
-  omega arith,
-  c .seen-up-to .ensures .0,
-  c .before .before .before .read .ensures .size,
-  c .before .before
-      .before .read .ensures .passed (not-false _ (c .before .before .if2 .left)),
-  c .before .before .before .read
-      .ensures .spans,
-  c .seen-up-to .ensures .1,
-)
+loop-again-2 c =
+    let at-read = c .before .before .before in (
+      omega arith,
+      c .seen-up-to .ensures .0,
+      at-read .read .ensures .size,
+      at-read .read .ensures .passed (not-false _
+          (c .before .before .if2 .left)),
+      at-read .read .ensures .spans,
+      c .seen-up-to .ensures .1,
+    )
 
 returns-2 : tie.Need-returns-2 Inv-loop μ-loop
 returns-2 c =
-    λ e. let d : c .before .loop .i ≡ c .before .before .args .count = omega (arith, c .before .loop .inv .0) in
-    pass-end ((c .before .before .args .heads .now)) ((c .before .before .args .args .now)) (c .before .before .args
-    .count) (c .before .loop .seen) (subst (λ (n : ℕ). Passed (packedIn ((c .before .before .args .heads .now)) ((c
-    .before .before .args .args .now)) n) (marked (c .before .loop .seen))) d (c .before .loop .inv .3)) (c .before
-    .before .args .states) (λ q a b. (c .before .loop) .inv .5 q a (omega (
+    let start = c .before .before .before .before in
+    λ e. let d : c .before .loop .i ≡ start .args .count = omega (arith, c .before .loop .inv .0) in pass-end
+    (start .args .heads .now) (start .args .args .now) (start .args .count) (c .before .loop .seen) (subst (λ (n : ℕ).
+    Passed (packedIn (start .args .heads .now) (start .args .args .now) n) (marked (c .before .loop .seen))) d
+    (c .before .loop .inv .3)) (start .args .states) (λ q a b. (c .before .loop) .inv .5 q a (omega (
       arith,
-      eqb-true (c .before .loop .low) (c
-          .before .before .args .states) e,
+      eqb-true
+          (c .before .loop .low) (start .args .states) e,
     )))
 
 pub ruled-spec : {M : Type 1} → statement M
@@ -134,7 +124,7 @@ ruled-spec =
     μ-loop
     loop-holds
     mul-out-of
-    element-copy-out-out-of
+    shared-slice-read-out-of
     out-of-requires
     add-i
     loop-less

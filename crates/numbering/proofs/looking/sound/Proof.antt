@@ -18,8 +18,8 @@ returns-2 : tie.Need-returns-2
 returns-2 c =
     λ e. record {
       rises = c .before .before .rises .ensures (not-false _ (c .before .if1 .left));
-      ruled = c .ruled
-          .ensures e;
+      ruled =
+          c .ruled .ensures e;
     }
 
 pub sound-spec : {M : Type 1} → statement M

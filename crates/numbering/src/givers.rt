@@ -1,0 +1,298 @@
+// The few transitions that are placed first: those made from the transitions that gave the states their numbers in the old
+// table, and all whose outputs have none such. Mostly these number every output. Nothing is said of them.
+ghost use mathlib.Core.Path.{_≡_};
+ghost use Prim.Native.Nat.{_*_, _+_, _<_, _≤_};
+ghost use lib.ListN.{length};
+ghost use Rattle.fields.specs.Fields.{HoldsTransitions};
+ghost use Rattle.format.specs.Format.{byteValues, maxStates, transitionBytes};
+ghost use Rattle.packed.specs.Heads.{Room};
+use crate::placing::place;
+use crate::placing::place_all;
+use crate::reading::arity_of;
+use crate::reading::out_of;
+use fields::arg_of;
+use format::BYTE_VALUES;
+use format::MAX_ARITY;
+use format::TRANSITION_BYTES;
+use format::widened;
+use validity::greater;
+
+// The greatest argument of the transition that starts at a byte. Places beyond the arguments are 0.
+fn top_argument(transitions: &[u8], at: usize) -> usize
+    requires { ⌜ at + transitionBytes ≤ length (now transitions) ⌝ }
+{
+    let mut top = 0;
+    let mut k = 0;
+    while k < MAX_ARITY {
+        let q = arg_of(transitions, at, k);
+        top = greater(top, q);
+        k += 1;
+    }
+    top
+}
+
+// Notes transition i, counted from 1, if it is the first into its output with all arguments below it.
+fn note_giver(transitions: &[u8], i: usize, givers: &mut [u16; BYTE_VALUES])
+    requires { ⌜ transitionBytes * i + transitionBytes ≤ length (now transitions) ⌝ }
+    requires { ⌜ i < 65535 ⌝ }
+{
+    let at = TRANSITION_BYTES * i;
+    let out = fields::out_of(transitions, at);
+    if givers[out] != 0 {
+        return;
+    }
+    if top_argument(transitions, at) >= out {
+        return;
+    }
+    givers[out] = (i + 1) as u16;
+}
+
+// For each state the first transition into it whose arguments are all below it, counted from 1; 0 if there is none.
+pub fn givers_of(transitions: &[u8], count: usize) -> [u16; BYTE_VALUES]
+    requires { ⌜ HoldsTransitions (now transitions) count ⌝ }
+{
+    let mut givers = [0u16; BYTE_VALUES];
+    let mut i = 0;
+    while i < count {
+        note_giver(transitions, i, &mut givers);
+        i += 1;
+    }
+    givers
+}
+
+// How many entries had been made after old transition g, counted from 1, and no more than a limit.
+fn end_of(ends: &[u16], g: usize, limit: usize) -> usize
+    ensures { λ r. ⌜ r ≤ limit ⌝ }
+{
+    if g == 0 {
+        return 0;
+    }
+    if g > ends.len() {
+        return 0;
+    }
+    let end = widened(ends[g - 1]);
+    if end > limit {
+        return limit;
+    }
+    end
+}
+
+// How many had been made before it.
+fn start_of(ends: &[u16], g: usize, limit: usize) -> usize
+    ensures { λ r. ⌜ r ≤ limit ⌝ }
+{
+    if g == 0 {
+        return 0;
+    }
+    end_of(ends, g - 1, limit)
+}
+
+// Places the entries from `start` to `end` into name q, but for leaves. Returns how many outputs are new.
+fn place_given(
+    heads: &[u64],
+    args: &[u64],
+    q: usize,
+    start: usize,
+    end: usize,
+    numbers: &[u8; BYTE_VALUES],
+    lists: &mut [u16; BYTE_VALUES],
+    next: &mut [u16],
+    bests: &mut [u16; BYTE_VALUES],
+    fresh: &mut [u8; BYTE_VALUES],
+    news: &mut [u8; BYTE_VALUES],
+    given: &mut [u8; BYTE_VALUES],
+    placed: usize,
+) -> usize
+    requires { ⌜ end ≤ length (now heads) ⌝ }
+    requires { ⌜ Room (now heads) (now args) ⌝ }
+    requires { ⌜ length (now next) ≡ length (now heads) ⌝ }
+    requires { ⌜ q < byteValues ⌝ }
+    requires { ⌜ placed ≤ byteValues ⌝ }
+    ensures { λ r. ⌜ r ≤ byteValues ⌝ }
+{
+    let mut new = placed;
+    let mut i = start;
+    while i < end {
+        let head = heads[i];
+        i += 1;
+        if out_of(head) != q {
+            continue;
+        }
+        given[q] = 1;
+        if arity_of(head) == 0 {
+            continue;
+        }
+        new = place(
+            heads,
+            args,
+            i - 1,
+            numbers,
+            lists,
+            next,
+            bests,
+            fresh,
+            news,
+            new,
+        );
+    }
+    new
+}
+
+// Whether an entry is placed whatever it was made from: it is a leaf, or its output is new or has no giver.
+fn stands_alone(head: u64, n: usize, given: &[u8; BYTE_VALUES]) -> bool {
+    (arity_of(head) == 0) | (out_of(head) > n) | (given[out_of(head)] == 0)
+}
+
+// Places the entries that stand alone, and those of subtrees, which come after the first `old`. Returns how many outputs are
+// new. None of these is placed among those of a giver: an entry in two lists would close a circle.
+fn place_others(
+    heads: &[u64],
+    args: &[u64],
+    count: usize,
+    old: usize,
+    n: usize,
+    numbers: &[u8; BYTE_VALUES],
+    lists: &mut [u16; BYTE_VALUES],
+    next: &mut [u16],
+    bests: &mut [u16; BYTE_VALUES],
+    fresh: &mut [u8; BYTE_VALUES],
+    news: &mut [u8; BYTE_VALUES],
+    given: &[u8; BYTE_VALUES],
+    placed: usize,
+) -> usize
+    requires { ⌜ count ≤ length (now heads) ⌝ }
+    requires { ⌜ Room (now heads) (now args) ⌝ }
+    requires { ⌜ length (now next) ≡ length (now heads) ⌝ }
+    requires { ⌜ placed ≤ byteValues ⌝ }
+    ensures { λ r. ⌜ r ≤ byteValues ⌝ }
+{
+    let mut new = placed;
+    let mut i = 0;
+    while i < count {
+        let alone = stands_alone(heads[i], n, given);
+        i += 1;
+        if !alone & (i <= old) {
+            continue;
+        }
+        new = place(
+            heads,
+            args,
+            i - 1,
+            numbers,
+            lists,
+            next,
+            bests,
+            fresh,
+            news,
+            new,
+        );
+    }
+    new
+}
+
+// Places few transitions. Returns how many outputs are new.
+fn place_few(
+    heads: &[u64],
+    args: &[u64],
+    count: usize,
+    numbers: &[u8; BYTE_VALUES],
+    lists: &mut [u16; BYTE_VALUES],
+    next: &mut [u16],
+    bests: &mut [u16; BYTE_VALUES],
+    fresh: &mut [u8; BYTE_VALUES],
+    news: &mut [u8; BYTE_VALUES],
+    n: usize,
+    old: usize,
+    ends: &[u16],
+    givers: &[u16; BYTE_VALUES],
+) -> usize
+    requires { ⌜ count ≤ length (now heads) ⌝ }
+    requires { ⌜ Room (now heads) (now args) ⌝ }
+    requires { ⌜ length (now next) ≡ length (now heads) ⌝ }
+    requires { ⌜ n ≤ maxStates ⌝ }
+    ensures { λ r. ⌜ r ≤ byteValues ⌝ }
+{
+    let made = end_of(ends, old, count);
+    let mut given = [0u8; BYTE_VALUES];
+    let mut new = 0;
+    let mut q = 1;
+    while q <= n {
+        let g = widened(givers[q]);
+        let start = start_of(ends, g, made);
+        let end = end_of(ends, g, made);
+        new = place_given(
+            heads,
+            args,
+            q,
+            start,
+            end,
+            numbers,
+            lists,
+            next,
+            bests,
+            fresh,
+            news,
+            &mut given,
+            new,
+        );
+        q += 1;
+    }
+    place_others(
+        heads,
+        args,
+        count,
+        made,
+        n,
+        numbers,
+        lists,
+        next,
+        bests,
+        fresh,
+        news,
+        &given,
+        new,
+    )
+}
+
+// Places few transitions, or all.
+pub fn place_first(
+    heads: &[u64],
+    args: &[u64],
+    count: usize,
+    numbers: &[u8; BYTE_VALUES],
+    lists: &mut [u16; BYTE_VALUES],
+    next: &mut [u16],
+    bests: &mut [u16; BYTE_VALUES],
+    fresh: &mut [u8; BYTE_VALUES],
+    news: &mut [u8; BYTE_VALUES],
+    n: usize,
+    old: usize,
+    ends: &[u16],
+    givers: &[u16; BYTE_VALUES],
+    few: bool,
+) -> usize
+    requires { ⌜ count ≤ length (now heads) ⌝ }
+    requires { ⌜ Room (now heads) (now args) ⌝ }
+    requires { ⌜ length (now next) ≡ length (now heads) ⌝ }
+    requires { ⌜ n ≤ maxStates ⌝ }
+    ensures { λ r. ⌜ r ≤ byteValues ⌝ }
+{
+    if few {
+        return place_few(
+            heads,
+            args,
+            count,
+            numbers,
+            lists,
+            next,
+            bests,
+            fresh,
+            news,
+            n,
+            old,
+            ends,
+            givers,
+        );
+    }
+    place_all(heads, args, count, numbers, lists, next, bests, fresh, news)
+}
