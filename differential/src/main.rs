@@ -1,7 +1,7 @@
 //! The proved library and the reference on the same bytes: series of calls from the empty table, from random legal
 //! tables and from such near the limits; damaged tables; all lengths; lines of text; changes in either order; trees
 //! that stop at every place; totals around 2^64; serial numbers both ways. Answers and every byte that a call may write
-//! are compared, and every answer must be met.
+//! are compared, and every answer must be met. Arguments are seeds, and all of it is done for each; without any, for 1.
 
 use differential::dice::{Dice, LAST};
 use differential::lines::lines;
@@ -117,11 +117,14 @@ fn lengths(dice: &mut Dice, tally: &mut Tally) {
 }
 
 fn main() {
-    let mut dice = Dice::new(1);
+    let named: Vec<u64> = std::env::args().skip(1).map(|seed| seed.parse().expect("a seed is a number")).collect();
+    let seeds = if named.is_empty() { vec![1] } else { named };
     let mut tally = Tally::default();
-    for part in [all_series, near_limits, damaged_tables, any_automata, lengths, lines, swaps, stops, totals, serial] {
-        part(&mut dice, &mut tally);
-        println!("{} calls", tally.calls());
+    for mut dice in seeds.into_iter().map(Dice::new) {
+        for part in [all_series, near_limits, damaged_tables, any_automata, lengths, lines, swaps, stops, totals, serial] {
+            part(&mut dice, &mut tally);
+            println!("{} calls", tally.calls());
+        }
     }
     tally.all_met();
     println!("{} passed, {} failed", tally.passed, tally.failed);
