@@ -2,7 +2,7 @@
 use mathlib.Core.Bool.{Bool, _&&_, _||_, true}
 use mathlib.Core.List.{List}
 use mathlib.Core.Path.{_≡_}
-use Prim.Native.Nat.{_*_, _+_, _<_, _≤_, suc, zero, ℕ}
+use Prim.Native.Nat.{_*_, _+_, _-_, _<_, _^_, _≤_, suc, zero, ℕ}
 use lib.Dec.{eqb, ltb}
 use lib.ListN.{getD}
 use Rattle.automata.specs.Order.{rising}
@@ -14,6 +14,10 @@ use Rattle.table.specs.Layout.{argOf, arityOf, labelOf, transitionsIn}
 abbrev pub digits : (ℕ → ℕ) → ℕ → ℕ → ℕ → ℕ
 digits f k zero v = v
 digits f k (suc n) v = digits f (suc k) n (byteValues * v + f k)
+
+-- a number of so many digits with zeros after them, eight digits in all
+abbrev pub padTo : ℕ → ℕ → ℕ
+padTo n v = v * 2 ^ (8 * (maxArity - n))
 
 -- element k of a list; 0 beyond its end
 abbrev pub padded : List ℕ → ℕ → ℕ

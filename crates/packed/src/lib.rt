@@ -1,6 +1,7 @@
 // Transitions as two numbers, read from their bytes each time. Two transitions are compared by two comparisons of
 // numbers.
 mod layout; // condition 7
+mod filling; // digits filled up with zeros
 mod searching; // search by halves
 mod slots; // transitions that differ in one argument
 
@@ -14,13 +15,13 @@ ghost use Rattle.packed.specs.Packed.{HoldsPadded, before, metaAt, packe
 use fields::arg_of;
 use fields::arity_of;
 use fields::label_of;
+pub use filling::padded;
 use format::TRANSITION_BYTES;
 pub use layout::layout_fits;
 pub use searching::meta_of;
 pub use searching::output;
 pub use searching::pack;
 pub use searching::seek;
-pub use searching::seek_near;
 pub use slots::Slot;
 pub use slots::at_place;
 pub use slots::first_in_slot;

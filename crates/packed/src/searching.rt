@@ -62,26 +62,6 @@ pub fn seek(transitions: &[u8], count: usize, meta: u64, args: u64) -> usize
     i + 1
 }
 
-// The same, with a look at one index first; any index will do.
-pub fn seek_near(transitions: &[u8], count: usize, meta: u64, args: u64, near: usize) -> usize
-    requires { ⌜ Searchable (now transitions) count ⌝ }
-    ensures { λ r. ⌜ r ≤ count ⌝ }
-    ensures { λ r. ⌜ ((b : ℕ) (qs : List ℕ) → Packs meta args b qs →
-        SoughtAt (now (transitions .entry)) count b qs r) ⌝ }
-{
-    if near >= count {
-        return seek(transitions, count, meta, args);
-    }
-    let at = TRANSITION_BYTES * near;
-    if meta_at(transitions, at) != meta {
-        return seek(transitions, count, meta, args);
-    }
-    if args_at(transitions, at) != args {
-        return seek(transitions, count, meta, args);
-    }
-    near + 1
-}
-
 // A number and, as its next digit to base 256, a byte.
 fn with_digit(v: u64, q: u8) -> u64
     requires { ⌜ v < 2 ^ 56 ⌝ }

@@ -14,12 +14,12 @@ use Rattle.automata.specs.Quotient.{choices}
 use Rattle.format.specs.Format.{maxArity}
 use Rattle.lists.specs.Positions.{Pair}
 use Rattle.lists.specs.Tests.{_∈_, every}
-use Rattle.packed.specs.Packed.{digits, packed, padded}
+use Rattle.packed.specs.Packed.{digits, packed, padTo, padded}
 use Rattle.automata.proofs.Nodes.{concatMap-in}
 use Rattle.lists.proofs.Tests.{map-in}
 use Rattle.packed.proofs.Digits.{digits-same}
 use Rattle.packed.proofs.Shifts.{digits-cut, digits-none, digits-split}
-use Rattle.quotient.specs.Making.{padTo, walk, withName}
+use Rattle.quotient.specs.Making.{walk, withName}
 use Rattle.quotient.proofs.Concatenation.{concatMap-map, concatMap-nested, concatMap-same}
 
 -- ---- names packed

@@ -13,6 +13,10 @@ module _ {A B : Type 0} where
   concatMap-same f g (x ∷ xs) h =
       ap₂ (λ (l r : List B). l ++ r) (h x (inl refl)) (concatMap-same f g xs (λ y i. h y (inr i)))
 
+  pub concatMap-none : (f : A → List B) (xs : List A) → ((x : A) → f x ≡ []) → concatMap f xs ≡ []
+  concatMap-none f [] h = refl
+  concatMap-none f (x ∷ xs) h = ap (λ (l : List B). l ++ concatMap f xs) (h x) ∙ concatMap-none f xs h
+
   pub concatMap-append : (f : A → List B) (xs ys : List A) →
       concatMap f (xs ++ ys) ≡ concatMap f xs ++ concatMap f ys
   concatMap-append f [] ys = refl

@@ -17,7 +17,7 @@ use Rattle.format.specs.Format.{AllBytes, bytePairs, byteValues, maxArity, maxL
 use Rattle.lists.specs.Positions.{Pair, upFrom}
 use Rattle.lists.specs.Tests.{_∈_, every, filter}
 use Rattle.packed.specs.Heads.{HoldsEntries, headOf, packedArgs}
-use Rattle.packed.specs.Packed.{metaAt, packed}
+use Rattle.packed.specs.Packed.{metaAt, packed, padTo}
 use Rattle.subtrees.specs.Store.{bottomUp}
 use Rattle.table.specs.Layout.{argOf, arityOf, labelOf, nthTransition, outOf, transitionsIn}
 use Rattle.trees.specs.Tree.{Tree}
@@ -28,7 +28,7 @@ use Rattle.lists.proofs.Tests.{filter-in}
 use Rattle.packed.proofs.Order.{Packable}
 use Rattle.quotient.specs.Kept.{keptAt, namesOf}
 use Rattle.quotient.specs.Making.{Appended, chosenFrom, chosenIn, entryOf, finished, newEntry, newIn}
-use Rattle.quotient.specs.Making.{nthChosen, outOver, padTo, walk}
+use Rattle.quotient.specs.Making.{nthChosen, outOver, walk}
 use Rattle.quotient.specs.Nodes.{EachNode, keyOf, metaOf}
 use Rattle.quotient.specs.Setting.{Changed, Chosen}
 use Rattle.quotient.proofs.Choices.{choices-each, choices-same, pack-padded, packOnto, walk-choices}

@@ -6,7 +6,7 @@ use mathlib.Core.Path.{_∙_, _≡_, ap, refl, sym}
 use Prim.Native.Nat.{_+_, _-_, _<_, _≤_, ℕ}
 use native.Mathlib.Omega.{arith}
 use lib.Dec.{eqb}
-use lib.ListN.{getD, length-replicate, length-set, replicate, set}
+use lib.ListN.{getD, length, length-set, set}
 use lib.Seq.{getD-set-other, getD-set-same}
 use borrow.Author.Tests.{eqb-false, eqb-true}
 use Rattle.format.specs.Format.{maxNodes}
@@ -41,8 +41,8 @@ module _ {metas keys v : List ℕ} {a x o m : ℕ} where
 
 -- ---- a number for each subtree, one after another
 
-pub each-start : {f : ℕ → ℕ} → EachNode f 0 (replicate maxNodes 0)
-each-start = record { size = length-replicate {A = ℕ} maxNodes 0; each = λ j h. absurd (omega arith) }
+pub each-start : {f : ℕ → ℕ} {ks : List ℕ} → length ks ≡ maxNodes → EachNode f 0 ks
+each-start e = record { size = e; each = λ j h. absurd (omega arith) }
 
 pub each-next : {f : ℕ → ℕ} {j x : ℕ} {ks : List ℕ} → EachNode f j ks → j < maxNodes → x ≡ f j →
     EachNode f (j + 1) (set ks j x)

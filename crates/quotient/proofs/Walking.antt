@@ -12,12 +12,12 @@ use Rattle.automata.specs.Product.{concatMap}
 use Rattle.format.specs.Format.{byteValues}
 use Rattle.lists.specs.Positions.{Pair, upFrom}
 use Rattle.pairs.specs.Counts.{entry}
-use Rattle.packed.specs.Packed.{metaAt}
+use Rattle.packed.specs.Packed.{metaAt, padTo}
 use Rattle.table.specs.Layout.{argOf, arityOf, outOf}
 use Rattle.lists.proofs.Loops.{upFrom-next, upFrom-none, upFrom-whole}
 use Rattle.quotient.specs.Kept.{Above, Rises, chainFrom, namesOf}
 use Rattle.quotient.specs.Making.{argsFrom, chosenFrom, chosenIn, entryOf, finished, newEntry, newIn}
-use Rattle.quotient.specs.Making.{nthChosen, outOver, padTo, walk, withName}
+use Rattle.quotient.specs.Making.{nthChosen, outOver, walk, withName}
 use Rattle.quotient.specs.Nodes.{namedBy, newAt}
 use Rattle.quotient.proofs.Chains.{chain-end, chain-next}
 

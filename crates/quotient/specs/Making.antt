@@ -9,7 +9,7 @@ use lib.ListN.{getD, length, take}
 use Rattle.automata.specs.Product.{concatMap, fst, snd}
 use Rattle.format.specs.Format.{byteValues, maxArity, maxTransitions, transitionBytes}
 use Rattle.lists.specs.Positions.{Pair, upFrom}
-use Rattle.packed.specs.Packed.{metaAt}
+use Rattle.packed.specs.Packed.{metaAt, padTo}
 use Rattle.table.specs.Layout.{argOf, arityOf, outOf}
 use Rattle.quotient.specs.Kept.{namesOf}
 use Rattle.quotient.specs.Nodes.{namedBy, newAt}
@@ -35,10 +35,6 @@ pub record Room (h a : List ℕ) (n : ℕ) : Type 0 where
 -- one entry, none if the output is 0
 abbrev pub entryOf : ℕ → ℕ → ℕ → List Pair
 entryOf meta key out = cond (eqb out 0) [] ((byteValues * meta + out, key) ∷ [])
-
--- a number of a digits with zeros after them, eight digits in all
-abbrev pub padTo : ℕ → ℕ → ℕ
-padTo arity v = v * 2 ^ (8 * (maxArity - arity))
 
 -- the output of chosen names: if all of them are own names, the name of the subtree that they make, if any
 abbrev pub outOver : List ℕ → List ℕ → List ℕ → ℕ → Bool → ℕ → ℕ → ℕ → ℕ

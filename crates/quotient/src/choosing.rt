@@ -1,7 +1,7 @@
 // All choices of kept names for the arguments of a transition, one place after another. The names chosen so far are one
 // number to base 256, the first the highest.
-ghost use mathlib.Core.Bool.{true};
-ghost use mathlib.Core.List.{List};
+ghost use mathlib.Core.Bool.{false, true};
+ghost use mathlib.Core.List.{List, []};
 ghost use mathlib.Core.Path.{_≡_};
 ghost use Prim.Native.Nat.{_*_, _+_, _<_, _^_, _≤_, ℕ};
 ghost use lib.ListN.{length};
@@ -156,15 +156,17 @@ fn choose(
     made
 }
 
-// The first kept names of the arguments as one number, whether each is its state's only one, and whether all are own
-// names.
+// The first kept names of the arguments as one number, whether some argument has no name, whether each name is the last
+// of its state, and whether all are own names.
 struct Firsts {
+    none: bool,
     only: bool,
     own: bool,
     prefix: u64,
 }
 
-// The first names of the transition that starts at a byte. If there is one choice, it is theirs.
+// The first names of the transition that starts at a byte. An argument without a name leaves no choice. If there is one
+// choice, it is theirs.
 fn first_names(
     transitions: &[u8],
     at: usize,
@@ -175,30 +177,37 @@ fn first_names(
     requires { ⌜ Readable (now transitions) at ⌝ }
     requires { ⌜ Rises (now nexts) ⌝ }
     ensures { λ r. ⌜ r .prefix < 2 ^ (8 * arityOf (now (transitions .entry)) at) ⌝ }
-    ensures { λ r. ⌜ (r .only ≡ true → (m : ℕ) (metas keys names : List ℕ) →
+    ensures { λ r. ⌜ (r .none ≡ true → (m : ℕ) (metas keys names : List ℕ) →
+        chosenFrom (now (transitions .entry)) at 0 (now (firsts .entry)) (now (nexts .entry)) n m metas keys names true
+        0 ≡ []) ⌝ }
+    ensures { λ r. ⌜ (r .none ≡ false → r .only ≡ true → (m : ℕ) (metas keys names : List ℕ) →
         chosenFrom (now (transitions .entry)) at 0 (now (firsts .entry)) (now (nexts .entry)) n m metas keys names true
         0 ≡ finished (now (transitions .entry)) at metas keys names m (r .own) (r .prefix)) ⌝ }
 {
     let arity = arity_of(transitions, at);
+    let mut none = false;
     let mut only = true;
     let mut own = true;
     let mut prefix = 0u64;
     let mut k = 0;
     while k < arity {
         let x = index(firsts[arg_of(transitions, at, k)]);
-        only = only & (x != 0) & (nexts[x] == 0);
+        none = none | (x == 0);
+        only = only & (nexts[x] == 0);
         own = own & (n < x);
         prefix = 256 * prefix + x as u64;
         k += 1;
     }
     Firsts {
+        none: none,
         only: only,
         own: own,
         prefix: prefix,
     }
 }
 
-// The entries of all choices. Most transitions have one, which is made without the recursion.
+// The entries of all choices. Most transitions have one or none: these are made without the recursion, which would go
+// through the choices of all places before one without a name.
 pub fn choose_names(
     transitions: &[u8],
     at: usize,
@@ -223,6 +232,9 @@ pub fn choose_names(
         (names .entry)) true 0) (now (heads .exit)) (now (args .exit)) r ⌝ }
 {
     let first = first_names(transitions, at, firsts, nexts, n);
+    if first.none {
+        return count;
+    }
     if first.only {
         return finish(
             transitions,

@@ -1,31 +1,18 @@
 // The entry of a transition over one choice of names for its arguments, which are one number to base 256, the first the
 // highest.
-ghost use mathlib.Core.Path.{_≡_};
 ghost use Prim.Native.Nat.{_*_, _+_, _<_, _^_, _≤_};
 ghost use lib.ListN.{length};
 ghost use Rattle.fields.specs.Fields.{Readable};
-ghost use Rattle.format.specs.Format.{maxArity, maxNodes};
+ghost use Rattle.format.specs.Format.{maxNodes};
 ghost use Rattle.table.specs.Layout.{arityOf};
-ghost use Rattle.quotient.specs.Making.{Appended, Room, finished, padTo};
+ghost use Rattle.quotient.specs.Making.{Appended, Room, finished};
 use crate::entries::emit;
 use crate::nodes::node_name;
 use fields::arity_of;
 use fields::out_of;
-use format::MAX_ARITY;
 use format::MAX_NODES;
 use packed::meta_at;
-
-// A number of so many digits to base 256, with zeros after them up to eight digits.
-fn padded(prefix: u64, arity: usize) -> u64
-    requires { ⌜ arity ≤ maxArity ⌝ }
-    requires { ⌜ prefix < 2 ^ (8 * arity) ⌝ }
-    ensures { λ r. ⌜ r ≡ padTo arity prefix ⌝ }
-{
-    if arity == 0 {
-        return 0;
-    }
-    prefix << (8 * (MAX_ARITY - arity))
-}
+use packed::padded;
 
 // The entry of the transition that starts at a byte, over chosen names. If all are own names, the output is the name of
 // the subtree that they make, if any.

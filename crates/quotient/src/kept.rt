@@ -10,13 +10,6 @@ use format::MAX_NODES;
 use format::wide;
 use pairs::index;
 
-// The first kept name of each state and the next one of each name, 0 for none; and how many each state has.
-pub struct Kept {
-    pub firsts: [u8; BYTE_VALUES],
-    pub nexts: [u8; BYTE_VALUES],
-    pub sizes: [u8; BYTE_VALUES],
-}
-
 // Whether the name x is kept.
 pub fn is_kept(n: usize, opens: &[u8; BYTE_VALUES], names: &[u8; MAX_NODES], x: usize) -> bool
     requires { ⌜ n ≤ maxStates ⌝ }
@@ -91,40 +84,30 @@ fn keep_name(
     put_first(firsts, nexts, sizes, q, x);
 }
 
-// The kept names of each state. `opens` marks the open states, `states` and `names` are those of the m subtrees.
+// The first kept name of each state and the next one of each name, 0 for none; and how many each state has. `opens`
+// marks the open states, `states` and `names` are those of the m subtrees. The three arrays are lent because an array
+// that is returned is copied.
 pub fn keep(
     n: usize,
     m: usize,
     opens: &[u8; BYTE_VALUES],
     states: &[u8; MAX_NODES],
     names: &[u8; MAX_NODES],
-) -> Kept
+    firsts: &mut [u8; BYTE_VALUES],
+    nexts: &mut [u8; BYTE_VALUES],
+    sizes: &mut [u8; BYTE_VALUES],
+)
     requires { ⌜ n ≤ maxStates ⌝ }
     requires { ⌜ m ≤ maxNodes ⌝ }
-    ensures { λ r. ⌜ KeptAbove n m (now (opens .entry)) (now (states .entry)) (now (names .entry)) 0 (r .firsts)
-        (r .nexts) (r .sizes) ⌝ }
+    ensures { λ _. ⌜ KeptAbove n m (now (opens .entry)) (now (states .entry)) (now (names .entry)) 0 (now
+        (firsts .exit)) (now (nexts .exit)) (now (sizes .exit)) ⌝ }
 {
-    let mut firsts = [0u8; BYTE_VALUES];
-    let mut nexts = [0u8; BYTE_VALUES];
-    let mut sizes = [0u8; BYTE_VALUES];
+    *firsts = [0u8; BYTE_VALUES];
+    *nexts = [0u8; BYTE_VALUES];
+    *sizes = [0u8; BYTE_VALUES];
     let mut x = n + m;
     while x > 0 {
-        keep_name(
-            n,
-            m,
-            opens,
-            states,
-            names,
-            x,
-            &mut firsts,
-            &mut nexts,
-            &mut sizes,
-        );
+        keep_name(n, m, opens, states, names, x, firsts, nexts, sizes);
         x -= 1;
-    }
-    Kept {
-        firsts: firsts,
-        nexts: nexts,
-        sizes: sizes,
     }
 }

@@ -10,6 +10,5 @@ mod making; // all transitions
 mod nodes; // subtrees as nodes over own names
 
 pub use counting::table_fits;
-pub use kept::Kept;
 pub use kept::keep;
 pub use making::make;

@@ -18,8 +18,8 @@ use crate::choosing::choose_names;
 use crate::entries::push;
 use crate::nodes::CHILD_NUMBERS;
 use crate::nodes::is_new;
-use crate::nodes::keys_of;
-use crate::nodes::metas_of;
+use crate::nodes::pack_keys;
+use crate::nodes::pack_metas;
 use format::BYTE_VALUES;
 use format::MAX_NODES;
 use format::TRANSITION_BYTES;
@@ -188,8 +188,10 @@ pub fn make(
         (states .entry)) (now (names .entry)) (now (firsts .entry)) (now (nexts .entry)) →
         HoldsEntries (now (heads .exit)) (now (args .exit)) r (quotientList A t (bottomUp t) ν)) ⌝ }
 {
-    let metas = metas_of(m, labels, arities);
-    let keys = keys_of(n, m, labels, arities, children);
+    let mut metas = [0u64; MAX_NODES];
+    pack_metas(m, labels, arities, &mut metas);
+    let mut keys = [0u64; MAX_NODES];
+    pack_keys(n, m, labels, arities, children, &mut keys);
     let made = choose_all(
         transitions,
         count,

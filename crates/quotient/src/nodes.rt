@@ -2,7 +2,7 @@
 ghost use mathlib.Core.Path.{_≡_};
 ghost use Prim.Native.Nat.{_*_, _+_, _-_, _<_, _^_, _≤_, ℕ};
 ghost use lib.Dec.{eqb};
-ghost use lib.ListN.{getD};
+ghost use lib.ListN.{getD, length};
 ghost use Rattle.format.specs.Format.{byteValues, maxArity, maxLabel, maxNodes, maxStates};
 ghost use Rattle.lists.specs.Positions.{upFrom};
 ghost use Rattle.pairs.specs.Counts.{entry};
@@ -68,25 +68,25 @@ fn key_of(
     with_child(v, n, children, j, 7)
 }
 
-// The packed own names of the children of each subtree.
-pub fn keys_of(
+// The packed own names of the children of each subtree. The array is lent because an array that is returned is copied.
+pub fn pack_keys(
     n: usize,
     m: usize,
     labels: &[u16; MAX_NODES],
     arities: &[u8; MAX_NODES],
     children: &[u8; CHILD_NUMBERS],
-) -> [u64; MAX_NODES]
+    keys: &mut [u64; MAX_NODES],
+)
     requires { ⌜ n ≤ maxStates ⌝ }
     requires { ⌜ Nodes m (now labels) (now arities) (now children) ⌝ }
-    ensures { λ r. ⌜ EachNode (keyOf n (now (children .entry))) m r ⌝ }
+    requires { ⌜ length (now keys) ≡ maxNodes ⌝ }
+    ensures { λ _. ⌜ EachNode (keyOf n (now (children .entry))) m (now (keys .exit)) ⌝ }
 {
-    let mut keys = [0u64; MAX_NODES];
     let mut j = 0;
     while j < m {
         keys[j] = key_of(n, m, labels, arities, children, j);
         j += 1;
     }
-    keys
 }
 
 // The child count and the label of the subtree at index j, the child count higher.
@@ -101,18 +101,22 @@ fn meta_of(labels: &[u16; MAX_NODES], arities: &[u8; MAX_NODES], j: usize) -> u6
 }
 
 // Those of each subtree.
-pub fn metas_of(m: usize, labels: &[u16; MAX_NODES], arities: &[u8; MAX_NODES]) -> [u64; MAX_NODES]
+pub fn pack_metas(
+    m: usize,
+    labels: &[u16; MAX_NODES],
+    arities: &[u8; MAX_NODES],
+    metas: &mut [u64; MAX_NODES],
+)
     requires { ⌜ m ≤ maxNodes ⌝ }
     requires { ⌜ ((j : ℕ) → j < m → getD (now labels) j 0 ≤ maxLabel) ⌝ }
-    ensures { λ r. ⌜ EachNode (metaOf (now (labels .entry)) (now (arities .entry))) m r ⌝ }
+    requires { ⌜ length (now metas) ≡ maxNodes ⌝ }
+    ensures { λ _. ⌜ EachNode (metaOf (now (labels .entry)) (now (arities .entry))) m (now (metas .exit)) ⌝ }
 {
-    let mut metas = [0u64; MAX_NODES];
     let mut j = 0;
     while j < m {
         metas[j] = meta_of(labels, arities, j);
         j += 1;
     }
-    metas
 }
 
 // The name of the subtree that is the node with these two numbers; `out` if there is none.

@@ -10,11 +10,11 @@ use Rattle.quotient.proofs.choosing.first_names.Statement.{statement}
 use Rattle.quotient.proofs.choosing.first_names.Tie as tie
 
 abbrev Inv-loop : tie.InvT-loop
-Inv-loop transitions at firsts nexts n arity only₀ own₀ prefix₀ k₀ only own prefix k =
-    FirstNames transitions at firsts nexts n only own prefix k
+Inv-loop transitions at firsts nexts n arity none₀ only₀ own₀ prefix₀ k₀ none only own prefix k =
+    FirstNames transitions at firsts nexts n none only own prefix k
 
 abbrev μ-loop : tie.MeasureT-loop
-μ-loop transitions at firsts nexts n arity only₀ own₀ prefix₀ k₀ only own prefix k = arity - k
+μ-loop transitions at firsts nexts n arity none₀ only₀ own₀ prefix₀ k₀ none only own prefix k = arity - k
 
 arity-of-requires : tie.Need-arity-of-requires Inv-loop μ-loop
 arity-of-requires c κs = search needs

@@ -19,16 +19,14 @@ add-x : tie.Need-add-x Inv-loop μ-loop
 add-x c = search needs
 
 loop-holds : tie.Need-loop-holds Inv-loop μ-loop
-loop-holds c = (
-  kept-start (c .args .n) (c .args .m) (c .args .opens .now) (c .args .states .now) (c .args .names .now),
-  omega
-      arith,
-)
+loop-holds c =
+    let a = c .before .before .before .args in
+    (kept-start (a .n) (a .m) (a .opens .now) (a .states .now) (a .names .now), omega arith)
 
 keep-name-requires : tie.Need-keep-name-requires Inv-loop μ-loop
 keep-name-requires c κs =
-    let start = c .before .before .before .before .before in
     let loop = c .before .before .before .before .loop in
+    let start = c .before .before .before .before .before .before .before .before in
     (start .pre .0, (start .pre .1, (omega arith, (loop .inv .1, loop .inv .0))))
 
 sub-x : tie.Need-sub-x Inv-loop μ-loop
@@ -42,11 +40,11 @@ loop-again c = (c .keep-name .ensures, omega (arith, c .before .before .before .
 
 returns : tie.Need-returns Inv-loop μ-loop
 returns c =
-    let start = c .before .before in
-    let a = start .args in
-    let e : c .before .loop .x ≡ 0 = omega arith in subst (λ (y : ℕ). KeptAbove (a .n) (a .m) (a .opens .now) (a
-    .states .now) (a .names .now) y (c .before .loop .firsts) (c .before .loop .nexts) (c .before .loop .sizes)) e
-    (c .before .loop .inv .0)
+    let a = c .before .before .before .before .before .args in
+    let loop = c .before .loop in
+    let e : loop .x ≡ 0 = omega arith in
+    subst (λ (y : ℕ). KeptAbove (a .n) (a .m) (a .opens .now) (a .states .now) (a .names .now) y (loop .firsts)
+    (loop .nexts) (loop .sizes)) e (loop .inv .0)
 
 pub keep-spec : {M : Type 1} → statement M
 keep-spec =

@@ -1,8 +1,8 @@
--- `quotient::finishing::padded` meets its contract: a number of so many digits does not overflow when it is shifted.
-use Rattle.quotient.proofs.Padding.{pad-none, pad-shift}
+-- `packed::filling::padded` meets its contract: a number of so many digits does not overflow when it is shifted.
+use Rattle.packed.proofs.Zeros.{pad-none, pad-shift}
 use borrow.Author.Needs.{needs}
-use Rattle.quotient.proofs.finishing.padded.Statement.{statement}
-use Rattle.quotient.proofs.finishing.padded.Tie as tie
+use Rattle.packed.proofs.filling.padded.Statement.{statement}
+use Rattle.packed.proofs.filling.padded.Tie as tie
 
 returns : tie.Need-returns
 returns c = pad-none (c .before .args .arity) (c .before .args .prefix) (c .if1 .taken) (c .before .pre .1)

@@ -1,11 +1,11 @@
--- `quotient::nodes::keys_of` meets its contract: the subtrees before j have their numbers.
+-- `quotient::nodes::pack_keys` meets its contract: the subtrees before j have their numbers.
 use native.Mathlib.Omega.{arith}
 use Prim.Native.Nat.{_-_}
 use Rattle.quotient.specs.Nodes.{EachNode, keyOf}
 use Rattle.quotient.proofs.NodeNames.{each-end, each-next, each-start}
 use borrow.Author.Needs.{needs}
-use Rattle.quotient.proofs.nodes.keys_of.Statement.{statement}
-use Rattle.quotient.proofs.nodes.keys_of.Tie as tie
+use Rattle.quotient.proofs.nodes.pack_keys.Statement.{statement}
+use Rattle.quotient.proofs.nodes.pack_keys.Tie as tie
 
 abbrev Inv-loop : tie.InvT-loop
 Inv-loop n m labels arities children keys₀ j₀ keys j = EachNode (keyOf n children) j keys
@@ -14,7 +14,7 @@ abbrev μ-loop : tie.MeasureT-loop
 μ-loop n m labels arities children keys₀ j₀ keys j = m - j
 
 loop-holds : tie.Need-loop-holds Inv-loop μ-loop
-loop-holds c = each-start
+loop-holds c = each-start (c .pre .1 .1)
 
 key-of-requires : tie.Need-key-of-requires Inv-loop μ-loop
 key-of-requires c κs = search needs
@@ -22,8 +22,8 @@ key-of-requires c κs = search needs
 mul-keys : tie.Need-mul-keys Inv-loop μ-loop
 mul-keys c = search needs
 
-array-write-keys : tie.Need-array-write-keys Inv-loop μ-loop
-array-write-keys c = search needs
+element-write-keys : tie.Need-element-write-keys Inv-loop μ-loop
+element-write-keys c = search needs
 
 add-j : tie.Need-add-j Inv-loop μ-loop
 add-j c = search needs
@@ -34,13 +34,13 @@ loop-less c = omega arith
 loop-again : tie.Need-loop-again Inv-loop μ-loop
 loop-again c =
     let start = c .before .before .before in
-    each-next (c .before .before .loop .inv) (omega (arith, start .pre .1 .few)) (c .key-of .ensures)
+    each-next (c .before .before .loop .inv) (omega (arith, start .pre .1 .0 .few)) (c .key-of .ensures)
 
 returns : tie.Need-returns Inv-loop μ-loop
 returns c = each-end (c .before .loop .inv) (omega arith)
 
-pub keys-of-spec : {M : Type 1} → statement M
-keys-of-spec =
+pub pack-keys-spec : {M : Type 1} → statement M
+pack-keys-spec =
     tie.close
     (tie.spec
     Inv-loop
@@ -48,7 +48,7 @@ keys-of-spec =
     loop-holds
     key-of-requires
     mul-keys
-    array-write-keys
+    element-write-keys
     add-j
     loop-less
     loop-again
