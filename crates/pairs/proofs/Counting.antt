@@ -6,7 +6,7 @@ use Prim.Native.Nat.{_+_, _<_, _≤_, suc, zero, ℕ}
 use native.Mathlib.Numerals.{add-one}
 use native.Mathlib.Omega.{arith}
 use lib.Dec.{eqb}
-use lib.ListN.{length, length-replicate, length-set, replicate, set}
+use lib.ListN.{length, length-replicate, length-set, set}
 use lib.Seq.{getD-set-other, getD-set-same}
 use borrow.Author.Tests.{eqb-false, eqb-true}
 use Rattle.format.specs.Format.{byteValues}
@@ -14,7 +14,7 @@ use Rattle.lists.specs.Tests.{bit}
 use Rattle.marking.specs.Marks.{marked, nonzero}
 use Rattle.lists.proofs.Filling.{FilledTo, set-next-from}
 use Rattle.lists.proofs.Intervals.{getD-zeros}
-use Rattle.pairs.specs.Counts.{Counted, MarkedBy, Numbers, entriesWith, entry}
+use Rattle.pairs.specs.Counts.{Counted, MarkedBy, Numbers, entriesWith, entry, zeros}
 
 -- ---- subtrees by state
 
@@ -26,8 +26,11 @@ few-with s (suc j) q = go (eqb (entry s j) q) (few-with s j q)
     go true h = omega arith
     go false h = omega arith
 
-pub counted-start : {s : List ℕ} → Counted s 0 (replicate byteValues 0)
-counted-start = record { size = length-replicate {A = ℕ} byteValues 0; each = λ q h. getD-zeros byteValues q }
+pub counted-start : {s r : List ℕ} → r ≡ zeros → Counted s 0 r
+counted-start e = record {
+  size = ap length e ∙ length-replicate {A = ℕ} byteValues 0;
+  each = λ q h. ap (λ (l : List ℕ). entry l q) e ∙ getD-zeros byteValues q;
+}
 
 -- one more entry, x, is counted
 pub counted-next : {s r : List ℕ} {j x v : ℕ} → Counted s j r → x ≡ entry s j → x < byteValues →
@@ -60,8 +63,8 @@ pub record MarkedTo (p : ℕ → Bool) (m : List ℕ) (k : ℕ) : Type 0 where
   pub each : (q : ℕ) → q < k → marked m q ≡ p q
 
 module _ {p : ℕ → Bool} where
-  pub marked-start : MarkedTo p (replicate byteValues 0) 0
-  marked-start = record { size = length-replicate {A = ℕ} byteValues 0; each = λ q h. absurd (omega arith) }
+  pub marked-start : {m : List ℕ} → length m ≡ byteValues → MarkedTo p m 0
+  marked-start e = record { size = e; each = λ q h. absurd (omega arith) }
 
   pub marked-next : {m : List ℕ} {k : ℕ} → MarkedTo p m k → k < byteValues → (x : ℕ) → nonzero x ≡ p k →
       MarkedTo p (set m k x) (k + 1)

@@ -1,13 +1,13 @@
 -- Marks that go from arguments to outputs, and that they are the open states in the end.
 use mathlib.Core.Bool.{Bool, _&&_, _||_, false, not, true}
 use mathlib.Core.List.{List, [], _∷_, map}
-use mathlib.Core.Path.{_∙_, _≡_, ap, ap₂, refl, subst, sym}
+use mathlib.Core.Path.{_∙_, _≡_, ap, refl, subst, sym}
 use Prim.Native.Nat.{_<_, ℕ}
 use native.Mathlib.Nat.{zero-add}
 use native.Mathlib.Omega.{arith}
 use lib.Dec.{eqb}
 use lib.ListN.{length, set}
-use borrow.Author.Tests.{eq-eqb, eqb-true}
+use borrow.Author.Tests.{eq-eqb, eqb-false, eqb-true}
 use Rattle.automata.specs.Automaton.{Automaton, IsState, Transition, states}
 use Rattle.automata.specs.OpenStates.{atState, openState, opensAt}
 use Rattle.automata.specs.Totals.{sumInto}
@@ -55,6 +55,11 @@ spread-some s at m size h e f =
 
 -- ---- all of them
 
+-- the right side counts only if the left one is false
+or-same : (a : Bool) {b b' : Bool} → (a ≡ false → b ≡ b') → (a || b) ≡ (a || b')
+or-same true f = refl
+or-same false f = f refl
+
 module _ {A : Automaton} {t : Tree} {s : List ℕ} {n : ℕ} {c sums : List ℕ} (S : Setting A s n)
     (C : Subtrees A t c) (X : SumsInto (entry c) (transitionsIn s n) sums) where
   sum-of : (q : ℕ) → sumInto (entry c) q (transitionsIn s n) ≡ sumInto (atState A t) q (A .transitions)
@@ -66,16 +71,20 @@ module _ {A : Automaton} {t : Tree} {s : List ℕ} {n : ℕ} {c sums : List ℕ}
   -- a state is marked at once if it is open at once
   starts-same : (q : ℕ) → q < byteValues → startsAt c sums q ≡ opensAt A t q
   unfolding opensAt
-  starts-same q h = ap₂ (λ (a b : Bool). a || not b) (ap (λ (x : ℕ). eqb x 0) (C .each q h)) equal
+  starts-same q h =
+      or-same (eqb (entry c q) 0) (λ e. ap not (equal e))
+      ∙ ap (λ (x : ℕ). eqb x 0 || not (eqb (sumInto (atState A t) q (A .transitions)) (atState A t q))) (C .each q h)
     where
-      equal : eqb (entry sums q) (entry c q) ≡ eqb (sumInto (atState A t) q (A .transitions)) (atState A t q)
-      equal =
+      equal : eqb (entry c q) 0 ≡ false →
+          eqb (entry sums q) (entry c q) ≡ eqb (sumInto (atState A t) q (A .transitions)) (atState A t q)
+      equal f =
+          let some : 0 < entry c q = omega (arith, eqb-false (entry c q) 0 f) in
           same-test (eqb (entry sums q) (entry c q)) (eqb (sumInto (atState A t) q (A .transitions)) (atState A t q))
           (λ e. eq-eqb (sumInto (atState A t) q (A .transitions)) (atState A t q)
           (omega (
             arith,
             eqb-true (entry sums q) (entry c q) e,
-            X .each q h,
+            X .each q h some,
             sum-of q,
             C .each q h,
             C .few q h,
@@ -84,7 +93,7 @@ module _ {A : Automaton} {t : Tree} {s : List ℕ} {n : ℕ} {c sums : List ℕ}
           (omega (
             arith,
             eqb-true (sumInto (atState A t) q (A .transitions)) (atState A t q) e,
-            X .each q h,
+            X .each q h some,
             sum-of q,
             C .each q h,
             C .few q h,

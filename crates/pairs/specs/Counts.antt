@@ -5,7 +5,7 @@ use mathlib.Core.List.{List}
 use mathlib.Core.Path.{_≡_}
 use Prim.Native.Nat.{_*_, _+_, _<_, _≤_, min, suc, zero, ℕ}
 use lib.Dec.{eqb, leb}
-use lib.ListN.{getD, length}
+use lib.ListN.{getD, length, replicate}
 use Rattle.automata.specs.Accessible.{allAccessible}
 use Rattle.automata.specs.Automaton.{Automaton, IsState, Transition, states}
 use Rattle.automata.specs.Change.{productTransitions}
@@ -25,6 +25,10 @@ use Rattle.trees.specs.Tree.{Tree}
 -- entry q of a list
 abbrev pub entry : List ℕ → ℕ → ℕ
 entry m q = getD m q 0
+
+-- 0 for each value of a byte
+abbrev pub zeros : List ℕ
+zeros = replicate byteValues 0
 
 -- an entry for each value of a byte, those of f
 pub record Numbers (f : ℕ → ℕ) (m : List ℕ) : Type 0 where
@@ -59,16 +63,16 @@ sumCap = 255
 abbrev pub productAt : List ℕ → List ℕ → ℕ → ℕ
 productAt m s at = productOver (entry m) (transitionAt s at .args)
 
--- m' has x more at o than m, up to the cap, and is m elsewhere
-pub record Raised (o x : ℕ) (m m' : List ℕ) : Type 0 where
+-- m' has x more at o than m, up to the cap, unless the number of o is 0, and is m elsewhere
+pub record Raised (w : ℕ → ℕ) (o x : ℕ) (m m' : List ℕ) : Type 0 where
   pub size : length m' ≡ length m
-  pub here : entry m' o ≡ min sumCap (entry m o + x)
+  pub here : 0 < w o → entry m' o ≡ min sumCap (entry m o + x)
   pub elsewhere : (q : ℕ) → (q ≡ o → ⊥) → entry m' q ≡ entry m q
 
--- the sums over the transitions into each state, up to the cap
+-- the sums over the transitions into each state whose number is not 0, up to the cap
 pub record SumsInto (w : ℕ → ℕ) (τs : List Transition) (m : List ℕ) : Type 0 where
   pub size : length m ≡ byteValues
-  pub each : (q : ℕ) → q < byteValues → min sumCap (entry m q) ≡ min sumCap (sumInto w q τs)
+  pub each : (q : ℕ) → q < byteValues → 0 < w q → min sumCap (entry m q) ≡ min sumCap (sumInto w q τs)
 
 -- ---- open states
 

@@ -5,6 +5,7 @@ mod sums; // products over arguments and their sums
 
 ghost use mathlib.Core.Path.{_≡_};
 ghost use Prim.Native.Nat.{_+_, _<_, _≤_, ℕ};
+ghost use lib.ListN.{length};
 ghost use Rattle.automata.specs.Automaton.{Automaton};
 ghost use Rattle.automata.specs.OpenStates.{atState};
 ghost use Rattle.fields.specs.Fields.{HoldsTransitions};
@@ -13,7 +14,7 @@ ghost use Rattle.lists.specs.Tests.{bit};
 ghost use Rattle.marking.specs.Marks.{nonzero};
 ghost use Rattle.trees.specs.Tree.{Tree};
 ghost use Rattle.pairs.specs.Counts.{Counted, Numbers, PairsCounted, Setting, entriesWith, entry};
-ghost use Rattle.pairs.specs.Counts.{weightOf};
+ghost use Rattle.pairs.specs.Counts.{weightOf, zeros};
 use format::BYTE_VALUES;
 use format::MAX_NODES;
 use format::MAX_PRODUCT;
@@ -21,19 +22,18 @@ use opening::open_states;
 pub use sums::index;
 pub use sums::sum_fits;
 
-// How many of the first m subtrees run to each state.
-fn count_states(m: usize, states: &[u8; MAX_NODES]) -> [u8; BYTE_VALUES]
+// How many of the first m subtrees run to each state. `counts` is all 0 before.
+fn count_states(m: usize, states: &[u8; MAX_NODES], counts: &mut [u8; BYTE_VALUES])
     requires { ⌜ m ≤ maxNodes ⌝ }
-    ensures { λ r. ⌜ Counted (now (states .entry)) m r ⌝ }
+    requires { ⌜ now counts ≡ zeros ⌝ }
+    ensures { λ _. ⌜ Counted (now (states .entry)) m (now (counts .exit)) ⌝ }
 {
-    let mut counts = [0u8; BYTE_VALUES];
     let mut j = 0;
     while j < m {
         let q = index(states[j]);
         counts[q] = counts[q] + 1;
         j += 1;
     }
-    counts
 }
 
 // A number, and one more if there is a mark.
@@ -48,42 +48,42 @@ fn weight(count: u8, mark: u8) -> u8
 }
 
 // The number of pairs of each state.
-fn weights(counts: &[u8; BYTE_VALUES], marks: &[u8; BYTE_VALUES]) -> [u8; BYTE_VALUES]
+fn weigh(counts: &[u8; BYTE_VALUES], marks: &[u8; BYTE_VALUES], weights: &mut [u8; BYTE_VALUES])
     requires { ⌜ ((q : ℕ) → q < byteValues → entry (now counts) q ≤ maxNodes) ⌝ }
-    ensures { λ r. ⌜ Numbers (weightOf (now (counts .entry)) (now (marks .entry))) r ⌝ }
+    requires { ⌜ length (now weights) ≡ byteValues ⌝ }
+    ensures { λ _. ⌜ Numbers (weightOf (now (counts .entry)) (now (marks .entry))) (now (weights .exit)) ⌝ }
 {
-    let mut numbers = [0u8; BYTE_VALUES];
     let mut q = 0;
     while q < BYTE_VALUES {
-        numbers[q] = weight(counts[q], marks[q]);
+        weights[q] = weight(counts[q], marks[q]);
         q += 1;
     }
-    numbers
 }
 
-// Whether the product has no more transitions than it may have, marks for the open states, and the number of pairs of each
-// state.
-pub struct Pairs {
-    pub fits: bool,
-    pub opens: [u8; BYTE_VALUES],
-    pub weights: [u8; BYTE_VALUES],
-}
-
-// Counts the pairs of an automaton and a tree. `states` has the states of the m subtrees.
-pub fn count_pairs(transitions: &[u8], count: usize, m: usize, states: &[u8; MAX_NODES]) -> Pairs
+// Counts the pairs of an automaton and a tree, and returns whether the product has no more transitions than it may have.
+// `states` has the states of the m subtrees. `opens` gets marks for the open states, `weights` the number of pairs of
+// each state. Both are lent, because an array that is returned is copied.
+pub fn count_pairs(
+    transitions: &[u8],
+    count: usize,
+    m: usize,
+    states: &[u8; MAX_NODES],
+    opens: &mut [u8; BYTE_VALUES],
+    weights: &mut [u8; BYTE_VALUES],
+) -> bool
     requires { ⌜ HoldsTransitions (now transitions) count ⌝ }
     requires { ⌜ m ≤ maxNodes ⌝ }
+    requires { ⌜ length (now opens) ≡ byteValues ⌝ }
+    requires { ⌜ length (now weights) ≡ byteValues ⌝ }
     ensures { λ r. ⌜ ((A : Automaton) (t : Tree) → Setting A (now (transitions .entry)) count →
         ((q : ℕ) → entriesWith (now (states .entry)) m q ≡ atState A t q) →
-        PairsCounted A t (r .fits) (r .opens) (r .weights)) ⌝ }
+        PairsCounted A t r (now (opens .exit)) (now (weights .exit))) ⌝ }
+    ensures { λ _. ⌜ length (now (opens .exit)) ≡ byteValues ⌝ }
+    ensures { λ _. ⌜ length (now (weights .exit)) ≡ byteValues ⌝ }
 {
-    let counts = count_states(m, states);
-    let opens = open_states(transitions, count, &counts);
-    let numbers = weights(&counts, &opens);
-    let fits = sum_fits(transitions, count, index(counts[0]), MAX_PRODUCT, &numbers);
-    Pairs {
-        fits: fits,
-        opens: opens,
-        weights: numbers,
-    }
+    let mut counts = [0u8; BYTE_VALUES];
+    count_states(m, states, &mut counts);
+    open_states(transitions, count, &counts, opens);
+    weigh(&counts, opens, weights);
+    sum_fits(transitions, count, index(counts[0]), MAX_PRODUCT, weights)
 }

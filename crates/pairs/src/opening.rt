@@ -34,16 +34,15 @@ fn opens(count: u8, sum: u8) -> u8
 }
 
 // Marks for the states that are open at once.
-fn open_at_once(counts: &[u8; BYTE_VALUES], sums: &[u8; BYTE_VALUES]) -> [u8; BYTE_VALUES]
-    ensures { λ r. ⌜ MarkedBy (startsAt (now (counts .entry)) (now (sums .entry))) r ⌝ }
+fn open_at_once(counts: &[u8; BYTE_VALUES], sums: &[u8; BYTE_VALUES], marks: &mut [u8; BYTE_VALUES])
+    requires { ⌜ length (now marks) ≡ byteValues ⌝ }
+    ensures { λ _. ⌜ MarkedBy (startsAt (now (counts .entry)) (now (sums .entry))) (now (marks .exit)) ⌝ }
 {
-    let mut marks = [0u8; BYTE_VALUES];
     let mut q = 0;
     while q < BYTE_VALUES {
         marks[q] = opens(counts[q], sums[q]);
         q += 1;
     }
-    marks
 }
 
 // Whether some argument of the transition that starts at a byte is marked.
@@ -102,13 +101,16 @@ pub fn open_states(
     transitions: &[u8],
     count: usize,
     counts: &[u8; BYTE_VALUES],
-) -> [u8; BYTE_VALUES]
+    marks: &mut [u8; BYTE_VALUES],
+)
     requires { ⌜ HoldsTransitions (now transitions) count ⌝ }
-    ensures { λ r. ⌜ ((A : Automaton) (t : Tree) → Setting A (now (transitions .entry)) count →
-        Subtrees A t (now (counts .entry)) → Open A t r) ⌝ }
+    requires { ⌜ length (now marks) ≡ byteValues ⌝ }
+    ensures { λ _. ⌜ ((A : Automaton) (t : Tree) → Setting A (now (transitions .entry)) count →
+        Subtrees A t (now (counts .entry)) → Open A t (now (marks .exit))) ⌝ }
+    ensures { λ _. ⌜ length (now (marks .exit)) ≡ byteValues ⌝ }
 {
-    let sums = sums_into(transitions, count, counts);
-    let mut marks = open_at_once(counts, &sums);
-    while mark_outputs(transitions, count, &mut marks) {}
-    marks
+    let mut sums = [0u8; BYTE_VALUES];
+    sums_into(transitions, count, counts, &mut sums);
+    open_at_once(counts, &sums, marks);
+    while mark_outputs(transitions, count, marks) {}
 }

@@ -11,10 +11,11 @@ count-states-requires c κs = search needs
 open-states-requires : tie.Need-open-states-requires
 open-states-requires c κs = search needs
 
-weights-requires : tie.Need-weights-requires
-weights-requires c κs =
-    let at-counts = c .before .before .before .before in
-    few-counted (at-counts .count-states .ensures) (at-counts .before .before .pre .1)
+weigh-requires : tie.Need-weigh-requires
+weigh-requires c κs =
+    let at-counts = c .before .before .before .before .before .before in
+    let start = at-counts .before .before .before in
+    (few-counted (at-counts .count-states .ensures) (start .pre .1 .0), start .pre .1 .1 .1)
 
 array-read-index : tie.Need-array-read-index
 array-read-index c = search needs
@@ -24,14 +25,14 @@ index-requires c κs = search needs
 
 sum-fits-requires : tie.Need-sum-fits-requires
 sum-fits-requires c κs =
-    let at-counts = c .before .before .before .before .before .before .before in
-    let start = at-counts .before .before in (
+    let at-counts = c .before .before .before .before .before .before .before .before .before in
+    let start = at-counts .before .before .before in (
       start .pre .0,
       (
         omega (
           arith,
           c .before .index .ensures .0,
-          few-counted (at-counts .count-states .ensures) (start .pre .1) 0 (omega arith),
+          few-counted (at-counts .count-states .ensures) (start .pre .1 .0) 0 (omega arith),
         ),
         omega arith,
       ),
@@ -40,13 +41,16 @@ sum-fits-requires c κs =
 returns : tie.Need-returns
 returns c =
     let at-weights = c .before .before .before in
-    let at-open = at-weights .before .before .before in
-    let at-counts = at-open .before .before in
-    let start = at-counts .before .before in
-    λ A t S e.
-    let C = subtrees-counted (at-counts .count-states .ensures) (start .pre .1) e in
-    pairs-counted S C (at-open .open-states .ensures A t S C) (at-weights .weights .ensures) (c .before .before .index
-    .ensures .0) (c .sum-fits .ensures)
+    let at-open = at-weights .before .before .before .before in
+    let at-counts = at-open .before .before .before in
+    let start = at-counts .before .before .before in
+    let opened = at-open .open-states .ensures in
+    let weighed = at-weights .weigh .ensures in (
+      λ A t S e.
+          let C = subtrees-counted (at-counts .count-states .ensures) (start .pre .1 .0) e in
+          pairs-counted S C (opened .0 A t S C) weighed (c .before .before .index .ensures .0) (c .sum-fits .ensures),
+      (opened .1, weighed .size),
+    )
 
 pub count-pairs-spec : {M : Type 1} → statement M
 count-pairs-spec =
@@ -54,7 +58,7 @@ count-pairs-spec =
     (tie.spec
     count-states-requires
     open-states-requires
-    weights-requires
+    weigh-requires
     array-read-index
     index-requires
     sum-fits-requires

@@ -15,7 +15,7 @@ abbrev μ-loop : tie.MeasureT-loop
 μ-loop m states counts₀ j₀ counts j = m - j
 
 loop-holds : tie.Need-loop-holds Inv-loop μ-loop
-loop-holds c = (omega arith, counted-start)
+loop-holds c = (omega arith, counted-start (c .pre .1))
 
 element-copy-out-index : tie.Need-element-copy-out-index Inv-loop μ-loop
 element-copy-out-index c = search needs
@@ -23,23 +23,24 @@ element-copy-out-index c = search needs
 index-requires : tie.Need-index-requires Inv-loop μ-loop
 index-requires c κs = search needs
 
-array-read-counts : tie.Need-array-read-counts Inv-loop μ-loop
-array-read-counts c = c .index .ensures .1
+element-copy-out-counts : tie.Need-element-copy-out-counts Inv-loop μ-loop
+element-copy-out-counts c = c .index .ensures .1
 
 add-counts : tie.Need-add-counts Inv-loop μ-loop
 add-counts c =
-    let now = c .before .before .before in
+    let read = c .before .index in
+    let now = c .before .before .before .before in
     let start = now .before in
     omega (
       arith,
-      now .loop .inv .1 .each (c .index .result) (c .index .ensures .1),
-      few-with (start .args .states .now) (now .loop .j) (c .index .result),
-      start .pre,
-      c .before .before .loop-test .taken,
+      now .loop .inv .1 .each (read .result) (read .ensures .1),
+      few-with (start .args .states .now) (now .loop .j) (read .result),
+      start .pre .0,
+      c .before .before .before .loop-test .taken,
     )
 
-array-write-counts : tie.Need-array-write-counts Inv-loop μ-loop
-array-write-counts c = c .index .ensures .1
+element-write-counts : tie.Need-element-write-counts Inv-loop μ-loop
+element-write-counts c = c .before .index .ensures .1
 
 add-j : tie.Need-add-j Inv-loop μ-loop
 add-j c = search needs
@@ -49,8 +50,9 @@ loop-less c = search needs
 
 loop-again : tie.Need-loop-again Inv-loop μ-loop
 loop-again c =
-    let now = c .before .before .before in
-    (omega arith, counted-next (now .loop .inv .1) (c .index .ensures .0) (c .index .ensures .1) refl)
+    let read = c .before .index in
+    let now = c .before .before .before .before in
+    (omega arith, counted-next (now .loop .inv .1) (read .ensures .0) (read .ensures .1) refl)
 
 returns : tie.Need-returns Inv-loop μ-loop
 returns c =
@@ -65,9 +67,9 @@ count-states-spec =
     loop-holds
     element-copy-out-index
     index-requires
-    array-read-counts
+    element-copy-out-counts
     add-counts
-    array-write-counts
+    element-write-counts
     add-j
     loop-less
     loop-again

@@ -14,7 +14,7 @@ abbrev μ-loop : tie.MeasureT-loop
 μ-loop counts sums marks₀ q₀ marks q = 256 - q
 
 loop-holds : tie.Need-loop-holds Inv-loop μ-loop
-loop-holds c = (omega arith, marked-start)
+loop-holds c = (omega arith, marked-start (c .pre))
 
 element-copy-out-opens : tie.Need-element-copy-out-opens Inv-loop μ-loop
 element-copy-out-opens c = search needs
@@ -25,8 +25,8 @@ element-copy-out-opens-2 c = search needs
 opens-requires : tie.Need-opens-requires Inv-loop μ-loop
 opens-requires c κs = search needs
 
-array-write-marks : tie.Need-array-write-marks Inv-loop μ-loop
-array-write-marks c = omega (arith, c .before .before .before .loop-test .taken)
+element-write-marks : tie.Need-element-write-marks Inv-loop μ-loop
+element-write-marks c = search needs
 
 add-q : tie.Need-add-q Inv-loop μ-loop
 add-q c = search needs
@@ -52,7 +52,7 @@ open-at-once-spec =
     element-copy-out-opens
     element-copy-out-opens-2
     opens-requires
-    array-write-marks
+    element-write-marks
     add-q
     loop-less
     loop-again

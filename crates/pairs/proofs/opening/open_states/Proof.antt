@@ -13,7 +13,8 @@ use Rattle.pairs.proofs.opening.open_states.Statement.{statement}
 use Rattle.pairs.proofs.opening.open_states.Tie as tie
 
 abbrev Inv-loop : tie.InvT-loop
-Inv-loop transitions count counts marks₀ marks = Led (UpTo (nthSomeUp transitions) count) marks₀ marks × (length marks ≡ byteValues)
+Inv-loop transitions count counts marks₀ marks =
+    Led (UpTo (nthSomeUp transitions) count) marks₀ marks × (length marks ≡ byteValues)
 
 abbrev μ-loop : tie.MeasureT-loop
 μ-loop transitions count counts marks₀ marks = length marks - marksOf marks
@@ -26,13 +27,12 @@ open-at-once-requires c κs = search needs
 
 loop-holds : tie.Need-loop-holds Inv-loop μ-loop
 loop-holds c =
-    let a = c .before .before .before .before .args in (
-      led-none (UpTo (nthSomeUp (a .transitions .now)) (a .count)) (c .open-at-once .result),
-      c .open-at-once .ensures .size,
-    )
+    let a = c .before .before .before .before .before .before .args in
+    (led-none (UpTo (nthSomeUp (a .transitions .now)) (a .count)) _, c .open-at-once .ensures .size)
 
 mark-outputs-requires : tie.Need-mark-outputs-requires Inv-loop μ-loop
-mark-outputs-requires c κs = (c .before .before .before .before .before .before .pre, c .before .loop .inv .1)
+mark-outputs-requires c κs =
+    (c .before .before .before .before .before .before .before .before .pre .0, c .before .loop .inv .1)
 
 loop-less : tie.Need-loop-less Inv-loop μ-loop
 loop-less c = growing-less (c .before .mark-outputs .ensures) (c .if1 .taken)
@@ -46,9 +46,12 @@ returns : tie.Need-returns Inv-loop μ-loop
 returns c =
     let r = c .before .mark-outputs .ensures in
     let at-loop = c .before .before .before in
-    λ A t S C. marks-open S C (at-loop .before .before .before .sums-into .ensures)
-    (at-loop .before .open-at-once .ensures) (led-then (at-loop .loop .inv .0) (led-spread r))
-    (growing-closed r (c .if1 .left))
+    let at-once = at-loop .before in (
+      λ A t S C.
+          marks-open S C (at-once .before .before .before .sums-into .ensures) (at-once .open-at-once .ensures)
+          (led-then (at-loop .loop .inv .0) (led-spread r)) (growing-closed r (c .if1 .left)),
+      r .swept .size ∙ at-loop .loop .inv .1,
+    )
 
 pub open-states-spec : {M : Type 1} → statement M
 open-states-spec =

@@ -15,7 +15,7 @@ abbrev μ-loop : tie.MeasureT-loop
 μ-loop transitions count numbers sums₀ i₀ sums i = count - i
 
 loop-holds : tie.Need-loop-holds Inv-loop μ-loop
-loop-holds c = sums-start
+loop-holds c = sums-start (c .before .pre .1)
 
 mul-add-product : tie.Need-mul-add-product Inv-loop μ-loop
 mul-add-product c = search needs
@@ -23,7 +23,7 @@ mul-add-product c = search needs
 add-product-requires : tie.Need-add-product-requires Inv-loop μ-loop
 add-product-requires c κs =
     let start = c .before .before .before .before in
-    let now = c .before .before .loop in (readable (start .pre) (now .i) (omega arith), now .inv .size)
+    let now = c .before .before .loop in (readable (start .pre .0) (now .i) (omega arith), now .inv .size)
 
 add-i : tie.Need-add-i Inv-loop μ-loop
 add-i c = search needs
