@@ -6,7 +6,7 @@ use mathlib.Core.Path.{_∙_, _≡_, ap, refl, sym}
 use Prim.Native.Nat.{_+_, _-_, _<_, _≤_, suc, zero, ℕ}
 use native.Mathlib.Omega.{arith}
 use lib.Dec.{eqb}
-use lib.ListN.{getD, length, length-replicate, length-set, replicate, set}
+use lib.ListN.{getD, length, length-set, set}
 use borrow.Author.Tests.{eq-eqb, eqb-false, eqb-true, ne-eqb}
 use Rattle.automata.specs.Automaton.{Automaton, accepting, run, states}
 use Rattle.format.specs.Format.{maxNodes}
@@ -35,8 +35,8 @@ pub record ClassedTo (f : ℕ → Bool) (cl : List ℕ) (j : ℕ) : Type 0 where
   pub class : (i : ℕ) → i < j → eqb (getD cl i 0) 1 ≡ f (i + 1)
 
 module _ {f : ℕ → Bool} where
-  pub classed-start : ClassedTo f (replicate maxNodes 0) 0
-  classed-start = record { size = length-replicate {A = ℕ} maxNodes 0; class = λ i h. absurd (omega arith) }
+  pub classed-start : {cl : List ℕ} → length cl ≡ maxNodes → ClassedTo f cl 0
+  classed-start size = record { size = size; class = λ i h. absurd (omega arith) }
 
   pub classed-next : {cl : List ℕ} {j : ℕ} → ClassedTo f cl j → j < maxNodes → (x : ℕ) → eqb x 1 ≡ f (j + 1) →
       ClassedTo f (set cl j x) (j + 1)

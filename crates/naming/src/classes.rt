@@ -48,25 +48,25 @@ fn class_of(table: &[u8], states: &[u8; MAX_NODES], root: usize, inserting: bool
     class_in(table, index(states[j - 1]))
 }
 
-// The classes of the m subtrees, if `root` is the number of the tree itself.
-pub fn classes_of(
+// Fills in the classes of the m subtrees, if `root` is the number of the tree itself.
+pub fn classify(
     table: &[u8],
     m: usize,
     states: &[u8; MAX_NODES],
     root: usize,
     inserting: bool,
-) -> [u8; MAX_NODES]
+    classes: &mut [u8; MAX_NODES],
+)
     requires { ⌜ length (now table) ≡ tableBytes ⌝ }
     requires { ⌜ m ≤ maxNodes ⌝ }
-    ensures { λ r. ⌜ ((A : Automaton) (t : Tree) (ts : List Tree) (S : Tree → Bool) (l : List ℕ) (r' : List ℕ)
+    requires { ⌜ length (now classes) ≡ maxNodes ⌝ }
+    ensures { λ _. ⌜ ((A : Automaton) (t : Tree) (ts : List Tree) (S : Tree → Bool) (l : List ℕ) (r' : List ℕ)
         (c : List ℕ) → Holds A t ts m l r' c (now (states .entry)) → ClassesIn A (now (table .entry)) →
-        Rooted t ts m root → Changed inserting A t S → Classed S ts m r) ⌝ }
+        Rooted t ts m root → Changed inserting A t S → Classed S ts m (now (classes .exit))) ⌝ }
 {
-    let mut classes = [0u8; MAX_NODES];
     let mut j = 0;
     while j < m {
         classes[j] = class_of(table, states, root, inserting, j + 1);
         j += 1;
     }
-    classes
 }

@@ -22,13 +22,13 @@ ghost use Rattle.naming.specs.Choice.{Bounded, Chosen, nameIn};
 ghost use Rattle.naming.specs.Parents.{Marked, Shared, SpansOf};
 ghost use Rattle.pairs.specs.Counts.{Open};
 ghost use lib.ListN.{length};
-pub use classes::classes_of;
+pub use classes::classify;
 use format::BYTE_VALUES;
 use format::MAX_NODES;
 use format::wide;
 use models::find_subtree;
 use parents::anchored;
-use parents::parents_of;
+use parents::note_parents;
 use seeking::find_state;
 use subtrees::CHILD_NUMBERS;
 
@@ -140,7 +140,7 @@ fn mark_shared(n: usize, m: usize, shared: &mut [u8; MAX_NODES], j: usize, name:
     shared[own - n - 1] = 1;
 }
 
-// The names of the m subtrees, given from the last to the first.
+// Fills in the names of the m subtrees, from the last to the first.
 pub fn name_all(
     table: &[u8],
     transitions: &[u8],
@@ -156,20 +156,21 @@ pub fn name_all(
     lows: &[u16; BYTE_VALUES],
     lasts: &[u16; BYTE_VALUES],
     marks: &[u8; BYTE_VALUES],
-) -> [u8; MAX_NODES]
+    names: &mut [u8; MAX_NODES],
+)
     requires { ⌜ Sized (now table) (now transitions) count n m (now arities) (now children)
         (now lows) (now lasts) ⌝ }
-    ensures { λ r. ⌜ Bounded n m r ⌝ }
-    ensures { λ r. ⌜ ((A : Automaton) (t : Tree) (ts : List Tree) (S : (Tree → Bool)) →
+    ensures { λ _. ⌜ Bounded n m (now (names .exit)) ⌝ }
+    ensures { λ _. ⌜ ((A : Automaton) (t : Tree) (ts : List Tree) (S : (Tree → Bool)) →
         Known A t ts S (now (table .entry)) (now (transitions .entry)) count n m
         (now (labels .entry)) (now (arities .entry)) (now (children .entry)) (now (states .entry))
         (now (weights .entry)) (now (classes .entry)) → Open A t (now (marks .entry)) →
-        Searched A t S (subtreeNumber ts) (nameIn ts r)) ⌝ }
+        Searched A t S (subtreeNumber ts) (nameIn ts (now (names .exit)))) ⌝ }
 {
-    let spans = parents_of(m, arities, children);
-    let froms = spans.froms;
-    let tos = spans.tos;
-    let mut names = [0u8; MAX_NODES];
+    let mut froms = [0u8; MAX_NODES];
+    let mut tos = [0u8; MAX_NODES];
+    note_parents(m, arities, children, &mut froms, &mut tos);
+    *names = [0u8; MAX_NODES];
     let mut shared = [0u8; MAX_NODES];
     let mut j = m;
     while j > 0 {
@@ -188,7 +189,7 @@ pub fn name_all(
             lows,
             lasts,
             marks,
-            &names,
+            names,
             &shared,
             &froms,
             &tos,
@@ -198,5 +199,4 @@ pub fn name_all(
         names[j - 1] = name;
         j -= 1;
     }
-    names
 }

@@ -14,12 +14,6 @@ use format::MAX_NODES;
 use format::wide;
 use subtrees::CHILD_NUMBERS;
 
-// For each subtree the index of its first parent and the one after that of its last; both 0 if it has none.
-pub struct Spans {
-    pub froms: [u8; MAX_NODES],
-    pub tos: [u8; MAX_NODES],
-}
-
 // Notes the subtree at index i as a parent of subtree j: the last so far.
 fn note_child(froms: &mut [u8; MAX_NODES], tos: &mut [u8; MAX_NODES], i: usize, j: usize)
     requires { ⌜ i < maxNodes ⌝ }
@@ -61,19 +55,25 @@ fn note_children(
     }
 }
 
-// Between which indices the parents of each of the m subtrees stand.
-pub fn parents_of(m: usize, arities: &[u8; MAX_NODES], children: &[u8; CHILD_NUMBERS]) -> Spans
+// Between which indices the parents of each of the m subtrees stand: that of the first, and the one after that of the
+// last; both 0 if there is none.
+pub fn note_parents(
+    m: usize,
+    arities: &[u8; MAX_NODES],
+    children: &[u8; CHILD_NUMBERS],
+    froms: &mut [u8; MAX_NODES],
+    tos: &mut [u8; MAX_NODES],
+)
     requires { ⌜ Shaped m (now arities) (now children) ⌝ }
-    ensures { λ r. ⌜ SpansOf m (now (arities .entry)) (now (children .entry)) (r .froms) (r .tos) ⌝ }
+    ensures { λ _. ⌜ SpansOf m (now (arities .entry)) (now (children .entry)) (now (froms .exit)) (now (tos .exit)) ⌝ }
 {
-    let mut froms = [0u8; MAX_NODES];
-    let mut tos = [0u8; MAX_NODES];
+    *froms = [0u8; MAX_NODES];
+    *tos = [0u8; MAX_NODES];
     let mut i = 0;
     while i < m {
-        note_children(m, arities, children, &mut froms, &mut tos, i);
+        note_children(m, arities, children, froms, tos, i);
         i += 1;
     }
-    Spans { froms, tos }
 }
 
 // Whether subtree j is a child of subtree i.

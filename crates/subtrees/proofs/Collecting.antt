@@ -13,7 +13,7 @@ use Rattle.format.specs.Format.{maxArity, maxNodes}
 use Rattle.lists.specs.Closure.{elem}
 use Rattle.running.specs.Running.{HoldsStates}
 use Rattle.subtrees.specs.Steps.{Children, Entered, Filled, NumberGiven, Sized, addLast}
-use Rattle.subtrees.specs.Store.{Held, Lists, Stored, bottomUp, treeNumbered, treesNumbered}
+use Rattle.subtrees.specs.Store.{Held, Lists, Stored, arrays, bottomUp, treeNumbered, treesNumbered}
 use Rattle.trees.specs.Listing.{childrenAt, firstTree, firstTrees, labelAt, laterTrees, nodesIn, readTree, readTrees}
 use Rattle.trees.specs.Tree.{Tree, cons, count, eqTree, nil, node}
 use Rattle.subtrees.proofs.Numbers.{Among, among-drop, among-index, among-more, numbered-append}
@@ -235,14 +235,7 @@ module _ {s bs : List ℕ} {top found : ℕ} {stack l r c q : List ℕ} (ok : Pa
   end-top = omega (arith, trees-count inv, ap count (read-whole ok))
 
   pub collecting-end : (A : Automaton) → HoldsStates A (readTree s) bs →
-      Lists A (readTree s) (bottomUp (readTree s)) (record {
-        count = found;
-        root = getD stack top 0;
-        labels = l;
-        arities = r;
-        children = c;
-        states = q;
-      })
+      Lists A (readTree s) (bottomUp (readTree s)) (arrays found (getD stack top 0) l r c q)
   collecting-end A h = record {
     few = omega (arith, inv .room);
     stored = rw (read-whole ok) at (inv .stored A h);

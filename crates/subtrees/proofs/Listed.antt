@@ -5,8 +5,7 @@ use Prim.Native.Nat.{_-_, _≤_, ℕ}
 use native.Mathlib.Omega.{arith}
 use lib.ListN.{getD}
 use Rattle.automata.specs.Automaton.{Automaton, run}
-use Rattle.subtrees.specs.declared.Subtrees.{Subtrees}
-use Rattle.subtrees.specs.Store.{Lists, treeNumbered}
+use Rattle.subtrees.specs.Store.{Lists, Subtrees, treeNumbered}
 use Rattle.trees.specs.Tree.{Tree}
 use Rattle.subtrees.proofs.Numbers.{distinct-index}
 

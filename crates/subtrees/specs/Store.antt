@@ -11,7 +11,6 @@ use Rattle.format.specs.Format.{maxArity, maxLabel, maxNodes}
 use Rattle.lists.specs.Positions.{upFrom}
 use Rattle.lists.specs.Tests.{Distinct, _∈_}
 use Rattle.running.specs.Running.{HoldsStates}
-use Rattle.subtrees.specs.declared.Subtrees.{Subtrees}
 use Rattle.trees.specs.Tree.{Forest, Tree, cons, nil, noTree, node}
 
 -- ---- trees by number
@@ -54,6 +53,18 @@ pub record Stored (A : Automaton) (ts : List Tree) (n : ℕ) (l r c q : List ℕ
 -- the bytes are the states of a tree's nodes in some automaton
 abbrev pub Held : Tree → List ℕ → Type 0
 Held t bs = (A : Automaton) × HoldsStates A t bs
+
+-- how many subtrees arrays hold, the number of the tree itself, and the arrays
+pub record Subtrees : Type 0 where
+  pub count : ℕ
+  pub root : ℕ
+  pub labels : List ℕ
+  pub arities : List ℕ
+  pub children : List ℕ
+  pub states : List ℕ
+
+abbrev pub arrays : ℕ → ℕ → List ℕ → List ℕ → List ℕ → List ℕ → Subtrees
+arrays n i l r c q = record { count = n; root = i; labels = l; arities = r; children = c; states = q }
 
 -- s has the distinct subtrees ts of t, with t's own number
 pub record Lists (A : Automaton) (t : Tree) (ts : List Tree) (s : Subtrees) : Type 0 where

@@ -13,7 +13,7 @@ ghost use Rattle.trees.specs.Listing.{listingRefusal, readTree};
 ghost use Rattle.trees.specs.Tree.{Tree, node};
 ghost use Rattle.subtrees.specs.Steps.{Children, ChildrenStored, Entered, Filled, First, NumberGiven, Sized};
 ghost use Rattle.subtrees.specs.Steps.{sameChild, sameNode};
-ghost use Rattle.subtrees.specs.Store.{Held, Lists, Stored, bottomUp, treesNumbered};
+ghost use Rattle.subtrees.specs.Store.{Held, Lists, Stored, arrays, bottomUp, treesNumbered};
 use format::MAX_ARITY;
 use format::MAX_NODES;
 use format::NODE_BYTES;
@@ -23,14 +23,10 @@ use listing::label_at;
 
 pub const CHILD_NUMBERS: usize = MAX_NODES * MAX_ARITY;
 
-// Subtree j, from 1 to count, stands at index j - 1; its child k at 8 (j - 1) + k, 0 beyond the arity.
-pub struct Subtrees {
+// How many distinct subtrees a tree has, and the number of the tree itself.
+pub struct Collected {
     pub count: usize,
     pub root: u8,
-    pub labels: [u16; MAX_NODES],
-    pub arities: [u8; MAX_NODES],
-    pub children: [u8; CHILD_NUMBERS],
-    pub states: [u8; MAX_NODES],
 }
 
 // The number of a subtree, and how many there are with it.
@@ -179,17 +175,23 @@ fn enter(
     }
 }
 
-// The distinct subtrees of the tree that is listed, and their states, from those of the tree's nodes.
-pub fn collect(tree: &[u8], reached: &[u8; MAX_NODES]) -> Subtrees
+// The distinct subtrees of the tree that is listed, and their states, from those of the tree's nodes. Subtree j, from 1
+// on, goes to index j - 1 of the arrays; its child k to 8 (j - 1) + k, with 0 beyond the arity.
+pub fn collect(
+    tree: &[u8],
+    reached: &[u8; MAX_NODES],
+    labels: &mut [u16; MAX_NODES],
+    arities: &mut [u8; MAX_NODES],
+    children: &mut [u8; CHILD_NUMBERS],
+    states: &mut [u8; MAX_NODES],
+) -> Collected
     requires { ⌜ listingRefusal (now tree) ≡ 0 ⌝ }
     requires { ⌜ Held (readTree (now tree)) (now reached) ⌝ }
+    requires { ⌜ Sized (now labels) (now arities) (now children) (now states) ⌝ }
     ensures { λ r. ⌜ ((A : Automaton) → HoldsStates A (readTree (now (tree .entry))) (now (reached .entry)) →
-        Lists A (readTree (now (tree .entry))) (bottomUp (readTree (now (tree .entry)))) r) ⌝ }
+        Lists A (readTree (now (tree .entry))) (bottomUp (readTree (now (tree .entry)))) (arrays (r .count) (r .root)
+        (now (labels .exit)) (now (arities .exit)) (now (children .exit)) (now (states .exit)))) ⌝ }
 {
-    let mut labels = [0u16; MAX_NODES];
-    let mut arities = [0u8; MAX_NODES];
-    let mut children = [0u8; CHILD_NUMBERS];
-    let mut states = [0u8; MAX_NODES];
     let mut stack = [0u8; MAX_NODES];
     let mut top = MAX_NODES;
     let mut found = 0;
@@ -201,10 +203,10 @@ pub fn collect(tree: &[u8], reached: &[u8; MAX_NODES]) -> Subtrees
         let width = wide(arity);
         let numbers = popped(&stack, top, width);
         let place = enter(
-            &mut labels,
-            &mut arities,
-            &mut children,
-            &mut states,
+            labels,
+            arities,
+            children,
+            states,
             found,
             label,
             arity,
@@ -215,12 +217,9 @@ pub fn collect(tree: &[u8], reached: &[u8; MAX_NODES]) -> Subtrees
         top = top + width - 1;
         stack[top] = place.number;
     }
-    Subtrees {
+    let root = stack[top];
+    Collected {
         count: found,
-        root: stack[top],
-        labels: labels,
-        arities: arities,
-        children: children,
-        states: states,
+        root: root,
     }
 }

@@ -13,3 +13,4 @@ pub mod Coverage
 pub mod Exact
 pub mod Both
 pub mod Noting
+pub mod Walks

@@ -1,3 +1,4 @@
 pub mod Frames
 pub mod Uses
 pub mod Spans
+pub mod Walks

@@ -7,6 +7,7 @@ mod frames; // frames over a slot, counted
 mod covering; // covered slots
 mod swapping; // another state for an argument
 mod scanning; // each use of a state
+mod walking; // the uses of two states in step
 mod using; // a use as a slot
 
 ghost use mathlib.Core.List.{List, _++_};
@@ -29,14 +30,15 @@ use format::MAX_NODES;
 use format::wide;
 use scanning::hint_agrees;
 use scanning::transitions_agree;
-pub use spans::Uses;
-pub use spans::uses_of;
+pub use spans::note_uses;
 pub use using::use_slot;
+use walking::walk_agrees;
 
 const CHILD_NUMBERS: usize = MAX_NODES * MAX_ARITY;
 
-// Whether states p and q, or 0, are used alike but for the frames of subtrees j and v; v is 0 for none. The last
-// use of each is looked at first.
+// Whether states p and q, or 0, are used alike but for the frames of subtrees j and v; v is 0 for none. The last use of
+// each is looked at first, because most states that differ do so there. Then the uses are walked in step, and each is
+// searched for only if that fails.
 fn uses_agree(
     transitions: &[u8],
     count: usize,
@@ -109,6 +111,27 @@ fn uses_agree(
         p,
     ) {
         return false;
+    }
+    if walk_agrees(
+        transitions,
+        count,
+        n,
+        labels,
+        arities,
+        children,
+        states,
+        weights,
+        lows,
+        lasts,
+        start,
+        end,
+        m,
+        j,
+        v,
+        p,
+        q,
+    ) {
+        return true;
     }
     transitions_agree(
         transitions,

@@ -12,7 +12,6 @@ ghost use Rattle.uses.specs.Spans.{UsesWithin};
 ghost use Rattle.uses.specs.Uses.{Hinted, Scannable, arrays, neitherAt};
 ghost use Rattle.uses.specs.Uses.{transitionAgrees, transitionsAgree};
 use crate::spans::entry;
-use crate::swapping::CURSORS;
 use crate::swapping::place_agrees;
 use fields::arity_of;
 use format::ARGS_AT;
@@ -20,8 +19,6 @@ use format::BYTE_VALUES;
 use format::MAX_ARITY;
 use format::MAX_NODES;
 use format::TRANSITION_BYTES;
-use format::wide;
-use format::widened;
 use packed::args_at;
 use packed::meta_at;
 
@@ -67,15 +64,12 @@ fn transition_agrees(
     p: u8,
     q: u8,
     i: usize,
-    near: &mut [u16; CURSORS],
 ) -> bool
     requires { ⌜ Scannable (now transitions) count n m (now arities) (now children) j v start end ⌝ }
     requires { ⌜ i < count ⌝ }
-    requires { ⌜ length (now near) ≡ 2 * maxArity ⌝ }
     ensures { λ r. ⌜ r ≡ transitionAgrees (arrays (now (labels .entry)) (now (arities .entry)) (now
         (children .entry)) (now (states .entry)) (now (weights .entry)) m j v) (now
         (transitions .entry)) count p q i ⌝ }
-    ensures { λ _. ⌜ length (now (near .exit)) ≡ 2 * maxArity ⌝ }
 {
     let at = TRANSITION_BYTES * i;
     let meta = meta_at(transitions, at);
@@ -103,7 +97,6 @@ fn transition_agrees(
             args,
             i,
             k,
-            near,
         ) {
             return false;
         }
@@ -131,15 +124,12 @@ fn unused_or_agrees(
     p: u8,
     q: u8,
     i: usize,
-    near: &mut [u16; CURSORS],
 ) -> bool
     requires { ⌜ Scannable (now transitions) count n m (now arities) (now children) j v start end ⌝ }
     requires { ⌜ i < count ⌝ }
-    requires { ⌜ length (now near) ≡ 2 * maxArity ⌝ }
     ensures { λ r. ⌜ r ≡ transitionAgrees (arrays (now (labels .entry)) (now (arities .entry)) (now
         (children .entry)) (now (states .entry)) (now (weights .entry)) m j v) (now
         (transitions .entry)) count p q i ⌝ }
-    ensures { λ _. ⌜ length (now (near .exit)) ≡ 2 * maxArity ⌝ }
 {
     if has_neither(transitions, TRANSITION_BYTES * i, p, q) {
         return true;
@@ -161,11 +151,10 @@ fn unused_or_agrees(
         p,
         q,
         i,
-        near,
     )
 }
 
-fn lesser(x: usize, y: usize) -> usize
+pub fn lesser(x: usize, y: usize) -> usize
     ensures { λ r. ⌜ r ≡ min x y ⌝ }
 {
     if x < y {
@@ -174,7 +163,7 @@ fn lesser(x: usize, y: usize) -> usize
     y
 }
 
-fn greater(x: usize, y: usize) -> usize
+pub fn greater(x: usize, y: usize) -> usize
     ensures { λ r. ⌜ r ≡ max x y ⌝ }
 {
     if x < y {
@@ -209,7 +198,6 @@ pub fn transitions_agree(
         (children .entry)) (now (states .entry)) (now (weights .entry)) m j v) (now
         (transitions .entry)) count p q ⌝ }
 {
-    let mut near = [0u16; CURSORS];
     let to = greater(entry(lasts, p), entry(lasts, q));
     let mut i = lesser(entry(lows, p), entry(lows, q));
     while i < to {
@@ -230,7 +218,6 @@ pub fn transitions_agree(
             p,
             q,
             i,
-            &mut near,
         ) {
             return false;
         }
@@ -270,7 +257,6 @@ pub fn hint_agrees(
     if number == 0 {
         return true;
     }
-    let mut near = [0u16; CURSORS];
     transition_agrees(
         transitions,
         count,
@@ -288,6 +274,5 @@ pub fn hint_agrees(
         p,
         q,
         number - 1,
-        &mut near,
     )
 }

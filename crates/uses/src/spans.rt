@@ -56,28 +56,23 @@ fn note_args(
     }
 }
 
-// The index of the first transition that has a state as an argument, above every index for none, and the number, from
-// 1, of the last; 0 for none.
-pub struct Uses {
-    pub lows: [u16; BYTE_VALUES],
-    pub lasts: [u16; BYTE_VALUES],
-}
-
-// One pass over the arguments.
-pub fn uses_of(transitions: &[u8], count: usize) -> Uses
+// One pass over the arguments. `lows` gets the index of the first transition that has a state as an argument, above every
+// index for none, `lasts` the number, from 1, of the last; 0 for none.
+pub fn note_uses(
+    transitions: &[u8],
+    count: usize,
+    lows: &mut [u16; BYTE_VALUES],
+    lasts: &mut [u16; BYTE_VALUES],
+)
     requires { ⌜ HoldsTransitions (now transitions) count ⌝ }
-    ensures { λ r. ⌜ UsesWithin (now (transitions .entry)) count (r .lows) (r .lasts) ⌝ }
+    ensures { λ _. ⌜ UsesWithin (now (transitions .entry)) count (now (lows .exit)) (now (lasts .exit)) ⌝ }
 {
-    let mut lows = [65535u16; BYTE_VALUES];
-    let mut lasts = [0u16; BYTE_VALUES];
+    *lows = [65535u16; BYTE_VALUES];
+    *lasts = [0u16; BYTE_VALUES];
     let mut i = 0;
     while i < count {
-        note_args(transitions, i, &mut lows, &mut lasts);
+        note_args(transitions, i, lows, lasts);
         i += 1;
-    }
-    Uses {
-        lows: lows,
-        lasts: lasts,
     }
 }
 

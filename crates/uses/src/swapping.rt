@@ -3,9 +3,8 @@ ghost use mathlib.Core.Bool.{_&&_, cond, not};
 ghost use mathlib.Core.Path.{_≡_};
 ghost use Prim.Native.Nat.{_*_, _+_, _-_, _<_, _^_, _≤_};
 ghost use lib.Dec.{eqb};
-ghost use lib.ListN.{length};
 ghost use Rattle.sorted.specs.Steps.{stepAt};
-ghost use Rattle.fields.specs.Fields.{HoldsTransitions, HoldsTransitionsOver};
+ghost use Rattle.fields.specs.Fields.{HoldsTransitionsOver};
 ghost use Rattle.format.specs.Format.{maxArity, transitionBytes};
 ghost use Rattle.packed.specs.Packed.{Searchable, metaAt, packedAt};
 ghost use Rattle.table.specs.Layout.{argOf, arityOf};
@@ -18,37 +17,10 @@ use format::MAX_ARITY;
 use format::MAX_NODES;
 use format::TRANSITION_BYTES;
 use format::wide;
-use format::widened;
 use packed::at_place;
-use packed::seek_near;
+use packed::seek;
 
 const CHILD_NUMBERS: usize = MAX_NODES * MAX_ARITY;
-
-// A cursor for each place and each way to exchange two states.
-pub const CURSORS: usize = 2 * MAX_ARITY;
-
-// How far a cursor looks ahead.
-const LOOKS: usize = 8;
-
-// The first transition from an index on that has q as argument k, if it is not far.
-fn next_use(transitions: &[u8], count: usize, k: usize, q: usize, from: usize) -> usize
-    requires { ⌜ HoldsTransitions (now transitions) count ⌝ }
-    requires { ⌜ k < maxArity ⌝ }
-{
-    let mut i = from;
-    let mut turns = 0;
-    while turns < LOOKS {
-        if i >= count {
-            return i;
-        }
-        if arg_of(transitions, TRANSITION_BYTES * i, k) == q {
-            return i;
-        }
-        i += 1;
-        turns += 1;
-    }
-    i
-}
 
 // Packed arguments with y for x at place k.
 fn exchanged(args: u64, k: usize, x: u8, y: u8) -> u64
@@ -61,7 +33,7 @@ fn exchanged(args: u64, k: usize, x: u8, y: u8) -> u64
 }
 
 // The output of the transition that is transition i with y for x as argument k; 0 for none. The numbers of transition
-// i are handed in, and the cursor is where the last one was found.
+// i are handed in.
 fn swapped_out(
     transitions: &[u8],
     count: usize,
@@ -72,8 +44,6 @@ fn swapped_out(
     k: usize,
     x: u8,
     y: u8,
-    cursor: usize,
-    near: &mut [u16; CURSORS],
 ) -> usize
     requires { ⌜ Searchable (now transitions) count ⌝ }
     requires { ⌜ HoldsTransitionsOver (now transitions) count n ⌝ }
@@ -82,21 +52,16 @@ fn swapped_out(
     requires { ⌜ meta ≡ metaAt (now transitions) (transitionBytes * i) ⌝ }
     requires { ⌜ args ≡ packedAt (now transitions) (transitionBytes * i) ⌝ }
     requires { ⌜ x ≡ argOf (now transitions) (transitionBytes * i) k ⌝ }
-    requires { ⌜ cursor < 2 * maxArity ⌝ }
-    requires { ⌜ length (now near) ≡ 2 * maxArity ⌝ }
     ensures { λ r. ⌜ r ≡ stepAt (now (transitions .entry)) count (transitionBytes * i) k y ⌝ }
-    ensures { λ _. ⌜ length (now (near .exit)) ≡ 2 * maxArity ⌝ }
 {
     if y == 0 {
         return 0;
     }
     let sought = exchanged(args, k, x, y);
-    let first = next_use(transitions, count, k, wide(y), widened(near[cursor]));
-    let number = seek_near(transitions, count, meta, sought, first);
+    let number = seek(transitions, count, meta, sought);
     if number == 0 {
         return 0;
     }
-    near[cursor] = number as u16;
     out_of(transitions, TRANSITION_BYTES * (number - 1))
 }
 
@@ -121,8 +86,6 @@ fn swap_agrees(
     k: usize,
     x: u8,
     y: u8,
-    cursor: usize,
-    near: &mut [u16; CURSORS],
 ) -> bool
     requires { ⌜ Scannable (now transitions) count n m (now arities) (now children) j v start end ⌝ }
     requires { ⌜ i < count ⌝ }
@@ -130,13 +93,10 @@ fn swap_agrees(
     requires { ⌜ meta ≡ metaAt (now transitions) (transitionBytes * i) ⌝ }
     requires { ⌜ args ≡ packedAt (now transitions) (transitionBytes * i) ⌝ }
     requires { ⌜ x ≡ argOf (now transitions) (transitionBytes * i) k ⌝ }
-    requires { ⌜ cursor < 2 * maxArity ⌝ }
-    requires { ⌜ length (now near) ≡ 2 * maxArity ⌝ }
     ensures { λ r. ⌜ r ≡ swapAgrees (arrays (now (labels .entry)) (now (arities .entry)) (now (children .entry)) (now
         (states .entry)) (now (weights .entry)) m j v) (now (transitions .entry)) count (transitionBytes * i) k y ⌝ }
-    ensures { λ _. ⌜ length (now (near .exit)) ≡ 2 * maxArity ⌝ }
 {
-    let out = swapped_out(transitions, count, n, meta, args, i, k, x, y, cursor, near);
+    let out = swapped_out(transitions, count, n, meta, args, i, k, x, y);
     let at = TRANSITION_BYTES * i;
     if out == out_of(transitions, at) {
         return true;
@@ -175,17 +135,6 @@ fn either(arg: usize, p: u8, first: u8, second: u8) -> u8
     second
 }
 
-// The cursor of place k: one for an argument that is p, another for the other state.
-fn cursor_of(arg: usize, p: u8, k: usize) -> usize
-    requires { ⌜ k < maxArity ⌝ }
-    ensures { λ r. ⌜ r < 2 * maxArity ⌝ }
-{
-    if arg == wide(p) {
-        return k;
-    }
-    MAX_ARITY + k
-}
-
 // Whether argument k of transition i is neither p nor q, or the other one agrees. One call for both, so that it is
 // inlined.
 pub fn place_agrees(
@@ -208,17 +157,14 @@ pub fn place_agrees(
     args: u64,
     i: usize,
     k: usize,
-    near: &mut [u16; CURSORS],
 ) -> bool
     requires { ⌜ Scannable (now transitions) count n m (now arities) (now children) j v start end ⌝ }
     requires { ⌜ i < count ⌝ }
     requires { ⌜ k < arityOf (now transitions) (transitionBytes * i) ⌝ }
     requires { ⌜ meta ≡ metaAt (now transitions) (transitionBytes * i) ⌝ }
     requires { ⌜ args ≡ packedAt (now transitions) (transitionBytes * i) ⌝ }
-    requires { ⌜ length (now near) ≡ 2 * maxArity ⌝ }
     ensures { λ r. ⌜ r ≡ placeAgrees (arrays (now (labels .entry)) (now (arities .entry)) (now (children .entry)) (now
         (states .entry)) (now (weights .entry)) m j v) (now (transitions .entry)) count (transitionBytes * i) p q k ⌝ }
-    ensures { λ _. ⌜ length (now (near .exit)) ≡ 2 * maxArity ⌝ }
 {
     let arg = arg_of(transitions, TRANSITION_BYTES * i, k);
     if is_neither(arg, p, q) {
@@ -226,7 +172,6 @@ pub fn place_agrees(
     }
     let x = either(arg, p, p, q);
     let y = either(arg, p, q, p);
-    let cursor = cursor_of(arg, p, k);
     swap_agrees(
         transitions,
         count,
@@ -247,7 +192,5 @@ pub fn place_agrees(
         k,
         x,
         y,
-        cursor,
-        near,
     )
 }

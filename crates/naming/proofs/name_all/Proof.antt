@@ -16,8 +16,8 @@ abbrev μ-loop : tie.MeasureT-loop
     names₀ shared₀ j₀ names shared j =
     j
 
-parents-of-requires : tie.Need-parents-of-requires Inv-loop μ-loop
-parents-of-requires c κs = c .before .before .pre .shaped
+note-parents-requires : tie.Need-note-parents-requires Inv-loop μ-loop
+note-parents-requires c κs = c .before .before .before .before .pre .shaped
 
 loop-holds : tie.Need-loop-holds Inv-loop μ-loop
 loop-holds c = given-start
@@ -26,16 +26,16 @@ name-subtree-requires : tie.Need-name-subtree-requires Inv-loop μ-loop
 name-subtree-requires c κs =
     let at-loop-test = c .before .before .before .before in
     let at-loop = at-loop-test .before in
-    let at-parents-of = at-loop .before .before .before in
-    let start = at-parents-of .before .before .before in
+    let at-note-parents = at-loop .before .before in
+    let start = at-note-parents .before .before .before .before .before in
     let now = at-loop .loop in
-    let spans = at-parents-of .parents-of .ensures in
+    let spans = at-note-parents .note-parents .ensures in
     (start .pre, (now .inv .shares, (spans, (at-loop-test .loop-test .taken, now .inv .within))))
 
 mark-shared-requires : tie.Need-mark-shared-requires Inv-loop μ-loop
 mark-shared-requires c κs =
     let at-loop = c .before .before .before .before .before .before .before in
-    let start = at-loop .before .before .before .before .before .before in
+    let start = at-loop .before .before .before .before .before .before .before in
     let p = start .pre in
     let now = at-loop .loop in
     (p .states, (p .shaped .few, (now .inv .within, (c .before .name-subtree .ensures .0, now .inv .marks))))
@@ -43,12 +43,13 @@ mark-shared-requires c κs =
 sub-names : tie.Need-sub-names Inv-loop μ-loop
 sub-names c = search needs
 
-array-write-names : tie.Need-array-write-names Inv-loop μ-loop
-array-write-names c =
+element-write-names : tie.Need-element-write-names Inv-loop μ-loop
+element-write-names c =
     let at-loop-test = c .before .before .before .before .before .before .before in
     let at-loop = at-loop-test .before in
-    let start = at-loop .before .before .before .before .before .before in
-    omega (arith, at-loop .loop .inv .within, at-loop-test .loop-test .taken, start .pre .shaped .few)
+    let start = at-loop .before .before .before .before .before .before .before in
+    let inv = at-loop .loop .inv in
+    omega (arith, inv .within, inv .size, at-loop-test .loop-test .taken, start .pre .shaped .few)
 
 sub-j : tie.Need-sub-j Inv-loop μ-loop
 sub-j c = search needs
@@ -60,7 +61,7 @@ loop-again : tie.Need-loop-again Inv-loop μ-loop
 loop-again c =
     let at-loop-test = c .before .before .before .before .before .before .before in
     let at-loop = at-loop-test .before in
-    let start = at-loop .before .before .before .before .before .before in
+    let start = at-loop .before .before .before .before .before .before .before in
     given-next (at-loop .loop .inv) (at-loop-test .loop-test .taken) (start .pre .shaped .few)
     (c .before .before .name-subtree .ensures .0) (c .mark-shared .ensures .0)
     (c .mark-shared .ensures .1) (c .before .before .name-subtree .ensures .1)
@@ -78,12 +79,12 @@ name-all-spec =
     (tie.spec
     Inv-loop
     μ-loop
-    parents-of-requires
+    note-parents-requires
     loop-holds
     name-subtree-requires
     mark-shared-requires
     sub-names
-    array-write-names
+    element-write-names
     sub-j
     loop-less
     loop-again

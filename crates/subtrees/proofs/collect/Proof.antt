@@ -19,8 +19,7 @@ abbrev μ-loop : tie.MeasureT-loop
 loop-holds : tie.Need-loop-holds Inv-loop μ-loop
 loop-holds c =
     let start = c .before in
-    collecting-start (passed (start .args .tree .now) (start .pre .0)) (start .args .reached .now)
-    (record { labels = refl; arities = refl; children = refl; states = refl }) refl
+    collecting-start (passed (start .args .tree .now) (start .pre .0)) (start .args .reached .now) (start .pre .1 .1) refl
 
 sub-i : tie.Need-sub-i Inv-loop μ-loop
 sub-i c = search needs
@@ -105,11 +104,11 @@ loop-again c =
     let more = at-wide .before .before .before .loop-test .taken in
     let entered = c .enter .ensures in
     rw width
-    (collecting-next ok (at-loop .loop .inv) more filled (entered .1 .0) (entered .0) (start .pre .1)
+    (collecting-next ok (at-loop .loop .inv) more filled (entered .1 .0) (entered .0) (start .pre .1 .0)
     (rw (label, arity) at (entered .1 .1)))
 
-array-read-t31 : tie.Need-array-read-t31 Inv-loop μ-loop
-array-read-t31 c =
+array-read-root : tie.Need-array-read-root Inv-loop μ-loop
+array-read-root c =
     let start = c .before .before .before in
     let ok = passed (start .args .tree .now) (start .pre .0) in
     end-top ok (collecting-at (c .before .loop .inv) 0 (omega arith))
@@ -139,5 +138,5 @@ collect-spec =
     array-write-stack
     loop-less
     loop-again
-    array-read-t31
+    array-read-root
     returns)

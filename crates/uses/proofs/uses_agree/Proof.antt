@@ -30,13 +30,23 @@ returns-3 c =
     λ A t ts F holds frames. sym (c .before .hint-agrees2 .ensures .refused (not-true _ (c .if3 .taken))) ∙ uses-exact
     (start .searchable) (start .over) holds (a .j) (a .v) F frames (a .p) (a .q)
 
-transitions-agree-requires : tie.Need-transitions-agree-requires
-transitions-agree-requires c κs = search needs
+walk-agrees-requires : tie.Need-walk-agrees-requires
+walk-agrees-requires c κs = search needs
 
 returns-4 : tie.Need-returns-4
 returns-4 c =
-    let start = c .before .before .before .before .before .before .before .pre .0 in
-    let a = c .before .before .before .before .before .before .before .args in
+    let start = c .before .before .before .before .before .before .before .before .pre .0 in
+    let a = c .before .before .before .before .before .before .before .before .args in
+    λ A t ts F holds frames. sym (c .before .walk-agrees .ensures (c .if4 .taken)) ∙ uses-exact
+    (start .searchable) (start .over) holds (a .j) (a .v) F frames (a .p) (a .q)
+
+transitions-agree-requires : tie.Need-transitions-agree-requires
+transitions-agree-requires c κs = search needs
+
+returns-5 : tie.Need-returns-5
+returns-5 c =
+    let start = c .before .before .before .before .before .before .before .before .before .pre .0 in
+    let a = c .before .before .before .before .before .before .before .before .before .args in
     λ A t ts F holds frames. (c .transitions-agree) .ensures ∙ uses-exact (start .searchable) (start .over) holds
     (a .j) (a .v) F frames (a .p) (a .q)
 
@@ -49,5 +59,7 @@ uses-agree-spec =
     returns-2
     hint-agrees-requires-2
     returns-3
+    walk-agrees-requires
+    returns-4
     transitions-agree-requires
-    returns-4)
+    returns-5)

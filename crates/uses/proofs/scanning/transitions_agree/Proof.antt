@@ -1,10 +1,8 @@
 -- The transitions below the loop's index agree, and those beyond its end do.
 use native.Mathlib.Omega.{arith}
-use mathlib.Core.Path.{_∙_, _≡_, ap₂}
-use Prim.Native.Nat.{_*_, _-_, max, min, ℕ}
-use lib.ListN.{getD, length, length-replicate}
+use mathlib.Core.Path.{_∙_, ap₂}
+use Prim.Native.Nat.{_-_, max, min}
 use borrow.Author.Tests.{not-false, not-true}
-use Rattle.format.specs.Format.{maxArity}
 use Rattle.uses.specs.Uses.{arrays}
 use Rattle.uses.proofs.Spanning.{AgreesBelow, agrees-before, agrees-broken, agrees-next, agrees-past}
 use borrow.Author.Needs.{needs}
@@ -12,15 +10,11 @@ use Rattle.uses.proofs.scanning.transitions_agree.Statement.{statement}
 use Rattle.uses.proofs.scanning.transitions_agree.Tie as tie
 
 abbrev Inv-loop : tie.InvT-loop
-Inv-loop transitions count n labels arities children states weights lows lasts start end m j v p q near₀ to i₀ near i
-    =
-    (length near ≡ 2 * maxArity) × AgreesBelow
-    (arrays labels arities children states weights m j v) transitions count p q i × (to ≡ max (getD lasts p 0)
-    (getD lasts q 0))
+Inv-loop transitions count n labels arities children states weights lows lasts start end m j v p q to i₀ i =
+    AgreesBelow (arrays labels arities children states weights m j v) transitions count p q i
 
 abbrev μ-loop : tie.MeasureT-loop
-μ-loop transitions count n labels arities children states weights lows lasts start end m j v p q near₀ to i₀ near i =
-    to - i
+μ-loop transitions count n labels arities children states weights lows lasts start end m j v p q to i₀ i = to - i
 
 entry-requires : tie.Need-entry-requires Inv-loop μ-loop
 entry-requires c κs = search needs
@@ -42,46 +36,29 @@ lesser-requires c κs = search needs
 
 loop-holds : tie.Need-loop-holds Inv-loop μ-loop
 loop-holds c =
-    let a = c .before .before .before .before .before .before .before .args in (
-      length-replicate {A = ℕ} 16 0,
-      agrees-before (arrays (a .labels .now) (a .arities .now) (a .children .now)
-          (a .states .now) (a .weights .now) (a .m) (a .j) (a .v)) (a .transitions .now) (a .count) (a .p) (a .q)
-          (c .before .before .before .before .before .before .before .pre .1) (c .lesser .ensures ∙ ap₂ min
-          (c .before .before .entry3 .ensures) (c .before .entry4 .ensures)),
-      c .before .before .before .greater .ensures
-          ∙ ap₂ max (c .before .before .before .before .before .entry .ensures)
-          (c .before .before .before .before .entry2 .ensures),
-    )
+    let start = c .before .before .before .before .before .before .before in
+    let a = start .args in
+    agrees-before (arrays (a .labels .now) (a .arities .now) (a .children .now) (a .states .now) (a .weights .now)
+    (a .m) (a .j) (a .v)) (a .transitions .now) (a .count) (a .p) (a .q) (start .pre .1)
+    (c .lesser .ensures ∙ ap₂ min (c .before .before .entry3 .ensures) (c .before .entry4 .ensures))
 
 unused-or-agrees-requires : tie.Need-unused-or-agrees-requires Inv-loop μ-loop
 unused-or-agrees-requires c κs =
-    let known = c .before .before .before .before .before .before .before .before .before .before .pre .1 .known in (
-      c .before .before .before .before .before .before .before .before .before .before .pre .0,
-      (
-        omega (
-          arith,
-          known
-              (c .before .before .before .before .before .before .before .before .before .before .args .p),
-          known
-              (c .before .before .before .before .before .before .before .before .before .before .args .q),
-          c .before .before .loop .inv .2,
-          c .before .loop-test .taken,
-        ),
-        c .before .before .loop .inv .0,
-      ),
-    )
+    let end = c .before .before .before .before .before in
+    let start = end .before .before .before .before in
+    let known = start .pre .1 .known in
+    let last = end .greater .ensures ∙ ap₂ max (end .before .before .entry .ensures) (end .before .entry2 .ensures) in
+    (start .pre .0, omega (arith, known (start .args .p), known (start .args .q), last, c .loop-test .taken))
 
 returns : tie.Need-returns Inv-loop μ-loop
 returns c =
-    let known = c .before .before .before .before .before .before .before .before .before .before .before .before .pre .1 .known in
-    agrees-broken (c .before .before .before .before .loop .inv .1) (omega (
-      arith,
-      known
-          (c .before .before .before .before .before .before .before .before .before .before .before .before .args .p),
-      known (c .before .before .before .before .before .before .before .before .before .before .before .before .args .q),
-      c .before .before .before .before .loop .inv .2,
-      c .before .before .before .loop-test .taken,
-    )) (c .before .unused-or-agrees .ensures .0) (not-true _ (c .if1 .taken))
+    let end = c .before .before .before .before .before .before .before in
+    let start = end .before .before .before .before in
+    let known = start .pre .1 .known in
+    let last = end .greater .ensures ∙ ap₂ max (end .before .before .entry .ensures) (end .before .entry2 .ensures) in
+    agrees-broken (c .before .before .before .loop .inv)
+    (omega (arith, known (start .args .p), known (start .args .q), last, c .before .before .loop-test .taken))
+    (c .before .unused-or-agrees .ensures) (not-true _ (c .if1 .taken))
 
 add-i : tie.Need-add-i Inv-loop μ-loop
 add-i c = search needs
@@ -90,20 +67,19 @@ loop-less : tie.Need-loop-less Inv-loop μ-loop
 loop-less c = search needs
 
 loop-again : tie.Need-loop-again Inv-loop μ-loop
-loop-again c = (
-  c .before .unused-or-agrees .ensures .1,
-  agrees-next (c .before .before .before .before .loop .inv .1)
-      (c .before .unused-or-agrees .ensures .0) (not-false _ (c .if1 .left)),
-  c .before .before .before .before .loop .inv .2,
-)
+loop-again c =
+    agrees-next (c .before .before .before .loop .inv) (c .before .unused-or-agrees .ensures)
+    (not-false _ (c .if1 .left))
 
 returns-2 : tie.Need-returns-2 Inv-loop μ-loop
 returns-2 c =
-    let a = c .before .before .before .before .before .before .before .before .before .args in
-    agrees-past (arrays (a .labels .now) (a .arities .now) (a .children .now) (a .states .now) (a .weights .now)
-    (a .m) (a .j) (a .v)) (a .transitions .now) (a .count) (a .p) (a .q)
-    (c .before .before .before .before .before .before .before .before .before .pre .1) (c .before .loop .inv .1)
-    (c .before .loop .inv .2) (c .loop-test .left)
+    let end = c .before .before .before .before .before in
+    let start = end .before .before .before .before in
+    let a = start .args in
+    let last = end .greater .ensures ∙ ap₂ max (end .before .before .entry .ensures) (end .before .entry2 .ensures) in
+    agrees-past (arrays (a .labels .now) (a .arities .now) (a .children .now) (a .states .now) (a .weights .now) (a .m)
+    (a .j) (a .v)) (a .transitions .now) (a .count) (a .p) (a .q) (start .pre .1) (c .before .loop .inv) last
+    (c .loop-test .left)
 
 pub transitions-agree-spec : {M : Type 1} → statement M
 transitions-agree-spec =

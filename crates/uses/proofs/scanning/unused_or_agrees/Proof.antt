@@ -14,13 +14,12 @@ has-neither-requires c κs = search needs
 
 returns : tie.Need-returns
 returns c =
-    let a = c .before .before .before .args in
-    let r = readable (c .before .before .before .pre .0 .over .runs) (a .i) (c .before .before .before .pre .1 .0) in (
-      agrees-neither (arrays (a .labels .now) (a .arities .now) (a .children .now) (a .states .now) (a .weights .now)
-          (a .m) (a .j) (a .v)) (a .transitions .now) (a .count) (a .p) (a .q) (a .i) (r .narrow)
-          (c .before .has-neither .ensures) (c .if1 .taken),
-      c .before .before .before .pre .1 .1,
-    )
+    let start = c .before .before .before in
+    let a = start .args in
+    let r = readable (start .pre .0 .over .runs) (a .i) (start .pre .1) in
+    agrees-neither (arrays (a .labels .now) (a .arities .now) (a .children .now) (a .states .now) (a .weights .now)
+    (a .m) (a .j) (a .v)) (a .transitions .now) (a .count) (a .p) (a .q) (a .i) (r .narrow)
+    (c .before .has-neither .ensures) (c .if1 .taken)
 
 transition-agrees-requires : tie.Need-transition-agrees-requires
 transition-agrees-requires c κs = search needs

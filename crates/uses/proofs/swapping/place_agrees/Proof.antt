@@ -24,13 +24,10 @@ is-neither-requires c κs = search needs
 
 returns : tie.Need-returns
 returns c =
-    let start = c .before .before .before .before in
-    let a = start .args in (
-      place-other (arrays (a .labels .now) (a .arities .now) (a .children .now) (a .states .now) (a .weights .now)
-          (a .m) (a .j) (a .v)) (a .transitions .now) (a .count) (transitionBytes * a .i) (a .p) (a .q) (a .k)
-          (c .before .before .arg-of .ensures .0) (sym (c .before .is-neither .ensures) ∙ c .if1 .taken),
-      start .pre .1 .1 .1 .1 .1,
-    )
+    let a = c .before .before .before .before .args in
+    place-other (arrays (a .labels .now) (a .arities .now) (a .children .now) (a .states .now) (a .weights .now) (a .m)
+    (a .j) (a .v)) (a .transitions .now) (a .count) (transitionBytes * a .i) (a .p) (a .q) (a .k)
+    (c .before .before .arg-of .ensures .0) (sym (c .before .is-neither .ensures) ∙ c .if1 .taken)
 
 either-requires : tie.Need-either-requires
 either-requires c κs = search needs
@@ -38,34 +35,24 @@ either-requires c κs = search needs
 either-requires-2 : tie.Need-either-requires-2
 either-requires-2 c κs = search needs
 
-cursor-of-requires : tie.Need-cursor-of-requires
-cursor-of-requires c κs =
-    let start = c .before .before .before .before .before .before in
-    let r = readable (start .pre .0 .over .runs) (start .args .i) (start .pre .1 .0) in
-    omega (arith, r .narrow, start .pre .1 .1 .0)
-
 swap-agrees-requires : tie.Need-swap-agrees-requires
 swap-agrees-requires c κs =
-    let start = c .before .before .before .before .before .before .before .before in
+    let start = c .before .before .before .before .before .before in
     let p = start .pre in
-    let arg = c .before .before .before .before .before .before .arg-of in
-    let none = c .before .before .before .before .before .is-neither .ensures in
-    let own = own-either (arg .result) (start .args .p) (start .args .q) (sym none ∙ c .before .before .before .before .if1 .left)
-    (c .before .before .before .either .ensures) ∙ arg .ensures .0 in
-    (p .0, (p .1 .0, (p .1 .1 .0, (p .1 .1 .1 .0, (p .1 .1 .1 .1 .0, (own, (c .before .cursor-of .ensures, p .1 .1 .1 .1 .1)))))))
+    let arg = c .before .before .before .before .arg-of in
+    let none = sym (c .before .before .before .is-neither .ensures) ∙ c .before .before .if1 .left in
+    let own = own-either (arg .result) (start .args .p) (start .args .q) none (c .before .either .ensures)
+    ∙ arg .ensures .0 in
+    (p .0, (p .1 .0, (p .1 .1 .0, (p .1 .1 .1 .0, (p .1 .1 .1 .1, own)))))
 
 returns-2 : tie.Need-returns-2
 returns-2 c =
-    let start = c .before .before .before .before .before .before .before .before .before in
-    let a = start .args in
-    let none = c .before .before .before .before .before .before .is-neither .ensures in (
-      place-either (arrays (a .labels .now) (a .arities .now) (a .children .now) (a .states .now) (a .weights .now)
-          (a .m) (a .j) (a .v)) (a .transitions .now) (a .count) (transitionBytes * a .i) (a .p) (a .q) (a .k)
-          (c .before .before .before .before .before .before .before .arg-of .ensures .0)
-          (sym none ∙ c .before .before .before .before .before .if1 .left)
-          (c .before .before .before .either2 .ensures) (c .swap-agrees .ensures .0),
-      c .swap-agrees .ensures .1,
-    )
+    let a = c .before .before .before .before .before .before .before .args in
+    let none = sym (c .before .before .before .before .is-neither .ensures) ∙ c .before .before .before .if1 .left in
+    place-either (arrays (a .labels .now) (a .arities .now) (a .children .now) (a .states .now) (a .weights .now) (a .m)
+    (a .j) (a .v)) (a .transitions .now) (a .count) (transitionBytes * a .i) (a .p) (a .q) (a .k)
+    (c .before .before .before .before .before .arg-of .ensures .0) none (c .before .either2 .ensures)
+    (c .swap-agrees .ensures)
 
 pub place-agrees-spec : {M : Type 1} → statement M
 place-agrees-spec =
@@ -77,6 +64,5 @@ place-agrees-spec =
     returns
     either-requires
     either-requires-2
-    cursor-of-requires
     swap-agrees-requires
     returns-2)

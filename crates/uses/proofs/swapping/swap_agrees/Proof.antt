@@ -10,7 +10,7 @@ use Rattle.uses.proofs.swapping.swap_agrees.Tie as tie
 
 swapped-out-requires : tie.Need-swapped-out-requires
 swapped-out-requires c κs =
-    let p = c .before .before .pre in
+    let p = c .before .pre in
     (p .0 .searchable, (p .0 .over, p .1))
 
 mul-at : tie.Need-mul-at
@@ -21,19 +21,16 @@ out-of-requires c κs = search needs
 
 returns : tie.Need-returns
 returns c =
-    let start = c .before .before .before .before .before in
-    let a = start .args in
-    let step = c .before .before .swapped-out .ensures in (
-      swap-same (arrays (a .labels .now) (a .arities .now) (a .children .now) (a .states .now) (a .weights .now) (a .m)
-          (a .j) (a .v)) (a .transitions .now) (a .count) (transitionBytes * a .i) (a .k) (a .y) (step .0)
-          (c .before .out-of .ensures .0) (c .if1 .taken),
-      step .1,
-    )
+    let a = c .before .before .before .before .args in
+    swap-same (arrays (a .labels .now) (a .arities .now) (a .children .now) (a .states .now) (a .weights .now) (a .m)
+    (a .j) (a .v)) (a .transitions .now) (a .count) (transitionBytes * a .i) (a .k) (a .y)
+    (c .before .before .swapped-out .ensures) (c .before .out-of .ensures .0) (c .if1 .taken)
 
 is-covered-requires : tie.Need-is-covered-requires
 is-covered-requires c κs =
-    let p = c .before .before .before .before .before .pre in (
-      readable (p .0 .over .runs) (c .before .before .before .before .before .args .i) (p .1 .0),
+    let start = c .before .before .before .before in
+    let p = start .pre in (
+      readable (p .0 .over .runs) (start .args .i) (p .1 .0),
       (
         p .0 .nodes,
         (p .1 .1 .0, (p .0 .first, p .0 .second)),
@@ -42,14 +39,11 @@ is-covered-requires c κs =
 
 returns-2 : tie.Need-returns-2
 returns-2 c =
-    let start = c .before .before .before .before .before .before in
-    let a = start .args in
-    let step = c .before .before .before .swapped-out .ensures in (
-      swap-covered (arrays (a .labels .now) (a .arities .now) (a .children .now) (a .states .now) (a .weights .now)
-          (a .m) (a .j) (a .v)) (a .transitions .now) (a .count) (transitionBytes * a .i) (a .k) (a .y) (step .0)
-          (c .before .before .out-of .ensures .0) (c .before .if1 .left) (c .is-covered .ensures),
-      step .1,
-    )
+    let a = c .before .before .before .before .before .args in
+    swap-covered (arrays (a .labels .now) (a .arities .now) (a .children .now) (a .states .now) (a .weights .now) (a .m)
+    (a .j) (a .v)) (a .transitions .now) (a .count) (transitionBytes * a .i) (a .k) (a .y)
+    (c .before .before .before .swapped-out .ensures) (c .before .before .out-of .ensures .0) (c .before .if1 .left)
+    (c .is-covered .ensures)
 
 pub swap-agrees-spec : {M : Type 1} → statement M
 swap-agrees-spec =

@@ -1,11 +1,11 @@
--- `naming::classes::classes_of` meets its contract: the first classes stand at their indices.
+-- `naming::classes::classify` meets its contract: the first classes stand at their indices.
 use Prim.Native.Nat.{_-_, _≤_}
 use native.Mathlib.Omega.{arith}
 use borrow.Author.Needs.{needs}
 use Rattle.naming.specs.Classes.{subtreeClass}
 use Rattle.naming.proofs.Classing.{ClassedTo, classed-changed, classed-next, classed-start}
-use Rattle.naming.proofs.classes.classes_of.Statement.{statement}
-use Rattle.naming.proofs.classes.classes_of.Tie as tie
+use Rattle.naming.proofs.classes.classify.Statement.{statement}
+use Rattle.naming.proofs.classes.classify.Tie as tie
 
 abbrev Inv-loop : tie.InvT-loop
 Inv-loop table m states root inserting classes₀ j₀ classes j =
@@ -15,7 +15,7 @@ abbrev μ-loop : tie.MeasureT-loop
 μ-loop table m states root inserting classes₀ j₀ classes j = m - j
 
 loop-holds : tie.Need-loop-holds Inv-loop μ-loop
-loop-holds c = (omega arith, classed-start)
+loop-holds c = (omega arith, classed-start (c .before .pre .1 .1))
 
 add-class-of : tie.Need-add-class-of Inv-loop μ-loop
 add-class-of c = search needs
@@ -23,8 +23,10 @@ add-class-of c = search needs
 class-of-requires : tie.Need-class-of-requires Inv-loop μ-loop
 class-of-requires c κs = search needs
 
-array-write-classes : tie.Need-array-write-classes Inv-loop μ-loop
-array-write-classes c = search needs
+element-write-classes : tie.Need-element-write-classes Inv-loop μ-loop
+element-write-classes c =
+    let start = c .before .before .before .before in
+    omega (arith, start .pre .1 .0, c .before .before .loop .inv .1 .size, c .before .loop-test .taken)
 
 add-j : tie.Need-add-j Inv-loop μ-loop
 add-j c = search needs
@@ -49,8 +51,8 @@ returns c =
     λ A t ts S l r c₁ h C R X. classed-changed (c .before .before .before .args .inserting) h C R X (c .before .loop .inv
     .1) (omega arith)
 
-pub classes-of-spec : {M : Type 1} → statement M
-classes-of-spec =
+pub classify-spec : {M : Type 1} → statement M
+classify-spec =
     tie.close
     (tie.spec
     Inv-loop
@@ -58,7 +60,7 @@ classes-of-spec =
     loop-holds
     add-class-of
     class-of-requires
-    array-write-classes
+    element-write-classes
     add-j
     loop-less
     loop-again

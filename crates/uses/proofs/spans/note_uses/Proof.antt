@@ -8,8 +8,8 @@ use Rattle.fields.proofs.Transitions.{readable}
 use Rattle.uses.specs.Spans.{Noted, UsesWithin}
 use Rattle.uses.proofs.Noting.{noted-none}
 use borrow.Author.Needs.{needs}
-use Rattle.uses.proofs.spans.uses_of.Statement.{statement}
-use Rattle.uses.proofs.spans.uses_of.Tie as tie
+use Rattle.uses.proofs.spans.note_uses.Statement.{statement}
+use Rattle.uses.proofs.spans.note_uses.Tie as tie
 
 abbrev Inv-loop : tie.InvT-loop
 Inv-loop transitions count lows₀ lasts₀ i₀ lows lasts i = (i ≤ count) × Noted transitions i lows lasts
@@ -19,13 +19,14 @@ abbrev μ-loop : tie.MeasureT-loop
 
 loop-holds : tie.Need-loop-holds Inv-loop μ-loop
 loop-holds c =
-    (omega arith, noted-none (c .before .args .transitions .now) (length-replicate {A = ℕ} byteValues 65535))
+    let start = c .before .before .before in
+    (omega arith, noted-none (start .args .transitions .now) (length-replicate {A = ℕ} byteValues 65535))
 
 note-args-requires : tie.Need-note-args-requires Inv-loop μ-loop
 note-args-requires c κs =
-    let start = c .before .before .before .before .before in
+    let held = c .before .before .before .before .before .before .before .pre in
     let l = c .before .before .before .loop in
-    (readable (start .pre) (l .i) (c .before .before .loop-test .taken), (omega (arith, start .pre .few), l .inv .1))
+    (readable held (l .i) (c .before .before .loop-test .taken), (omega (arith, held .few), l .inv .1))
 
 add-i : tie.Need-add-i Inv-loop μ-loop
 add-i c = search needs
@@ -39,11 +40,11 @@ loop-again c = (omega arith, c .note-args .ensures)
 returns : tie.Need-returns Inv-loop μ-loop
 returns c =
     let l = c .before .loop in
-    let a = c .before .before .before .args in
+    let a = c .before .before .before .before .before .args in
     let all : l .i ≡ a .count = omega (arith, l .inv .0) in
     subst (λ (i : ℕ). UsesWithin (a .transitions .now) i (l .lows) (l .lasts)) all (l .inv .1 .within)
 
-pub uses-of-spec : {M : Type 1} → statement M
-uses-of-spec =
+pub note-uses-spec : {M : Type 1} → statement M
+note-uses-spec =
     tie.close
     (tie.spec Inv-loop μ-loop loop-holds note-args-requires add-i loop-less loop-again returns)

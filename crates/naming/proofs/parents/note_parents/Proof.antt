@@ -1,14 +1,14 @@
 use lib.ListN.{length-replicate}
 use Rattle.lists.proofs.Intervals.{getD-zeros}
--- `naming::parents::parents_of` meets its contract: the parents before index `i` are noted.
+-- `naming::parents::note_parents` meets its contract: the parents before index `i` are noted.
 use Prim.Native.Nat.{_*_, _-_, _≤_, ℕ}
 use native.Mathlib.Omega.{arith}
 use Rattle.format.specs.Format.{maxArity, maxNodes}
 use Rattle.naming.specs.Parents.{ParentsNoted}
 use Rattle.naming.proofs.Spans.{noted-spans}
 use borrow.Author.Needs.{needs}
-use Rattle.naming.proofs.parents.parents_of.Statement.{statement}
-use Rattle.naming.proofs.parents.parents_of.Tie as tie
+use Rattle.naming.proofs.parents.note_parents.Statement.{statement}
+use Rattle.naming.proofs.parents.note_parents.Tie as tie
 
 abbrev Inv-loop : tie.InvT-loop
 Inv-loop m arities children froms₀ tos₀ i₀ froms tos i =
@@ -44,9 +44,9 @@ loop-again c = search needs
 returns : tie.Need-returns Inv-loop μ-loop
 returns c =
     let now = c .before .loop in
-    noted-spans (c .before .before .pre) (now .inv .0) (omega (arith, c .loop-test .left)) (now .inv .1)
+    noted-spans (c .before .before .before .before .pre) (now .inv .0) (omega (arith, c .loop-test .left)) (now .inv .1)
 
-pub parents-of-spec : {M : Type 1} → statement M
-parents-of-spec =
+pub note-parents-spec : {M : Type 1} → statement M
+note-parents-spec =
     tie.close
     (tie.spec Inv-loop μ-loop loop-holds note-children-requires add-i loop-less loop-again returns)

@@ -1,0 +1,32 @@
+-- What the argument adds is taken away.
+use mathlib.Core.Path.{_∙_, ap}
+use Prim.Native.Nat.{_*_, _-_, _^_, ℕ}
+use native.Mathlib.Omega.{arith}
+use borrow.Author.Needs.{needs}
+use Rattle.uses.proofs.walking.args_without.Statement.{statement}
+use Rattle.uses.proofs.walking.args_without.Tie as tie
+
+args-at-requires : tie.Need-args-at-requires
+args-at-requires c κs = search needs
+
+wide-requires : tie.Need-wide-requires
+wide-requires c κs = search needs
+
+at-place-requires : tie.Need-at-place-requires
+at-place-requires c κs = search needs
+
+sub-result : tie.Need-sub-result
+sub-result c =
+    let start = c .before .before .before .before in
+    let out = c .at-place .ensures ∙ ap (λ (v : ℕ). v * 2 ^ (8 * (7 - start .args .k))) (c .before .wide .ensures) in
+    omega (arith, out, c .before .before .args-at .ensures, start .pre .1 .1)
+
+returns : tie.Need-returns
+returns c =
+    let start = c .before .before .before .before in
+    let out = c .at-place .ensures ∙ ap (λ (v : ℕ). v * 2 ^ (8 * (7 - start .args .k))) (c .before .wide .ensures) in
+    omega (arith, out, c .before .before .args-at .ensures, start .pre .1 .1)
+
+pub args-without-spec : {M : Type 1} → statement M
+args-without-spec =
+    tie.close (tie.spec args-at-requires wide-requires at-place-requires sub-result returns)
