@@ -1,9 +1,8 @@
 -- Names replaced by their numbers.
-use mathlib.Core.Bool.{Bool, _||_, false, not, true}
+use mathlib.Core.Bool.{Bool, _&&_, false, not, true}
 use mathlib.Core.List.{List, [], _++_, _∷_, map}
-use mathlib.Core.Logic.{_⊎_, inl, inr}
 use mathlib.Core.Path.{_∙_, _≡_, ap, refl, subst, sym}
-use Prim.Native.Nat.{_*_, _+_, _<_, _≤_, suc, zero, ℕ}
+use Prim.Native.Nat.{_*_, _+_, _<_, _^_, _≤_, suc, zero, ℕ}
 use native.Mathlib.Nat.{zero-add}
 use native.Mathlib.Numerals.{add-one}
 use native.Mathlib.Omega.{arith}
@@ -19,17 +18,18 @@ use Rattle.lists.specs.Closure.{elem}
 use Rattle.lists.specs.Positions.{upFrom}
 use Rattle.minimize.specs.Renaming.{nameIn, zeros}
 use Rattle.minimize.specs.Numbering.{NumbersOf}
-use Rattle.packed.specs.Packed.{digits}
+use Rattle.packed.specs.Packed.{digits, padTo}
 use Rattle.packed.specs.Heads.{HoldsPacked, Packs, Room, headArity, headLabel, headMeta, headOut}
 use Rattle.packed.specs.Heads.{nthPacked, packedTransition, placeOf}
 use Rattle.numbering.specs.Numbers.{numberAt}
 use Rattle.numbering.specs.Steps.{HasNumbers, Numbered, Renumbered}
 use Rattle.automata.proofs.Numbers.{le-number, number-length, number-pos}
-use Rattle.lists.proofs.Tests.{or-cases}
+use Rattle.lists.proofs.Tests.{and-left, and-right}
 use Rattle.minimize.proofs.Names.{zeros-at, zeros-length}
 use Rattle.minimize.proofs.Ordering.{numbers-next}
 use Rattle.numbering.proofs.Picks.{room-set}
-use Rattle.packed.proofs.Heads.{place-digits}
+use Rattle.packed.proofs.Heads.{digits-last, place-digits}
+use Rattle.packed.proofs.Zeros.{digit-below, pad-digits}
 
 -- ---- names in an order
 
@@ -119,16 +119,37 @@ pub positive : (x : ℕ) → (x ≡ 0 → ⊥) → 1 ≤ x
 positive zero h = absurd (h refl)
 positive (suc x) h = omega arith
 
--- a test of a place
-pub place-numbered : (numbers : List ℕ) (a k : ℕ) {q : ℕ} → q ≡ placeOf a k →
-    (eqb q 0 || not (eqb (getD numbers q 0) 0)) ≡ true → 1 ≤ placeOf a k → 1 ≤ numberAt numbers a k
-place-numbered numbers a k {q} e t h = go (or-cases (eqb q 0) (not (eqb (getD numbers q 0) 0)) t)
-  where
-    go : (eqb q 0 ≡ true) ⊎ (not (eqb (getD numbers q 0) 0) ≡ true) → 1 ≤ numberAt numbers a k
-    go (inl s) = absurd (omega (arith, eqb-true q 0 s))
-    go (inr s) =
-        subst (λ (x : ℕ). 1 ≤ nameIn numbers x) e
-        (positive (getD numbers q 0) (eqb-false (getD numbers q 0) 0 (not-true (eqb (getD numbers q 0) 0) s)))
+-- the first k of n arguments have their numbers as digits, and each of them has one if `whole` says so
+pub record ArgsRenamed (numbers : List ℕ) (a n : ℕ) (whole : Bool) (v k : ℕ) : Type 0 where
+  pub within : k ≤ n
+  pub packed : v ≡ digits (numberAt numbers a) 0 k 0
+  pub below : v < 2 ^ (8 * k)
+  pub has : whole ≡ true → (j : ℕ) → j < k → 1 ≤ numberAt numbers a j
+
+pub renamed-start : (numbers : List ℕ) (a n : ℕ) → ArgsRenamed numbers a n true 0 0
+renamed-start numbers a n =
+    record { within = omega arith; packed = refl; below = omega arith; has = λ e j h. absurd (omega arith) }
+
+pub renamed-next : {numbers : List ℕ} {a n : ℕ} {whole : Bool} {v k : ℕ} → ArgsRenamed numbers a n whole v k → k < n →
+    {w : ℕ} → w ≡ byteValues * v + numberAt numbers a k → w < byteValues * v + byteValues →
+    ArgsRenamed numbers a n (whole && not (eqb w (256 * v))) w (k + 1)
+renamed-next {numbers} {a} {n} {whole} {v} {k} inv l {w} e small = record {
+  within = omega arith;
+  packed =
+      let one : k + 1 ≡ suc k = omega arith in
+      e ∙ ap (λ (x : ℕ). byteValues * x + numberAt numbers a k) (inv .packed) ∙ sym (digits-last (numberAt numbers a) k)
+      ∙ ap (λ (j : ℕ). digits (numberAt numbers a) 0 j 0) (sym one);
+  below = digit-below k v w (inv .below) small;
+  has = λ both. below-more (λ j. 1 ≤ numberAt numbers a j) k (inv .has (and-left whole _ both))
+      (omega (arith, e, eqb-false w (256 * v) (not-true (eqb w (256 * v)) (and-right whole _ both))));
+}
+
+-- all of them do
+pub renamed-end : {numbers : List ℕ} {a n : ℕ} {whole : Bool} {v k : ℕ} → ArgsRenamed numbers a n whole v k → n ≤ k →
+    ArgsRenamed numbers a n whole v n
+renamed-end {numbers} {a} {n} {whole} {v} {k} inv h =
+    let e : k ≡ n = omega (arith, inv .within) in
+    subst (λ (j : ℕ). ArgsRenamed numbers a n whole v j) e inv
 
 -- ---- the transitions of two lists
 
@@ -169,11 +190,18 @@ module _ {numbers hs us ts vs : List ℕ} {n i : ℕ} (inv : RenumberedTo number
     pub packs-next : Packs (getD ts i 0) (getD vs i 0)
     packs-next = rw (inv .heads i (omega arith), inv .args i (omega arith)) (holds .each i l)
 
+    -- the numbers of the arguments are all digits, since the places beyond them are 0
+    all-digits : {b : ℕ} → b ≡ padTo (headArity (getD ts i 0)) (digits (numberAt numbers (getD vs i 0)) 0
+        (headArity (getD ts i 0)) 0) → b ≡ digits (numberAt numbers (getD vs i 0)) 0 maxArity 0
+    all-digits e =
+        e ∙ pad-digits (numberAt numbers (getD vs i 0)) (headArity (getD ts i 0)) (packs-next .narrow)
+        (λ k l m. ap (nameIn numbers) (packs-next .rest k l m) ∙ none)
+
     pub renumbered-next : {g b : ℕ} → HasNumbers numbers (getD ts i 0) (getD vs i 0) →
         g ≡ byteValues * headMeta (getD ts i 0) + nameIn numbers (headOut (getD ts i 0)) →
-        b ≡ digits (numberAt numbers (getD vs i 0)) 0 maxArity 0 →
+        b ≡ padTo (headArity (getD ts i 0)) (digits (numberAt numbers (getD vs i 0)) 0 (headArity (getD ts i 0)) 0) →
         RenumberedTo numbers hs us (set ts i g) (set vs i b) n (i + 1)
-    renumbered-next {g} {b} has head arg = record {
+    renumbered-next {g} {b} has head padded = record {
       within = omega arith;
       room = room-set (inv .room) i g b;
       size = length-set ts i g ∙ inv .size;
@@ -184,6 +212,9 @@ module _ {numbers hs us ts vs : List ℕ} {n i : ℕ} (inv : RenumberedTo number
       args = λ j m. getD-set-other vs i j b 0 (λ z. omega arith) ∙ inv .args j (omega arith);
     }
       where
+        arg : b ≡ digits (numberAt numbers (getD vs i 0)) 0 maxArity 0
+        arg = all-digits padded
+
         here : getD (set ts i g) i 0 ≡ g
         here = getD-set-same ts i g 0 (omega (arith, inv .size, holds .few))
 

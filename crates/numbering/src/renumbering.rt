@@ -5,16 +5,17 @@ ghost use Prim.Native.Nat.{_*_, _+_, _<_, _^_, _≤_, ℕ};
 ghost use lib.ListN.{getD, length};
 ghost use Rattle.format.specs.Format.{AllBytes, byteValues, maxArity, maxStates};
 ghost use Rattle.minimize.specs.Renaming.{nameIn, zeros};
-ghost use Rattle.packed.specs.Packed.{digits};
-ghost use Rattle.packed.specs.Heads.{HoldsPacked, Packs, Room, headMeta, headOut, placeOf};
+ghost use Rattle.packed.specs.Packed.{digits, padTo};
+ghost use Rattle.packed.specs.Heads.{HoldsPacked, Room, headMeta, headOut};
 ghost use Rattle.numbering.specs.Numbers.{numberAt};
-ghost use Rattle.numbering.specs.Steps.{HasNumbers, Numbered, Renumbered};
+ghost use Rattle.numbering.specs.Steps.{Numbered, Renumbered};
+use crate::reading::arity_of;
 use crate::reading::name_at;
 use crate::reading::out_of;
 use crate::reading::place_of;
 use format::BYTE_VALUES;
-use format::MAX_ARITY;
 use format::wide;
+use packed::padded;
 
 // Gives the first names of an order their numbers. Returns whether no name is 0 or there twice.
 pub fn number_names(
@@ -40,30 +41,6 @@ pub fn number_names(
         numbers[q] = k as u8;
     }
     true
-}
-
-// Whether the name at place k has a number, or is none.
-fn place_numbered(args: u64, k: usize, numbers: &[u8; BYTE_VALUES]) -> bool
-    requires { ⌜ k < maxArity ⌝ }
-    ensures { λ r. ⌜ (r ≡ true → 1 ≤ placeOf args k → 1 ≤ numberAt (now (numbers .entry)) args k) ⌝ }
-{
-    let q = place_of(args, k);
-    (q == 0) | (numbers[q] != 0)
-}
-
-// Whether all arguments have numbers. Always eight places and no early exit, so nothing is mispredicted.
-fn args_numbered(args: u64, numbers: &[u8; BYTE_VALUES]) -> bool
-    ensures { λ r. ⌜ (r ≡ true → (k : ℕ) → k < maxArity → 1 ≤ placeOf args k →
-        1 ≤ numberAt (now (numbers .entry)) args k) ⌝ }
-{
-    let mut all = true;
-    let mut k = 0;
-    while k < MAX_ARITY {
-        let numbered = place_numbered(args, k, numbers);
-        all = all & numbered;
-        k += 1;
-    }
-    all
 }
 
 // A number and, as its next digit to base 256, the number of the name at place k.
@@ -99,14 +76,40 @@ fn head_by_number(head: u64, numbers: &[u8; BYTE_VALUES]) -> u64
     256 * (head / 256) + n as u64
 }
 
-// Whether the states of a transition all have numbers.
-fn has_numbers(head: u64, args: u64, numbers: &[u8; BYTE_VALUES]) -> bool
-    ensures { λ r. ⌜ (r ≡ true → Packs head args → HasNumbers (now (numbers .entry)) head args) ⌝ }
+// Whether the output of a transition has a number.
+fn has_number(head: u64, numbers: &[u8; BYTE_VALUES]) -> bool
+    ensures { λ r. ⌜ (r ≡ true → 1 ≤ nameIn (now (numbers .entry)) (headOut head)) ⌝ }
 {
-    if numbers[out_of(head)] == 0 {
-        return false;
+    numbers[out_of(head)] != 0
+}
+
+// Arguments with the numbers of their names, and whether each name has one.
+struct Renamed {
+    whole: bool,
+    args: u64,
+}
+
+// The first arguments with their numbers. Neighbours mostly have the same number of arguments, so the end of the loop
+// is foreseen.
+fn rename_args(args: u64, arity: usize, numbers: &[u8; BYTE_VALUES]) -> Renamed
+    requires { ⌜ arity ≤ maxArity ⌝ }
+    ensures { λ r. ⌜ (r .whole ≡ true → (k : ℕ) → k < arity → 1 ≤ numberAt (now (numbers .entry)) args k) ⌝ }
+    ensures { λ r. ⌜ r .args ≡ padTo arity (digits (numberAt (now (numbers .entry)) args) 0 arity 0) ⌝ }
+{
+    let mut whole = true;
+    let mut v = 0u64;
+    let mut k = 0;
+    while k < arity {
+        let next = with_number(v, args, k, numbers);
+        whole = whole & (next != 256 * v);
+        v = next;
+        k += 1;
     }
-    args_numbered(args, numbers)
+    let renamed = padded(v, arity);
+    Renamed {
+        whole: whole,
+        args: renamed,
+    }
 }
 
 // Gives the states of the first transitions their numbers. Stops if one has none.
@@ -126,12 +129,15 @@ pub fn renumber(
     let mut i = 0;
     while i < count {
         let head = heads[i];
-        let names = args[i];
-        if !has_numbers(head, names, numbers) {
+        let renamed = rename_args(args[i], arity_of(head), numbers);
+        if !renamed.whole {
+            return false;
+        }
+        if !has_number(head, numbers) {
             return false;
         }
         heads[i] = head_by_number(head, numbers);
-        args[i] = args_by_number(names, numbers);
+        args[i] = renamed.args;
         i += 1;
     }
     true

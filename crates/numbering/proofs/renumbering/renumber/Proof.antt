@@ -23,14 +23,21 @@ mul-head c = search needs
 slice-read-head : tie.Need-slice-read-head Inv-loop μ-loop
 slice-read-head c = search needs
 
-mul-names : tie.Need-mul-names Inv-loop μ-loop
-mul-names c = search needs
+mul-rename-args : tie.Need-mul-rename-args Inv-loop μ-loop
+mul-rename-args c = search needs
 
-slice-read-names : tie.Need-slice-read-names Inv-loop μ-loop
-slice-read-names c = search needs
+slice-read-rename-args : tie.Need-slice-read-rename-args Inv-loop μ-loop
+slice-read-rename-args c = search needs
 
-has-numbers-requires : tie.Need-has-numbers-requires Inv-loop μ-loop
-has-numbers-requires c κs = search needs
+arity-of-requires : tie.Need-arity-of-requires Inv-loop μ-loop
+arity-of-requires c κs = search needs
+
+rename-args-requires : tie.Need-rename-args-requires Inv-loop μ-loop
+rename-args-requires c κs =
+    let at-loop = c .before .before .before .before in
+    let start = at-loop .before .before .before in
+    let packs = packs-next (at-loop .loop .inv) (start .pre .0) (omega arith) (start .pre .1 .1) (start .pre .1 .0) in
+    omega (arith, packs .narrow, c .arity-of .ensures)
 
 same-length : tie.Need-same-length Inv-loop μ-loop
 same-length c = search needs
@@ -39,9 +46,19 @@ same-length-2 : tie.Need-same-length-2 Inv-loop μ-loop
 same-length-2 c = search needs
 
 returns : tie.Need-returns Inv-loop μ-loop
-returns c =
-    let at-loop = c .before .before .before .before .before in
-    (at-loop .loop .inv .room, λ e. absurd (false≢true e))
+returns c = (c .before .before .before .before .before .before .before .loop .inv .room, λ e. absurd (false≢true e))
+
+has-number-requires : tie.Need-has-number-requires Inv-loop μ-loop
+has-number-requires c κs = search needs
+
+same-length-3 : tie.Need-same-length-3 Inv-loop μ-loop
+same-length-3 c = search needs
+
+same-length-4 : tie.Need-same-length-4 Inv-loop μ-loop
+same-length-4 c = search needs
+
+returns-2 : tie.Need-returns-2 Inv-loop μ-loop
+returns-2 c = (c .before .before .before .before .before .before .before .before .before .loop .inv .room, λ e. absurd (false≢true e))
 
 head-by-number-requires : tie.Need-head-by-number-requires Inv-loop μ-loop
 head-by-number-requires c κs = search needs
@@ -51,9 +68,6 @@ mul-heads c = search needs
 
 slice-write-heads : tie.Need-slice-write-heads Inv-loop μ-loop
 slice-write-heads c = search needs
-
-args-by-number-requires : tie.Need-args-by-number-requires Inv-loop μ-loop
-args-by-number-requires c κs = search needs
 
 mul-args : tie.Need-mul-args Inv-loop μ-loop
 mul-args c = search needs
@@ -69,22 +83,27 @@ loop-less c = search needs
 
 loop-again : tie.Need-loop-again Inv-loop μ-loop
 loop-again c =
-    let at-has-numbers = c .before .before .before in
-    let at-loop = at-has-numbers .before .before .before .before in
+    let at-rename = c .before .before .before .before .before in
+    let at-loop = at-rename .before .before .before .before .before in
     let start = at-loop .before .before .before in
+    let arity = at-rename .before .arity-of .ensures in
+    let renamed = at-rename .rename-args .ensures in
+    let whole = not-false _ (c .before .before .before .if1 .left) in
     renumbered-next (at-loop .loop .inv) (start .pre .0) (omega arith) (start .pre .1 .1) (start .pre .1 .0)
-    (at-has-numbers .has-numbers .ensures (not-false _ (c .before .before .if1 .left)) (packs-next
-    (at-loop .loop .inv) (start .pre .0) (omega arith) (start .pre .1 .1) (start .pre .1 .0)))
-    (c .before .head-by-number .ensures) (c .args-by-number .ensures)
+    (record {
+      args = λ k l. renamed .0 whole k (omega (arith, arity));
+      out = c .before .before .has-number .ensures (not-false _ (c .before .if2 .left));
+    })
+    (c .head-by-number .ensures) (rw arity at (renamed .1))
 
-same-length-3 : tie.Need-same-length-3 Inv-loop μ-loop
-same-length-3 c = search needs
+same-length-5 : tie.Need-same-length-5 Inv-loop μ-loop
+same-length-5 c = search needs
 
-same-length-4 : tie.Need-same-length-4 Inv-loop μ-loop
-same-length-4 c = search needs
+same-length-6 : tie.Need-same-length-6 Inv-loop μ-loop
+same-length-6 c = search needs
 
-returns-2 : tie.Need-returns-2 Inv-loop μ-loop
-returns-2 c =
+returns-3 : tie.Need-returns-3 Inv-loop μ-loop
+returns-3 c =
     let start = c .before .before .before .before in
     (c .before .loop .inv .room, λ _. renumbered-end (c .before .loop .inv) (start .pre .0) (omega arith))
 
@@ -97,21 +116,25 @@ renumber-spec =
     loop-holds
     mul-head
     slice-read-head
-    mul-names
-    slice-read-names
-    has-numbers-requires
+    mul-rename-args
+    slice-read-rename-args
+    arity-of-requires
+    rename-args-requires
     same-length
     same-length-2
     returns
+    has-number-requires
+    same-length-3
+    same-length-4
+    returns-2
     head-by-number-requires
     mul-heads
     slice-write-heads
-    args-by-number-requires
     mul-args
     slice-write-args
     add-i
     loop-less
     loop-again
-    same-length-3
-    same-length-4
-    returns-2)
+    same-length-5
+    same-length-6
+    returns-3)
