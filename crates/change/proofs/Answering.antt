@@ -24,6 +24,11 @@ use Rattle.change.proofs.Sizes.{changed-automaton}
 use Rattle.lists.proofs.Tests.{or-right}
 use Rattle.table.proofs.Bytes.{encode-count, encode-states}
 
+-- the product has no more transitions than it may have
+pub counted-few : {A : Automaton} {t : Tree} {f : Bool} {o w : List ℕ} → PairsCounted A t f o w → f ≡ true →
+    PairsCounted A t true o w
+counted-few {A} {t} {f} {o} {w} P e = subst (λ (x : Bool). PairsCounted A t x o w) e P
+
 pub change-tree : (inserting : Bool) (t : Tree) → changedTree (changeOf inserting t) ≡ t
 change-tree true t = refl
 change-tree false t = refl
@@ -44,13 +49,13 @@ module _ (inserting : Bool) (t : Tree) (b : List ℕ) where
 
   -- ---- 17 and done
 
-  module _ {f : Bool} {o w : List ℕ} (P : PairsCounted (decode b) t f o w) (few : f ≡ true) where
+  module _ {o w : List ℕ} (P : PairsCounted (decode b) t true o w) where
     size-made : {g : Bool} → g ≡ fitsTable (changedAutomaton inserting t (decode b)) →
         sizeRefusal (changeOf inserting t) (decode b) ≡ cond g 0 17
     unfolding sizeRefusal
     size-made e =
         let d : leb (productTransitions (decode b) (changedTree c)) maxProduct ≡ true =
-        rw (change-tree inserting t) (sym (P .fits) ∙ few) in
+        rw (change-tree inserting t) (sym (P .fits)) in
         rw (d, sym (e ∙ ap fitsTable (changed-automaton inserting t (decode b))))
 
     pub worked-17 : {g : Bool} → g ≡ fitsTable (changedAutomaton inserting t (decode b)) → g ≡ false →

@@ -1,4 +1,5 @@
 -- A table that passed is 0 after its transitions.
+use Rattle.subtrees.specs.Store.{Subtrees}
 use mathlib.Core.Bool.{Bool, false, true}
 use mathlib.Core.List.{List}
 use mathlib.Core.Path.{_∙_, _≡_, ap, refl, sym}
@@ -11,7 +12,6 @@ use borrow.Author.Tests.{ltb-false, ltb-true}
 use Rattle.change.specs.Given.{Given}
 use Rattle.format.specs.Format.{headBytes, maxTransitions, tableBytes, transitionBytes}
 use Rattle.numbering.specs.Tables.{BlankAfter}
-use Rattle.subtrees.specs.declared.Subtrees.{Subtrees}
 use Rattle.table.specs.Layout.{body, transitionCount}
 use Rattle.trees.specs.Tree.{Tree}
 use Rattle.change.proofs.Inputs.{given-layout, given-size}

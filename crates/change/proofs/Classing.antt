@@ -6,7 +6,7 @@ use mathlib.Core.Path.{_∙_, _≡_}
 use Prim.Native.Nat.{_+_, _-_, _<_, _≤_, ℕ}
 use native.Mathlib.Omega.{arith}
 use lib.Dec.{eqb}
-use lib.ListN.{getD, length, length-replicate, length-set, replicate, set}
+use lib.ListN.{getD, length, length-set, set}
 use borrow.Author.Tests.{eq-eqb, le-leb, lt-leb, ne-eqb}
 use Rattle.change.specs.Classes.{Classed, classOfName}
 use Rattle.quotient.specs.Kept.{stateOf}
@@ -45,9 +45,8 @@ pub record ClassedBelow (f : ℕ → Bool) (cl : List ℕ) (p : ℕ) : Type 0 wh
   pub class : (i : ℕ) → 1 ≤ i → i < p → classAt cl i ≡ f i
 
 module _ {f : ℕ → Bool} where
-  pub classed-start : ClassedBelow f (replicate byteValues 0) 1
-  classed-start =
-      record { size = length-replicate {A = ℕ} byteValues 0; class = λ i h l. absurd (omega arith) }
+  pub classed-start : {cl : List ℕ} → length cl ≡ byteValues → ClassedBelow f cl 1
+  classed-start size = record { size = size; class = λ i h l. absurd (omega arith) }
 
   pub classed-next : {cl : List ℕ} {p : ℕ} → ClassedBelow f cl p → p < byteValues → (x : ℕ) → eqb x 1 ≡ f p →
       ClassedBelow f (set cl p x) (p + 1)

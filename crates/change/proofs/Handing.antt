@@ -18,8 +18,7 @@ use Rattle.naming.specs.Choice.{nameIn}
 use Rattle.quotient.specs.Kept.{KeptAbove}
 use Rattle.quotient.specs.Nodes.{Nodes}
 use Rattle.quotient.specs.Setting.{Changed, Chosen}
-use Rattle.subtrees.specs.Store.{bottomUp, childAt}
-use Rattle.subtrees.specs.declared.Subtrees.{Subtrees}
+use Rattle.subtrees.specs.Store.{Subtrees, bottomUp, childAt}
 use Rattle.table.specs.Intake.{fitsTable}
 use Rattle.table.specs.Layout.{decode, encode}
 use Rattle.trees.specs.Tree.{Tree, eqTree, noTree}

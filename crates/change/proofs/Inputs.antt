@@ -14,8 +14,7 @@ use Rattle.fields.specs.Fields.{InTable, HoldsTransitionsOver}
 use Rattle.format.specs.Format.{AllBytes, headBytes, maxStates, tableBytes}
 use Rattle.lists.specs.Tests.{Exactly, _∈_}
 use Rattle.pairs.specs.Counts.{Setting}
-use Rattle.subtrees.specs.Store.{Lists, bottomUp}
-use Rattle.subtrees.specs.declared.Subtrees.{Subtrees}
+use Rattle.subtrees.specs.Store.{Lists, Subtrees, bottomUp}
 use Rattle.table.specs.Intake.{tableRefusal}
 use Rattle.table.specs.Layout.{body, decode, layoutFits, stateCount, transitionCount, transitionsIn}
 use Rattle.trees.specs.Listing.{listingConditions, listingRefusal, readTree}

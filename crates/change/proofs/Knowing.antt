@@ -15,8 +15,7 @@ use Rattle.naming.specs.Classes.{Changed, Classed, ClassesIn, Rooted}
 use Rattle.naming.specs.Known.{Known, Sized}
 use Rattle.packed.specs.Packed.{HoldsPadded, Padded, Searchable}
 use Rattle.pairs.specs.Counts.{PairsCounted}
-use Rattle.subtrees.specs.Store.{bottomUp}
-use Rattle.subtrees.specs.declared.Subtrees.{Subtrees}
+use Rattle.subtrees.specs.Store.{Subtrees, bottomUp}
 use Rattle.table.specs.Layout.{body, decode, transitionCount, transitionsIn}
 use Rattle.trees.specs.Tree.{Tree}
 use Rattle.change.proofs.Inputs.{given-few, given-fits, given-layout, given-over, given-setting, given-size}

@@ -12,8 +12,7 @@ use Rattle.automata.specs.NamedChange.{changedSet, nameClass}
 use Rattle.change.specs.Classes.{classOfName}
 use Rattle.change.specs.Given.{Given}
 use Rattle.naming.specs.Classes.{classIn}
-use Rattle.subtrees.specs.Store.{bottomUp, treeNumbered}
-use Rattle.subtrees.specs.declared.Subtrees.{Subtrees}
+use Rattle.subtrees.specs.Store.{Subtrees, bottomUp, treeNumbered}
 use Rattle.table.specs.Layout.{decode, stateCount}
 use Rattle.trees.specs.Tree.{Tree, eqTree}
 use Rattle.automata.proofs.Distinguishable.{run-fits}

@@ -1,4 +1,5 @@
 -- The new table, written at once or through the scratch.
+use Rattle.subtrees.specs.Store.{Subtrees}
 use mathlib.Core.Bool.{Bool, cond, false}
 use mathlib.Core.List.{List}
 use mathlib.Core.Path.{_∙_, _≡_, ap, refl, subst, sym}
@@ -11,7 +12,6 @@ use Rattle.change.specs.Given.{Fitting, SomeFitting}
 use Rattle.fields.specs.View.{viewed}
 use Rattle.minimize.specs.Made.{renumberedIn, writtenTo}
 use Rattle.packed.specs.Heads.{packedIn}
-use Rattle.subtrees.specs.declared.Subtrees.{Subtrees}
 use Rattle.table.specs.Layout.{classAt, decode, encode}
 use Rattle.trees.specs.Tree.{Tree}
 use Rattle.change.proofs.Results.{fitting-changed}

@@ -15,8 +15,7 @@ use Rattle.change.specs.Given.{Fitting, Given, Named}
 use Rattle.lists.specs.Positions.{upFrom}
 use Rattle.lists.specs.Tests.{_∈_, filter}
 use Rattle.naming.specs.Choice.{nameIn}
-use Rattle.subtrees.specs.Store.{bottomUp}
-use Rattle.subtrees.specs.declared.Subtrees.{Subtrees}
+use Rattle.subtrees.specs.Store.{Subtrees, bottomUp}
 use Rattle.table.specs.Layout.{classAt, decode}
 use Rattle.trees.specs.Legal.{LegalNode}
 use Rattle.trees.specs.Tree.{Tree, eqTree}

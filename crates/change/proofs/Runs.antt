@@ -20,8 +20,7 @@ use Rattle.packed.specs.Heads.{HoldsPacked, Packs, headArity, headOut, nthPacke
 use Rattle.packed.specs.Heads.{placeOf}
 use Rattle.naming.specs.Choice.{nameIn}
 use Rattle.numbering.specs.Tables.{EntryAt, RunPut}
-use Rattle.subtrees.specs.Store.{bottomUp}
-use Rattle.subtrees.specs.declared.Subtrees.{Subtrees}
+use Rattle.subtrees.specs.Store.{Subtrees, bottomUp}
 use Rattle.table.specs.Layout.{argOf, arityOf, decode, nthTransition, outOf, transitionAt, transitionsIn}
 use Rattle.trees.specs.Tree.{Tree}
 use Rattle.change.proofs.Inputs.{given-few}

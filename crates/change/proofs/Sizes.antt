@@ -19,8 +19,7 @@ use Rattle.lists.specs.Positions.{upFrom}
 use Rattle.lists.specs.Tests.{filter}
 use Rattle.naming.specs.Choice.{nameIn}
 use Rattle.quotient.specs.Setting.{keptCount, keptLengths}
-use Rattle.subtrees.specs.Store.{bottomUp}
-use Rattle.subtrees.specs.declared.Subtrees.{Subtrees}
+use Rattle.subtrees.specs.Store.{Subtrees, bottomUp}
 use Rattle.table.specs.Layout.{decode}
 use Rattle.trees.specs.Tree.{Tree}
 use Rattle.automata.proofs.NamedChange.{searched-states, searched-transitions}

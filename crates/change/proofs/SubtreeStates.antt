@@ -13,8 +13,7 @@ use Rattle.automata.specs.OpenStates.{atState, subtreesAt}
 use Rattle.lists.specs.Positions.{upFrom}
 use Rattle.lists.specs.Tests.{_∈_, bit, filter}
 use Rattle.pairs.specs.Counts.{entriesWith, entry}
-use Rattle.subtrees.specs.Store.{Lists, bottomUp}
-use Rattle.subtrees.specs.declared.Subtrees.{Subtrees}
+use Rattle.subtrees.specs.Store.{Lists, Subtrees, bottomUp}
 use Rattle.trees.specs.Tree.{Tree, noTree}
 use Rattle.automata.proofs.SubtreeNodes.{at-distinct, at-in, in-at}
 use borrow.Author.Tests.{eq-eqb, eqb-true}

@@ -14,8 +14,7 @@ use Rattle.format.specs.Format.{AllBytes, maxStates}
 use Rattle.naming.specs.Choice.{nameIn}
 use Rattle.pairs.specs.Counts.{Open}
 use Rattle.quotient.specs.Kept.{Chained}
-use Rattle.subtrees.specs.Store.{Lists, bottomUp}
-use Rattle.subtrees.specs.declared.Subtrees.{Subtrees}
+use Rattle.subtrees.specs.Store.{Lists, Subtrees, bottomUp}
 use Rattle.table.specs.Intake.{fitsTable, tableRefusal}
 use Rattle.table.specs.Layout.{decode, stateCount, transitionCount}
 use Rattle.trees.specs.Legal.{Legal}

@@ -3,7 +3,7 @@ ghost use mathlib.Core.Path.{_≡_};
 ghost use Prim.Native.Nat.{_+_, _≤_};
 ghost use lib.Dec.{eqb};
 ghost use lib.ListN.{length};
-ghost use Rattle.format.specs.Format.{maxNodes, maxStates, tableBytes};
+ghost use Rattle.format.specs.Format.{byteValues, maxNodes, maxStates, tableBytes};
 ghost use Rattle.quotient.specs.Kept.{stateOf};
 ghost use Rattle.change.specs.Classes.{Classed, classOfName};
 use format::BYTE_VALUES;
@@ -56,25 +56,26 @@ fn own_class(accepting: bool) -> u8
     0
 }
 
-// The classes of the names 1 to n + m, each at the byte of its number.
-pub fn name_classes(
+// Fills in the classes of the names 1 to n + m, each at the byte of its number.
+pub fn classify_names(
     table: &[u8],
     n: usize,
     m: usize,
     states: &[u8; MAX_NODES],
     own: usize,
     inserting: bool,
-) -> [u8; BYTE_VALUES]
+    classes: &mut [u8; BYTE_VALUES],
+)
     requires { ⌜ length (now table) ≡ tableBytes ⌝ }
     requires { ⌜ n ≤ maxStates ⌝ }
     requires { ⌜ m ≤ maxNodes ⌝ }
-    ensures { λ r. ⌜ Classed (classOfName (now (table .entry)) n (now (states .entry)) own inserting) (n + m) r ⌝ }
+    requires { ⌜ length (now classes) ≡ byteValues ⌝ }
+    ensures { λ _. ⌜ Classed (classOfName (now (table .entry)) n (now (states .entry)) own inserting) (n + m) (now
+        (classes .exit)) ⌝ }
 {
-    let mut classes = [0u8; BYTE_VALUES];
     let mut p = 1;
     while p <= n + m {
         classes[p] = class_of(table, n, states, own, inserting, p);
         p += 1;
     }
-    classes
 }

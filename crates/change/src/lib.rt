@@ -2,44 +2,40 @@
 // between names. Refusals 16 and 17 are found by counting, before anything is written.
 mod arrays; // the arrays that a change works in
 mod classes; // a class for each name
+mod fallback; // the new table by a plain search, as a last resort
+mod fitting; // whether a table has room
 mod rebuilding; // the new table
 
-ghost use mathlib.Core.Bool.{Bool, true};
-ghost use mathlib.Core.List.{List};
+ghost use mathlib.Core.Bool.{true};
 ghost use mathlib.Core.Path.{_≡_};
-ghost use Prim.Native.Nat.{_≤_, ℕ};
 ghost use lib.ListN.{length, replicate};
-ghost use Rattle.automata.specs.NamedChange.{changedAutomaton};
 ghost use Rattle.calls.specs.declared.Answer.the-variants.{Done};
-ghost use Rattle.format.specs.Format.{maxNodes, maxTransitions, scratchBytes, tableBytes};
+ghost use Rattle.format.specs.Format.{scratchBytes, tableBytes};
 ghost use Rattle.pairs.specs.Counts.{PairsCounted};
-ghost use Rattle.quotient.specs.Kept.{KeptAbove};
 ghost use Rattle.running.specs.Running.{HoldsStates};
+ghost use Rattle.subtrees.specs.Store.{arrays};
 ghost use Rattle.table.specs.Intake.{tableRefusal};
 ghost use Rattle.table.specs.Layout.{decode, stateCount, transitionCount};
 ghost use Rattle.trees.specs.Listing.{listingRefusal, readTree};
 ghost use Rattle.trees.specs.Tree.{Tree};
 ghost use Rattle.change.specs.Changing.{Worked, changeOf, changedOutcome, resultOf};
-ghost use Rattle.change.specs.Given.{Fits, Given, Named, SomeGiven, fitsWithin, smallTransitions};
-use arrays::SMALL;
+ghost use Rattle.change.specs.Given.{Given, Named, SomeGiven};
 use calls::Answer;
-use classes::name_classes;
+use classes::classify_names;
 use fields::transition_count;
+use fitting::fit_of;
 use format::BYTE_VALUES;
 use format::HEAD_BYTES;
 use format::MAX_NODES;
-use format::MAX_TRANSITIONS;
 use format::wide;
-use naming::classes_of;
+use naming::classify;
 use naming::name_all;
-use pairs::Pairs;
 use pairs::count_pairs;
 use quotient::keep;
-use quotient::table_fits;
 use rebuilding::replace;
-use subtrees::Subtrees;
+use subtrees::CHILD_NUMBERS;
 use subtrees::collect;
-use uses::uses_of;
+use uses::note_uses;
 
 // Zeroes every byte.
 fn clear(scratch: &mut [u8])
@@ -52,147 +48,52 @@ fn clear(scratch: &mut [u8])
     }
 }
 
-// The names of the subtrees after the change.
+// Fills in the names of the subtrees after the change.
 fn name(
     table: &[u8],
     count: usize,
     n: usize,
-    s: Subtrees,
-    p: Pairs,
+    m: usize,
+    root: u8,
+    labels: &[u16; MAX_NODES],
+    arities: &[u8; MAX_NODES],
+    children: &[u8; CHILD_NUMBERS],
+    states: &[u8; MAX_NODES],
+    opens: &[u8; BYTE_VALUES],
+    weights: &[u8; BYTE_VALUES],
     inserting: bool,
-) -> [u8; MAX_NODES]
-    requires { ⌜ SomeGiven (now table) count n s ⌝ }
-    ensures { λ r. ⌜ ((t : Tree) → Given t (now (table .entry)) count n s →
-        PairsCounted (decode (now (table .entry))) t (p .fits) (p .opens) (p .weights) →
-        Named inserting t (now (table .entry)) count n s (p .opens) r) ⌝ }
+    names: &mut [u8; MAX_NODES],
+)
+    requires { ⌜ SomeGiven (now table) count n (arrays m root (now labels) (now arities) (now children) (now states))
+        ⌝ }
+    ensures { λ _. ⌜ ((t : Tree) → Given t (now (table .entry)) count n (arrays m root (now (labels .entry))
+        (now (arities .entry)) (now (children .entry)) (now (states .entry))) →
+        PairsCounted (decode (now (table .entry))) t true (now (opens .entry)) (now (weights .entry)) →
+        Named inserting t (now (table .entry)) count n (arrays m root (now (labels .entry)) (now (arities .entry))
+        (now (children .entry)) (now (states .entry))) (now (opens .entry)) (now (names .exit))) ⌝ }
 {
-    let m = s.count;
-    let labels = s.labels;
-    let arities = s.arities;
-    let children = s.children;
-    let states = s.states;
-    let opens = p.opens;
-    let weights = p.weights;
-    let classes = classes_of(table, m, &states, wide(s.root), inserting);
-    let spans = uses_of(&table[HEAD_BYTES..], count);
-    let lows = spans.lows;
-    let lasts = spans.lasts;
+    let mut classes = [0u8; MAX_NODES];
+    classify(table, m, states, wide(root), inserting, &mut classes);
+    let mut lows = [0u16; BYTE_VALUES];
+    let mut lasts = [0u16; BYTE_VALUES];
+    note_uses(&table[HEAD_BYTES..], count, &mut lows, &mut lasts);
     name_all(
         table,
         &table[HEAD_BYTES..],
         count,
         n,
         m,
-        &labels,
-        &arities,
-        &children,
-        &states,
-        &weights,
+        labels,
+        arities,
+        children,
+        states,
+        weights,
         &classes,
         &lows,
         &lasts,
-        &opens,
-    )
-}
-
-// Whether the changed automaton has no more states than a table and no more transitions than the limit. `sizes` has the
-// number of kept names of each state.
-fn fits(
-    table: &[u8],
-    count: usize,
-    n: usize,
-    s: Subtrees,
-    names: &[u8; MAX_NODES],
-    opens: &[u8; BYTE_VALUES],
-    sizes: &[u8; BYTE_VALUES],
-    limit: usize,
-) -> bool
-    requires { ⌜ SomeGiven (now table) count n s ⌝ }
-    requires { ⌜ maxNodes ≤ limit ⌝ }
-    requires { ⌜ limit ≤ maxTransitions ⌝ }
-    ensures { λ r. ⌜ ((inserting : Bool) (t : Tree) (firsts nexts : List ℕ) →
-        Named inserting t (now (table .entry)) count n s (now (opens .entry)) (now (names .entry)) →
-        KeptAbove n (s .count) (now (opens .entry)) (s .states) (now (names .entry)) 0 firsts nexts (now
-        (sizes .entry)) →
-        r ≡ fitsWithin limit (changedAutomaton inserting t (decode (now (table .entry))))) ⌝ }
-{
-    let m = s.count;
-    let labels = s.labels;
-    let arities = s.arities;
-    let children = s.children;
-    let states = s.states;
-    table_fits(
-        &table[HEAD_BYTES..],
-        count,
-        n,
-        m,
-        &labels,
-        &arities,
-        &children,
-        &states,
-        names,
         opens,
-        sizes,
-        limit,
-    )
-}
-
-// The same for small arrays, which are not asked if the table has more transitions.
-fn fits_small(
-    table: &[u8],
-    count: usize,
-    n: usize,
-    s: Subtrees,
-    names: &[u8; MAX_NODES],
-    opens: &[u8; BYTE_VALUES],
-    sizes: &[u8; BYTE_VALUES],
-) -> bool
-    requires { ⌜ SomeGiven (now table) count n s ⌝ }
-    ensures { λ r. ⌜ (r ≡ true → (inserting : Bool) (t : Tree) (firsts nexts : List ℕ) →
-        Named inserting t (now (table .entry)) count n s (now (opens .entry)) (now (names .entry)) →
-        KeptAbove n (s .count) (now (opens .entry)) (s .states) (now (names .entry)) 0 firsts nexts (now
-        (sizes .entry)) →
-        fitsWithin smallTransitions (changedAutomaton inserting t (decode (now (table .entry)))) ≡ true) ⌝ }
-{
-    if count > SMALL {
-        return false;
-    }
-    fits(table, count, n, s, names, opens, sizes, SMALL)
-}
-
-// Whether a table has room for the changed automaton, and whether small arrays have.
-struct Fit {
-    fits: bool,
-    small: bool,
-}
-
-fn fit_of(
-    table: &[u8],
-    count: usize,
-    n: usize,
-    s: Subtrees,
-    names: &[u8; MAX_NODES],
-    opens: &[u8; BYTE_VALUES],
-    sizes: &[u8; BYTE_VALUES],
-) -> Fit
-    requires { ⌜ SomeGiven (now table) count n s ⌝ }
-    ensures { λ r. ⌜ ((inserting : Bool) (t : Tree) (firsts nexts : List ℕ) →
-        Named inserting t (now (table .entry)) count n s (now (opens .entry)) (now (names .entry)) →
-        KeptAbove n (s .count) (now (opens .entry)) (s .states) (now (names .entry)) 0 firsts nexts (now
-        (sizes .entry)) →
-        Fits (r .fits) (r .small) (changedAutomaton inserting t (decode (now (table .entry))))) ⌝ }
-{
-    if fits_small(table, count, n, s, names, opens, sizes) {
-        return Fit {
-            fits: true,
-            small: true,
-        };
-    }
-    let large = fits(table, count, n, s, names, opens, sizes, MAX_TRANSITIONS);
-    Fit {
-        fits: large,
-        small: false,
-    }
+        names,
+    );
 }
 
 // The answer of a change that was done, from the new table.
@@ -214,38 +115,86 @@ fn apply(
     scratch: &mut [u8],
     count: usize,
     n: usize,
-    s: Subtrees,
-    p: Pairs,
+    m: usize,
+    root: u8,
+    labels: &[u16; MAX_NODES],
+    arities: &[u8; MAX_NODES],
+    children: &[u8; CHILD_NUMBERS],
+    states: &[u8; MAX_NODES],
+    opens: &[u8; BYTE_VALUES],
+    weights: &[u8; BYTE_VALUES],
     inserting: bool,
 ) -> Answer
-    requires { ⌜ SomeGiven (now table) count n s ⌝ }
+    requires { ⌜ SomeGiven (now table) count n (arrays m root (now labels) (now arities) (now children) (now states))
+        ⌝ }
     requires { ⌜ length (now scratch) ≡ scratchBytes ⌝ }
-    requires { ⌜ p .fits ≡ true ⌝ }
-    requires { ⌜ ((t : Tree) → Given t (now table) count n s →
-        PairsCounted (decode (now table)) t (p .fits) (p .opens) (p .weights)) ⌝ }
-    ensures { λ r. ⌜ ((t : Tree) → Given t (now (table .entry)) count n s →
+    requires { ⌜ ((t : Tree) → Given t (now table) count n (arrays m root (now labels) (now arities) (now children)
+        (now states)) →
+        PairsCounted (decode (now table)) t true (now opens) (now weights)) ⌝ }
+    ensures { λ r. ⌜ ((t : Tree) → Given t (now (table .entry)) count n (arrays m root (now (labels .entry))
+        (now (arities .entry)) (now (children .entry)) (now (states .entry))) →
         Worked (changeOf inserting t) (now (table .entry)) (now (table .exit)) r) ⌝ }
 {
-    let m = s.count;
-    let states = s.states;
-    let opens = p.opens;
-    let names = name(table, count, n, s, p, inserting);
-    let kept = keep(n, m, &opens, &states, &names);
-    let firsts = kept.firsts;
-    let nexts = kept.nexts;
-    let sizes = kept.sizes;
-    let fit = fit_of(table, count, n, s, &names, &opens, &sizes);
+    let mut names = [0u8; MAX_NODES];
+    name(
+        table,
+        count,
+        n,
+        m,
+        root,
+        labels,
+        arities,
+        children,
+        states,
+        opens,
+        weights,
+        inserting,
+        &mut names,
+    );
+    let mut firsts = [0u8; BYTE_VALUES];
+    let mut nexts = [0u8; BYTE_VALUES];
+    let mut sizes = [0u8; BYTE_VALUES];
+    keep(
+        n,
+        m,
+        opens,
+        states,
+        &names,
+        &mut firsts,
+        &mut nexts,
+        &mut sizes,
+    );
+    let fit = fit_of(
+        table,
+        count,
+        n,
+        m,
+        root,
+        labels,
+        arities,
+        children,
+        states,
+        &names,
+        opens,
+        &sizes,
+    );
     if !fit.fits {
         return Answer::Refused { number: 17 };
     }
-    let own = n + wide(s.root);
-    let classes = name_classes(table, n, m, &states, own, inserting);
+    let own = n + wide(root);
+    let mut classes = [0u8; BYTE_VALUES];
+    classify_names(table, n, m, states, own, inserting, &mut classes);
     replace(
         table,
         scratch,
         count,
         n,
-        s,
+        m,
+        root,
+        labels,
+        arities,
+        children,
+        states,
         &names,
         &firsts,
         &nexts,
@@ -272,13 +221,47 @@ fn work(
 {
     let n = wide(table[0]);
     let count = transition_count(table);
-    let s = collect(tree, reached);
-    let states = s.states;
-    let p = count_pairs(&table[HEAD_BYTES..], count, s.count, &states);
-    if !p.fits {
+    let mut labels = [0u16; MAX_NODES];
+    let mut arities = [0u8; MAX_NODES];
+    let mut children = [0u8; CHILD_NUMBERS];
+    let mut states = [0u8; MAX_NODES];
+    let found = collect(
+        tree,
+        reached,
+        &mut labels,
+        &mut arities,
+        &mut children,
+        &mut states,
+    );
+    let m = found.count;
+    let root = found.root;
+    let mut opens = [0u8; BYTE_VALUES];
+    let mut weights = [0u8; BYTE_VALUES];
+    if !count_pairs(
+        &table[HEAD_BYTES..],
+        count,
+        m,
+        &states,
+        &mut opens,
+        &mut weights,
+    ) {
         return Answer::Refused { number: 16 };
     }
-    apply(table, scratch, count, n, s, p, inserting)
+    apply(
+        table,
+        scratch,
+        count,
+        n,
+        m,
+        root,
+        &labels,
+        &arities,
+        &children,
+        &states,
+        &opens,
+        &weights,
+        inserting,
+    )
 }
 
 // Puts the tree in or takes it out. `reached` has the states of the tree's nodes. The scratch is all zeros after that.

@@ -3,36 +3,41 @@
 ghost use mathlib.Core.Bool.{Bool, cond, false, true};
 ghost use mathlib.Core.List.{List};
 ghost use mathlib.Core.Path.{_≡_};
-ghost use Prim.Native.Nat.{_+_, _≤_, ℕ};
+ghost use Prim.Native.Nat.{ℕ};
 ghost use lib.ListN.{length};
 ghost use Rattle.automata.specs.NamedChange.{changedAutomaton};
 ghost use Rattle.format.specs.Format.{byteValues, maxTransitions, scratchBytes};
 ghost use Rattle.packed.specs.Heads.{Room};
+ghost use Rattle.subtrees.specs.Store.{arrays};
 ghost use Rattle.table.specs.Layout.{decode, encode};
 ghost use Rattle.trees.specs.Tree.{Tree};
-ghost use Rattle.change.specs.Between.{Packed, Run};
+ghost use Rattle.change.specs.Between.{Packed};
 ghost use Rattle.change.specs.Given.{Fitting, SomeFitting, smallTransitions};
 use crate::arrays::few_entries;
 use crate::arrays::few_links;
 use crate::arrays::no_entries;
 use crate::arrays::no_links;
+use crate::fallback::renumber_table;
 use format::BYTE_VALUES;
 use format::HEAD_BYTES;
 use format::MAX_NODES;
-use minimize::write::write;
 use numbering::givers_of;
 use numbering::rebuild;
-use numbering::write_run;
 use quotient::make;
-use subtrees::Subtrees;
+use subtrees::CHILD_NUMBERS;
 
 // The transitions between names, as two numbers each, and how many they are. `ends` gets their number after each
 // transition of the table.
-fn make_all(
+pub fn make_all(
     table: &[u8],
     count: usize,
     n: usize,
-    s: Subtrees,
+    m: usize,
+    root: u8,
+    labels: &[u16; MAX_NODES],
+    arities: &[u8; MAX_NODES],
+    children: &[u8; CHILD_NUMBERS],
+    states: &[u8; MAX_NODES],
     names: &[u8; MAX_NODES],
     firsts: &[u8; BYTE_VALUES],
     nexts: &[u8; BYTE_VALUES],
@@ -40,26 +45,23 @@ fn make_all(
     args: &mut [u64],
     ends: &mut [u16],
 ) -> usize
-    requires { ⌜ SomeFitting (now table) count n s (now names) (now firsts) (now nexts) (length (now heads)) ⌝ }
+    requires { ⌜ SomeFitting (now table) count n (arrays m root (now labels) (now arities) (now children) (now
+        states)) (now names) (now firsts) (now nexts) (length (now heads)) ⌝ }
     requires { ⌜ Room (now heads) (now args) ⌝ }
-    ensures { λ r. ⌜ ((inserting : Bool) (t : Tree) (o cl : List ℕ) → Fitting inserting t (now (table .entry)) count n s o
+    ensures { λ r. ⌜ ((inserting : Bool) (t : Tree) (o cl : List ℕ) → Fitting inserting t (now (table .entry)) count
+        n (arrays m root (now (labels .entry)) (now (arities .entry)) (now (children .entry)) (now (states .entry))) o
         (now (names .entry)) (now (firsts .entry)) (now (nexts .entry)) cl →
         Packed t (now (table .entry)) (now (names .entry)) (now (heads .exit)) (now (args .exit)) r) ⌝ }
 {
-    let m = s.count;
-    let labels = s.labels;
-    let arities = s.arities;
-    let children = s.children;
-    let states = s.states;
     make(
         &table[HEAD_BYTES..],
         count,
         n,
         m,
-        &labels,
-        &arities,
-        &children,
-        &states,
+        labels,
+        arities,
+        children,
+        states,
         names,
         firsts,
         nexts,
@@ -75,7 +77,12 @@ fn rebuild_in(
     table: &mut [u8],
     count: usize,
     n: usize,
-    s: Subtrees,
+    m: usize,
+    root: u8,
+    labels: &[u16; MAX_NODES],
+    arities: &[u8; MAX_NODES],
+    children: &[u8; CHILD_NUMBERS],
+    states: &[u8; MAX_NODES],
     names: &[u8; MAX_NODES],
     firsts: &[u8; BYTE_VALUES],
     nexts: &[u8; BYTE_VALUES],
@@ -88,19 +95,37 @@ fn rebuild_in(
     ends: &mut [u16],
     few: bool,
 ) -> bool
-    requires { ⌜ SomeFitting (now table) count n s (now names) (now firsts) (now nexts) (length (now heads)) ⌝ }
+    requires { ⌜ SomeFitting (now table) count n (arrays m root (now labels) (now arities) (now children) (now
+        states)) (now names) (now firsts) (now nexts) (length (now heads)) ⌝ }
     requires { ⌜ Room (now heads) (now args) ⌝ }
     requires { ⌜ Room (now room) (now spare) ⌝ }
     requires { ⌜ length (now room) ≡ length (now heads) ⌝ }
     requires { ⌜ length (now next) ≡ length (now heads) ⌝ }
     requires { ⌜ length (now classes) ≡ byteValues ⌝ }
-    ensures { λ r. ⌜ ((inserting : Bool) (t : Tree) (o : List ℕ) → Fitting inserting t (now (table .entry)) count n s o
+    ensures { λ r. ⌜ ((inserting : Bool) (t : Tree) (o : List ℕ) → Fitting inserting t (now (table .entry)) count n
+        (arrays m root (now (labels .entry)) (now (arities .entry)) (now (children .entry)) (now (states .entry))) o
         (now (names .entry)) (now (firsts .entry)) (now (nexts .entry)) (now (classes .entry)) →
         now (table .exit) ≡ cond r (encode (changedAutomaton inserting t (decode (now (table .entry)))))
         (now (table .entry))) ⌝ }
     ensures { λ r. ⌜ (r ≡ false → now (table .exit) ≡ now (table .entry)) ⌝ }
 {
-    let made = make_all(table, count, n, s, names, firsts, nexts, heads, args, ends);
+    let made = make_all(
+        table,
+        count,
+        n,
+        m,
+        root,
+        labels,
+        arities,
+        children,
+        states,
+        names,
+        firsts,
+        nexts,
+        heads,
+        args,
+        ends,
+    );
     let givers = givers_of(&table[HEAD_BYTES..], count);
     rebuild(
         heads,
@@ -124,16 +149,23 @@ fn rebuild_small(
     table: &mut [u8],
     count: usize,
     n: usize,
-    s: Subtrees,
+    m: usize,
+    root: u8,
+    labels: &[u16; MAX_NODES],
+    arities: &[u8; MAX_NODES],
+    children: &[u8; CHILD_NUMBERS],
+    states: &[u8; MAX_NODES],
     names: &[u8; MAX_NODES],
     firsts: &[u8; BYTE_VALUES],
     nexts: &[u8; BYTE_VALUES],
     classes: &[u8; BYTE_VALUES],
     few: bool,
 ) -> bool
-    requires { ⌜ SomeFitting (now table) count n s (now names) (now firsts) (now nexts) smallTransitions ⌝ }
+    requires { ⌜ SomeFitting (now table) count n (arrays m root (now labels) (now arities) (now children) (now
+        states)) (now names) (now firsts) (now nexts) smallTransitions ⌝ }
     requires { ⌜ length (now classes) ≡ byteValues ⌝ }
-    ensures { λ r. ⌜ ((inserting : Bool) (t : Tree) (o : List ℕ) → Fitting inserting t (now (table .entry)) count n s o
+    ensures { λ r. ⌜ ((inserting : Bool) (t : Tree) (o : List ℕ) → Fitting inserting t (now (table .entry)) count n
+        (arrays m root (now (labels .entry)) (now (arities .entry)) (now (children .entry)) (now (states .entry))) o
         (now (names .entry)) (now (firsts .entry)) (now (nexts .entry)) (now (classes .entry)) →
         now (table .exit) ≡ cond r (encode (changedAutomaton inserting t (decode (now (table .entry)))))
         (now (table .entry))) ⌝ }
@@ -149,7 +181,12 @@ fn rebuild_small(
         table,
         count,
         n,
-        s,
+        m,
+        root,
+        labels,
+        arities,
+        children,
+        states,
         names,
         firsts,
         nexts,
@@ -169,16 +206,23 @@ fn rebuild_large(
     table: &mut [u8],
     count: usize,
     n: usize,
-    s: Subtrees,
+    m: usize,
+    root: u8,
+    labels: &[u16; MAX_NODES],
+    arities: &[u8; MAX_NODES],
+    children: &[u8; CHILD_NUMBERS],
+    states: &[u8; MAX_NODES],
     names: &[u8; MAX_NODES],
     firsts: &[u8; BYTE_VALUES],
     nexts: &[u8; BYTE_VALUES],
     classes: &[u8; BYTE_VALUES],
     few: bool,
 ) -> bool
-    requires { ⌜ SomeFitting (now table) count n s (now names) (now firsts) (now nexts) maxTransitions ⌝ }
+    requires { ⌜ SomeFitting (now table) count n (arrays m root (now labels) (now arities) (now children) (now
+        states)) (now names) (now firsts) (now nexts) maxTransitions ⌝ }
     requires { ⌜ length (now classes) ≡ byteValues ⌝ }
-    ensures { λ r. ⌜ ((inserting : Bool) (t : Tree) (o : List ℕ) → Fitting inserting t (now (table .entry)) count n s o
+    ensures { λ r. ⌜ ((inserting : Bool) (t : Tree) (o : List ℕ) → Fitting inserting t (now (table .entry)) count n
+        (arrays m root (now (labels .entry)) (now (arities .entry)) (now (children .entry)) (now (states .entry))) o
         (now (names .entry)) (now (firsts .entry)) (now (nexts .entry)) (now (classes .entry)) →
         now (table .exit) ≡ cond r (encode (changedAutomaton inserting t (decode (now (table .entry)))))
         (now (table .entry))) ⌝ }
@@ -194,7 +238,12 @@ fn rebuild_large(
         table,
         count,
         n,
-        s,
+        m,
+        root,
+        labels,
+        arities,
+        children,
+        states,
         names,
         firsts,
         nexts,
@@ -214,7 +263,12 @@ fn rebuild_table(
     table: &mut [u8],
     count: usize,
     n: usize,
-    s: Subtrees,
+    m: usize,
+    root: u8,
+    labels: &[u16; MAX_NODES],
+    arities: &[u8; MAX_NODES],
+    children: &[u8; CHILD_NUMBERS],
+    states: &[u8; MAX_NODES],
     names: &[u8; MAX_NODES],
     firsts: &[u8; BYTE_VALUES],
     nexts: &[u8; BYTE_VALUES],
@@ -222,79 +276,53 @@ fn rebuild_table(
     small: bool,
     few: bool,
 ) -> bool
-    requires { ⌜ SomeFitting (now table) count n s (now names) (now firsts) (now nexts) maxTransitions ⌝ }
-    requires { ⌜ (small ≡ true → SomeFitting (now table) count n s (now names) (now firsts) (now nexts)
+    requires { ⌜ SomeFitting (now table) count n (arrays m root (now labels) (now arities) (now children) (now
+        states)) (now names) (now firsts) (now nexts) maxTransitions ⌝ }
+    requires { ⌜ (small ≡ true → SomeFitting (now table) count n (arrays m root (now labels) (now arities) (now
+        children) (now states)) (now names) (now firsts) (now nexts)
         smallTransitions) ⌝ }
     requires { ⌜ length (now classes) ≡ byteValues ⌝ }
-    ensures { λ r. ⌜ ((inserting : Bool) (t : Tree) (o : List ℕ) → Fitting inserting t (now (table .entry)) count n s o
+    ensures { λ r. ⌜ ((inserting : Bool) (t : Tree) (o : List ℕ) → Fitting inserting t (now (table .entry)) count n
+        (arrays m root (now (labels .entry)) (now (arities .entry)) (now (children .entry)) (now (states .entry))) o
         (now (names .entry)) (now (firsts .entry)) (now (nexts .entry)) (now (classes .entry)) →
         now (table .exit) ≡ cond r (encode (changedAutomaton inserting t (decode (now (table .entry)))))
         (now (table .entry))) ⌝ }
     ensures { λ r. ⌜ (r ≡ false → now (table .exit) ≡ now (table .entry)) ⌝ }
 {
     if small {
-        return rebuild_small(table, count, n, s, names, firsts, nexts, classes, few);
+        return rebuild_small(
+            table,
+            count,
+            n,
+            m,
+            root,
+            labels,
+            arities,
+            children,
+            states,
+            names,
+            firsts,
+            nexts,
+            classes,
+            few,
+        );
     }
-    rebuild_large(table, count, n, s, names, firsts, nexts, classes, few)
-}
-
-// Writes the transitions between names into the scratch. Returns how many they are.
-fn write_scratch(
-    table: &[u8],
-    count: usize,
-    n: usize,
-    s: Subtrees,
-    names: &[u8; MAX_NODES],
-    firsts: &[u8; BYTE_VALUES],
-    nexts: &[u8; BYTE_VALUES],
-    scratch: &mut [u8],
-) -> usize
-    requires { ⌜ SomeFitting (now table) count n s (now names) (now firsts) (now nexts) maxTransitions ⌝ }
-    requires { ⌜ length (now scratch) ≡ scratchBytes ⌝ }
-    ensures { λ r. ⌜ ((inserting : Bool) (t : Tree) (o cl : List ℕ) → Fitting inserting t (now (table .entry)) count n s o
-        (now (names .entry)) (now (firsts .entry)) (now (nexts .entry)) cl →
-        Run t (now (table .entry)) (now (names .entry)) (now (scratch .exit)) r (n + s .count)) ⌝ }
-{
-    let mut heads = no_entries();
-    let mut args = no_entries();
-    let mut ends = no_links();
-    let made = make_all(
+    rebuild_large(
         table,
         count,
         n,
-        s,
+        m,
+        root,
+        labels,
+        arities,
+        children,
+        states,
         names,
         firsts,
         nexts,
-        &mut heads,
-        &mut args,
-        &mut ends,
-    );
-    write_run(scratch, 0, &heads, &args, made);
-    made
-}
-
-// Writes the new table through the scratch.
-fn renumber_table(
-    table: &mut [u8],
-    scratch: &mut [u8],
-    count: usize,
-    n: usize,
-    s: Subtrees,
-    names: &[u8; MAX_NODES],
-    firsts: &[u8; BYTE_VALUES],
-    nexts: &[u8; BYTE_VALUES],
-    classes: &[u8; BYTE_VALUES],
-)
-    requires { ⌜ SomeFitting (now table) count n s (now names) (now firsts) (now nexts) maxTransitions ⌝ }
-    requires { ⌜ length (now scratch) ≡ scratchBytes ⌝ }
-    ensures { λ _. ⌜ ((inserting : Bool) (t : Tree) (o : List ℕ) → Fitting inserting t (now (table .entry)) count n s o
-        (now (names .entry)) (now (firsts .entry)) (now (nexts .entry)) (now (classes .entry)) →
-        now (table .exit) ≡ encode (changedAutomaton inserting t (decode (now (table .entry))))) ⌝ }
-{
-    let m = s.count;
-    let made = write_scratch(table, count, n, s, names, firsts, nexts, scratch);
-    write(scratch, made, classes, n + m, table);
+        classes,
+        few,
+    )
 }
 
 // Writes the new table. If `small`, its transitions fit small arrays.
@@ -303,19 +331,27 @@ pub fn replace(
     scratch: &mut [u8],
     count: usize,
     n: usize,
-    s: Subtrees,
+    m: usize,
+    root: u8,
+    labels: &[u16; MAX_NODES],
+    arities: &[u8; MAX_NODES],
+    children: &[u8; CHILD_NUMBERS],
+    states: &[u8; MAX_NODES],
     names: &[u8; MAX_NODES],
     firsts: &[u8; BYTE_VALUES],
     nexts: &[u8; BYTE_VALUES],
     classes: &[u8; BYTE_VALUES],
     small: bool,
 )
-    requires { ⌜ SomeFitting (now table) count n s (now names) (now firsts) (now nexts) maxTransitions ⌝ }
-    requires { ⌜ (small ≡ true → SomeFitting (now table) count n s (now names) (now firsts) (now nexts)
+    requires { ⌜ SomeFitting (now table) count n (arrays m root (now labels) (now arities) (now children) (now
+        states)) (now names) (now firsts) (now nexts) maxTransitions ⌝ }
+    requires { ⌜ (small ≡ true → SomeFitting (now table) count n (arrays m root (now labels) (now arities) (now
+        children) (now states)) (now names) (now firsts) (now nexts)
         smallTransitions) ⌝ }
     requires { ⌜ length (now scratch) ≡ scratchBytes ⌝ }
     requires { ⌜ length (now classes) ≡ byteValues ⌝ }
-    ensures { λ _. ⌜ ((inserting : Bool) (t : Tree) (o : List ℕ) → Fitting inserting t (now (table .entry)) count n s o
+    ensures { λ _. ⌜ ((inserting : Bool) (t : Tree) (o : List ℕ) → Fitting inserting t (now (table .entry)) count n
+        (arrays m root (now (labels .entry)) (now (arities .entry)) (now (children .entry)) (now (states .entry))) o
         (now (names .entry)) (now (firsts .entry)) (now (nexts .entry)) (now (classes .entry)) →
         now (table .exit) ≡ encode (changedAutomaton inserting t (decode (now (table .entry))))) ⌝ }
 {
@@ -323,7 +359,12 @@ pub fn replace(
         table,
         count,
         n,
-        s,
+        m,
+        root,
+        labels,
+        arities,
+        children,
+        states,
         names,
         firsts,
         nexts,
@@ -337,7 +378,12 @@ pub fn replace(
         table,
         count,
         n,
-        s,
+        m,
+        root,
+        labels,
+        arities,
+        children,
+        states,
         names,
         firsts,
         nexts,
@@ -347,5 +393,20 @@ pub fn replace(
     ) {
         return;
     }
-    renumber_table(table, scratch, count, n, s, names, firsts, nexts, classes);
+    renumber_table(
+        table,
+        scratch,
+        count,
+        n,
+        m,
+        root,
+        labels,
+        arities,
+        children,
+        states,
+        names,
+        firsts,
+        nexts,
+        classes,
+    );
 }

@@ -1,10 +1,11 @@
 -- `change::apply` meets its contract: refusal 17 by counting, or the new table and its numbers.
-use mathlib.Core.Path.{_∙_}
+use Prim.Native.Nat.{ℕ}
 use native.Mathlib.Omega.{arith}
+use lib.ListN.{length-replicate}
 use borrow.Author.Tests.{not-false, not-true}
 use Rattle.automata.specs.NamedChange.{changedAutomaton}
 use Rattle.change.specs.Given.{smallTransitions}
-use Rattle.format.specs.Format.{maxTransitions}
+use Rattle.format.specs.Format.{byteValues, maxTransitions}
 use Rattle.table.specs.Layout.{decode}
 use Rattle.change.proofs.Answering.{worked-17, worked-done}
 use Rattle.change.proofs.Handing.{between-few, fitting, table-size}
@@ -14,15 +15,16 @@ use Rattle.change.proofs.apply.Statement.{statement}
 use Rattle.change.proofs.apply.Tie as tie
 
 name-requires : tie.Need-name-requires
-name-requires c κs = search needs
+name-requires c κs = c .before .before .before .before .pre .0
 
 keep-requires : tie.Need-keep-requires
 keep-requires c κs =
-    let start = c .before .before .before .before .before .before .before .before .before in
-    (given-few (start .pre .0 .1), (start .pre .0 .1) .lists .few)
+    let g = c .before .before .before .before .before .before .before .before .before .pre .0 .1 in
+    (given-few g, g .lists .few)
 
 fit-of-requires : tie.Need-fit-of-requires
-fit-of-requires c κs = search needs
+fit-of-requires c κs = c .before .before .before .before .before .before .before .before .before .before .before
+    .before .before .pre .0
 
 same-length : tie.Need-same-length
 same-length c = search needs
@@ -30,78 +32,73 @@ same-length c = search needs
 returns : tie.Need-returns
 returns c =
     let at-fit-of = c .before .before in
-    let at-keep = at-fit-of .before .before .before .before .before .before .before .before in
-    let at-name = at-keep .before .before .before .before in
-    let start = at-name .before .before .before .before .before .before in
-    λ t g. let P = start .pre .1 .1 .1 t g in
-    let fit = at-fit-of .fit-of .ensures (start .args .inserting) t (at-keep .keep .result .firsts)
-    (at-keep .keep .result .nexts) (at-name .name .ensures t g P) (at-keep .keep .ensures) in
-    worked-17 (start .args .inserting) t (start .args .table .now) P (start .pre .1 .1 .0) (fit .table)
-    (not-true _ (c .if1 .taken))
+    let at-keep = at-fit-of .before .before .before .before in
+    let at-name = at-keep .before .before .before .before .before in
+    let start = at-name .before .before .before .before .before in
+    λ t g. let P = start .pre .1 .1 t g in
+    let fit = at-fit-of .fit-of .ensures (start .args .inserting) t _ _ (at-name .name .ensures t g P)
+    (at-keep .keep .ensures) in
+    worked-17 (start .args .inserting) t (start .args .table .now) P (fit .table) (not-true _ (c .if1 .taken))
 
 wide-requires : tie.Need-wide-requires
 wide-requires c κs = search needs
 
 add-own : tie.Need-add-own
 add-own c =
-    let start = c .before .before .before .before .before .before .before .before .before .before .before .before
-    .before .before .before .before .before .before .before .before .before in
-    let g = start .pre .0 .1 in
+    let g = c .before .before .before .before .before .before .before .before .before .before .before .before
+    .before .before .before .before .before .pre .0 .1 in
     omega (arith, given-few g, c .wide .ensures, g .lists .root-known, g .lists .few)
 
-name-classes-requires : tie.Need-name-classes-requires
-name-classes-requires c κs =
-    let start = c .before .before .before .before .before .before .before .before .before .before .before .before
-    .before .before .before .before .before .before .before .before .before .before .before in
-    let g = start .pre .0 .1 in
-    (given-size g, (given-few g, g .lists .few))
+classify-names-requires : tie.Need-classify-names-requires
+classify-names-requires c κs =
+    let g = c .before .before .before .before .before .before .before .before .before .before .before .before
+    .before .before .before .before .before .before .before .pre .0 .1 in
+    (given-size g, (given-few g, (g .lists .few, length-replicate {A = ℕ} byteValues 0)))
 
 replace-requires : tie.Need-replace-requires
 replace-requires c κs =
-    let at-name-classes = c .before .before .before .before .before .before in
-    let at-wide = at-name-classes .before .before .before in
+    let at-classify = c .before .before .before .before .before .before in
+    let at-wide = at-classify .before .before .before in
     let at-if1 = at-wide .before in
     let at-fit-of = at-if1 .before .before in
-    let at-keep = at-fit-of .before .before .before .before .before .before .before .before in
-    let at-name = at-keep .before .before .before .before in
-    let start = at-name .before .before .before .before .before .before in
+    let at-keep = at-fit-of .before .before .before .before in
+    let at-name = at-keep .before .before .before .before .before in
+    let start = at-name .before .before .before .before .before in
     let t = start .pre .0 .0 in
     let g = start .pre .0 .1 in
     let inserting = start .args .inserting in
-    let opens = start .args .p .opens in
-    let classes = at-name-classes .name-classes in
-    let N = at-name .name .ensures t g (start .pre .1 .1 .1 t g) in
-    let fit = at-fit-of .fit-of .ensures inserting t (at-keep .keep .result .firsts) (at-keep .keep .result .nexts) N
-    (at-keep .keep .ensures) in
-    let F = fitting N (at-keep .keep .ensures) (at-wide .wide .ensures) (classes .ensures) (fit .table)
+    let opens = start .args .opens .now in
+    let classes = at-classify .classify-names .ensures in
+    let N = at-name .name .ensures t g (start .pre .1 .1 t g) in
+    let fit = at-fit-of .fit-of .ensures inserting t _ _ N (at-keep .keep .ensures) in
+    let F = fitting N (at-keep .keep .ensures) (at-wide .wide .ensures) classes (fit .table)
     (not-false _ (at-if1 .if1 .left)) in (
-      (inserting, t, opens, classes .result, F, between-few N maxTransitions (F .fits)),
+      (inserting, t, opens, _, F, between-few N maxTransitions (F .fits)),
       (
-        λ e. (inserting, t, opens, classes .result, F, between-few N smallTransitions (fit .few e)),
-        (start .pre .1 .0, classes .ensures .size),
+        λ e. (inserting, t, opens, _, F, between-few N smallTransitions (fit .few e)),
+        (start .pre .1 .0, classes .size),
       ),
     )
 
 done-requires : tie.Need-done-requires
 done-requires c κs =
     let at-replace = c .before .before .before .before .before in
-    let at-name-classes = at-replace .before .before .before .before .before .before .before in
-    let at-wide = at-name-classes .before .before .before in
+    let at-classify = at-replace .before .before .before .before .before .before .before in
+    let at-wide = at-classify .before .before .before in
     let at-if1 = at-wide .before in
     let at-fit-of = at-if1 .before .before in
-    let at-keep = at-fit-of .before .before .before .before .before .before .before .before in
-    let at-name = at-keep .before .before .before .before in
-    let start = at-name .before .before .before .before .before .before in
+    let at-keep = at-fit-of .before .before .before .before in
+    let at-name = at-keep .before .before .before .before .before in
+    let start = at-name .before .before .before .before .before in
     let t = start .pre .0 .0 in
     let g = start .pre .0 .1 in
     let inserting = start .args .inserting in
-    let N = at-name .name .ensures t g (start .pre .1 .1 .1 t g) in
-    let fit = at-fit-of .fit-of .ensures inserting t (at-keep .keep .result .firsts) (at-keep .keep .result .nexts) N
-    (at-keep .keep .ensures) in
-    let F = fitting N (at-keep .keep .ensures) (at-wide .wide .ensures) (at-name-classes .name-classes .ensures)
+    let N = at-name .name .ensures t g (start .pre .1 .1 t g) in
+    let fit = at-fit-of .fit-of .ensures inserting t _ _ N (at-keep .keep .ensures) in
+    let F = fitting N (at-keep .keep .ensures) (at-wide .wide .ensures) (at-classify .classify-names .ensures)
     (fit .table) (not-false _ (at-if1 .if1 .left)) in
     table-size (changedAutomaton inserting t (decode (start .args .table .now)))
-    (at-replace .replace .ensures inserting t (start .args .p .opens) F)
+    (at-replace .replace .ensures inserting t (start .args .opens .now) F)
 
 same-length-2 : tie.Need-same-length-2
 same-length-2 c = search needs
@@ -112,23 +109,22 @@ same-length-3 c = search needs
 returns-2 : tie.Need-returns-2
 returns-2 c =
     let at-replace = c .before .before .before .before .before .before in
-    let at-name-classes = at-replace .before .before .before .before .before .before .before in
-    let at-wide = at-name-classes .before .before .before in
+    let at-classify = at-replace .before .before .before .before .before .before .before in
+    let at-wide = at-classify .before .before .before in
     let at-if1 = at-wide .before in
     let at-fit-of = at-if1 .before .before in
-    let at-keep = at-fit-of .before .before .before .before .before .before .before .before in
-    let at-name = at-keep .before .before .before .before in
-    let start = at-name .before .before .before .before .before .before in
+    let at-keep = at-fit-of .before .before .before .before in
+    let at-name = at-keep .before .before .before .before .before in
+    let start = at-name .before .before .before .before .before in
     let inserting = start .args .inserting in
-    λ t g. let P = start .pre .1 .1 .1 t g in
+    λ t g. let P = start .pre .1 .1 t g in
     let N = at-name .name .ensures t g P in
-    let fit = at-fit-of .fit-of .ensures inserting t (at-keep .keep .result .firsts) (at-keep .keep .result .nexts) N
-    (at-keep .keep .ensures) in
+    let fit = at-fit-of .fit-of .ensures inserting t _ _ N (at-keep .keep .ensures) in
     let h = not-false _ (at-if1 .if1 .left) in
-    let F = fitting N (at-keep .keep .ensures) (at-wide .wide .ensures) (at-name-classes .name-classes .ensures)
+    let F = fitting N (at-keep .keep .ensures) (at-wide .wide .ensures) (at-classify .classify-names .ensures)
     (fit .table) h in
-    worked-done inserting t (start .args .table .now) P (start .pre .1 .1 .0) (fit .table) h
-    (at-replace .replace .ensures inserting t (start .args .p .opens) F) (c .done .ensures)
+    worked-done inserting t (start .args .table .now) P (fit .table) h
+    (at-replace .replace .ensures inserting t (start .args .opens .now) F) (c .done .ensures)
 
 pub apply-spec : {M : Type 1} → statement M
 apply-spec =
@@ -141,7 +137,7 @@ apply-spec =
     returns
     wide-requires
     add-own
-    name-classes-requires
+    classify-names-requires
     replace-requires
     done-requires
     same-length-2

@@ -1,6 +1,9 @@
 -- `change::name` meets its contract: the names are found for the set with the tree put in or taken out.
+use Prim.Native.Nat.{ℕ}
 use native.Mathlib.Omega.{arith}
+use lib.ListN.{length-replicate}
 use Rattle.automata.specs.NamedChange.{changedSet}
+use Rattle.format.specs.Format.{maxNodes}
 use Rattle.subtrees.specs.Store.{bottomUp}
 use Rattle.table.specs.Layout.{decode}
 use Rattle.change.proofs.Inputs.{given-over, given-size}
@@ -13,58 +16,56 @@ use Rattle.change.proofs.name.Tie as tie
 wide-requires : tie.Need-wide-requires
 wide-requires c κs = search needs
 
-classes-of-requires : tie.Need-classes-of-requires
-classes-of-requires c κs =
-    let start = c .before .before .before .before .before .before .before .before .before in
-    (given-size (start .pre .1), (start .pre .1) .lists .few)
+classify-requires : tie.Need-classify-requires
+classify-requires c κs =
+    let g = c .before .before .before .pre .1 in
+    (given-size g, (g .lists .few, length-replicate {A = ℕ} maxNodes 0))
 
-sub-uses-of : tie.Need-sub-uses-of
-sub-uses-of c =
-    let start = c .before .before .before .before .before .before .before .before .before .before in
-    omega (arith, given-size (start .pre .1))
+sub-note-uses : tie.Need-sub-note-uses
+sub-note-uses c = omega (arith, given-size (c .before .before .before .before .pre .1))
 
-part-uses-of-start : tie.Need-part-uses-of-start
-part-uses-of-start c =
-    let start = c .before .before .before .before .before .before .before .before .before .before in
-    omega (arith, given-size (start .pre .1))
+part-note-uses-start : tie.Need-part-note-uses-start
+part-note-uses-start c = omega (arith, given-size (c .before .before .before .before .pre .1))
 
-part-uses-of-end : tie.Need-part-uses-of-end
-part-uses-of-end c = search needs
+part-note-uses-end : tie.Need-part-note-uses-end
+part-note-uses-end c = search needs
 
-uses-of-requires : tie.Need-uses-of-requires
-uses-of-requires c κs =
-    let start = c .before .before .before .before .before .before .before .before .before .before .before in
-    given-over (start .pre .1) .runs
+note-uses-requires : tie.Need-note-uses-requires
+note-uses-requires c κs = given-over (c .before .before .before .before .before .before .before .pre .1) .runs
 
 sub-name-all : tie.Need-sub-name-all
-sub-name-all c =
-    let start = c .before .before .before .before .before .before .before .before .before .before .before .before .before .before in
-    omega (arith, given-size (start .pre .1))
+sub-name-all c = omega (
+  arith,
+  given-size (c .before .before .before .before .before .before .before .before .pre
+      .1),
+)
 
 part-name-all-start : tie.Need-part-name-all-start
-part-name-all-start c =
-    let start = c .before .before .before .before .before .before .before .before .before .before .before .before .before .before in
-    omega (arith, given-size (start .pre .1))
+part-name-all-start c = omega (
+  arith,
+  given-size (c .before .before .before .before .before .before .before .before
+      .pre .1),
+)
 
 part-name-all-end : tie.Need-part-name-all-end
 part-name-all-end c = search needs
 
 name-all-requires : tie.Need-name-all-requires
 name-all-requires c κs =
-    let at-uses = c .before .before .before .before .before .before .before .before .before .before .before .before in
-    let start = at-uses .before .before .before .before .before .before .before .before .before .before .before .before in
-    given-sized (start .pre .1) (at-uses .uses-of .ensures)
+    let at-uses = c .before .before .before .before .before in
+    let start = at-uses .before .before .before .before .before .before .before .before in
+    given-sized (start .pre .1) (at-uses .note-uses .ensures)
 
 returns : tie.Need-returns
 returns c =
-    let at-classes-of = c .before .before .before .before .before .before .before .before .before .before .before .before .before .before .before in
-    let at-wide = at-classes-of .before in
-    let start = at-wide .before .before .before .before .before .before .before .before .before in
+    let at-classify = c .before .before .before .before .before .before .before .before .before .before in
+    let at-wide = at-classify .before .before in
+    let start = at-wide .before .before in
     λ t g P.
     let A = decode (start .args .table .now) in
     let S = changedSet (start .args .inserting) A t in
-    let classed = at-classes-of .classes-of .ensures A t (bottomUp t) S (start .args .s .labels) (start .args .s
-    .arities) (start .args .s .children) (given-held g) (given-classes g) (given-rooted g (at-wide .wide .ensures))
+    let classed = at-classify .classify .ensures A t (bottomUp t) S (start .args .labels .now) (start .args .arities
+    .now) (start .args .children .now) (given-held g) (given-classes g) (given-rooted g (at-wide .wide .ensures))
     (set-changed (start .args .inserting) A t) in
     record {
       given = g;
@@ -77,11 +78,11 @@ name-spec =
     tie.close
     (tie.spec
     wide-requires
-    classes-of-requires
-    sub-uses-of
-    part-uses-of-start
-    part-uses-of-end
-    uses-of-requires
+    classify-requires
+    sub-note-uses
+    part-note-uses-start
+    part-note-uses-end
+    note-uses-requires
     sub-name-all
     part-name-all-start
     part-name-all-end

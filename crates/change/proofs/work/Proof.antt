@@ -1,9 +1,13 @@
 -- `change::work` meets its contract: refusal 16 by counting, then the change by names.
+use mathlib.Core.Path.{refl}
+use Prim.Native.Nat.{ℕ}
 use native.Mathlib.Omega.{arith}
+use lib.ListN.{length-replicate}
 use borrow.Author.Tests.{not-false, not-true}
+use Rattle.format.specs.Format.{byteValues}
 use Rattle.table.specs.Layout.{decode}
 use Rattle.trees.specs.Listing.{readTree}
-use Rattle.change.proofs.Answering.{worked-16}
+use Rattle.change.proofs.Answering.{counted-few, worked-16}
 use Rattle.change.proofs.Inputs.{given, given-over, given-setting, passed-size}
 use Rattle.change.proofs.SubtreeStates.{states-counted}
 use borrow.Author.Needs.{needs}
@@ -24,16 +28,24 @@ transition-count-requires c κs =
     (passed-size (start .args .table .now) (start .pre .1 .1 .0))
 
 collect-requires : tie.Need-collect-requires
-collect-requires c κs = search needs
+collect-requires c κs =
+    let start = c .before .before .before .before .before .before .before .before .before .before .before in (
+      start .pre .0,
+      (
+        (decode (start .args .table .now), start .pre .1 .0),
+        record { labels = refl; arities = refl; children = refl; states = refl },
+      ),
+    )
 
 sub-count-pairs : tie.Need-sub-count-pairs
 sub-count-pairs c =
-    let start = c .before .before .before .before .before .before .before .before .before in
+    let start = c .before .before .before .before .before .before .before .before .before .before .before .before in
     omega (arith, (passed-size (start .args .table .now) (start .pre .1 .1 .0)))
 
 part-count-pairs-start : tie.Need-part-count-pairs-start
 part-count-pairs-start c =
-    let start = c .before .before .before .before .before .before .before .before .before .before in
+    let start = c .before .before .before .before .before .before .before .before .before .before .before .before
+    .before in
     omega (arith, (passed-size (start .args .table .now) (start .pre .1 .1 .0)))
 
 part-count-pairs-end : tie.Need-part-count-pairs-end
@@ -41,64 +53,70 @@ part-count-pairs-end c = search needs
 
 count-pairs-requires : tie.Need-count-pairs-requires
 count-pairs-requires c κs =
-    let at-collect = c .before .before .before .before in
-    let at-transition-count = at-collect .before in
-    let at-wide = at-transition-count .before .before in
-    let at-slice-known = at-wide .before .before .before in
-    let at-shared-slice-known = at-slice-known .before in
-    let start = at-shared-slice-known .before in
+    let at-collect = c .before .before .before .before .before in
+    let at-count = at-collect .before .before .before .before .before in
+    let at-wide = at-count .before .before in
+    let at-table = at-wide .before .before .before in
+    let at-tree = at-table .before in
+    let start = at-tree .before in
     let g = (given (start .args .tree .now) (start .args .table .now) (start .pre .0) (start .pre .1 .1 .0) (λ i.
-    (at-shared-slice-known .shared-slice-known) .given i .fits) (λ i. (at-slice-known .slice-known) .given i .fits)
-    (at-transition-count .transition-count .result) (at-wide .wide .result) (at-transition-count .transition-count
-    .ensures .0) (at-wide .wide .ensures) (at-collect .collect .result) (at-collect .collect .ensures (decode
-    (start .args .table .now)) (start .pre .1 .0))) in (given-over g .runs, g .lists .few)
+    (at-tree .shared-slice-known) .given i .fits) (λ i. (at-table .slice-known) .given i .fits)
+    (at-count .transition-count .result) (at-wide .wide .result) (at-count .transition-count .ensures .0)
+    (at-wide .wide .ensures) _ (at-collect .collect .ensures (decode (start .args .table .now)) (start .pre .1
+    .0))) in (
+      given-over g .runs,
+      (
+        g .lists .few,
+        (
+          length-replicate {A = ℕ} byteValues 0,
+          length-replicate {A = ℕ}
+              byteValues 0,
+        ),
+      ),
+    )
 
 same-length : tie.Need-same-length
 same-length c = search needs
 
 returns : tie.Need-returns
 returns c =
-    let at-count-pairs = c .before .before in
-    let at-collect = at-count-pairs .before .before .before .before .before in
-    let at-transition-count = at-collect .before in
-    let at-wide = at-transition-count .before .before in
-    let at-slice-known = at-wide .before .before .before in
-    let at-shared-slice-known = at-slice-known .before in
-    let start = at-shared-slice-known .before in
+    let at-collect = c .before .before .before .before .before .before .before in
+    let at-count = at-collect .before .before .before .before .before in
+    let at-wide = at-count .before .before in
+    let at-table = at-wide .before .before .before in
+    let at-tree = at-table .before in
+    let start = at-tree .before in
     let g = (given (start .args .tree .now) (start .args .table .now) (start .pre .0) (start .pre .1 .1 .0) (λ i.
-    (at-shared-slice-known .shared-slice-known) .given i .fits) (λ i. (at-slice-known .slice-known) .given i .fits)
-    (at-transition-count .transition-count .result) (at-wide .wide .result) (at-transition-count .transition-count
-    .ensures .0) (at-wide .wide .ensures) (at-collect .collect .result) (at-collect .collect .ensures (decode
-    (start .args .table .now)) (start .pre .1 .0))) in worked-16 (start .args .inserting) (readTree (start .args
-    .tree .now)) (start .args .table .now) (at-count-pairs .count-pairs .ensures (decode (start .args .table .now))
-    (readTree (start .args .tree .now)) (given-setting g) (states-counted (g .lists))) (not-true _ (c .if1 .taken))
+    (at-tree .shared-slice-known) .given i .fits) (λ i. (at-table .slice-known) .given i .fits)
+    (at-count .transition-count .result) (at-wide .wide .result) (at-count .transition-count .ensures .0)
+    (at-wide .wide .ensures) _ (at-collect .collect .ensures (decode (start .args .table .now)) (start .pre .1
+    .0))) in
+    worked-16 (start .args .inserting) (readTree (start .args .tree .now)) (start .args .table .now)
+    (c .before .count-pairs .ensures .0 (decode (start .args .table .now)) (readTree (start .args .tree .now))
+    (given-setting g) (states-counted (g .lists))) (not-true _ (c .if1 .taken))
 
 apply-requires : tie.Need-apply-requires
 apply-requires c κs =
-    let at-if1 = c .before .before in
-    let at-count-pairs = at-if1 .before .before in
-    let at-collect = at-count-pairs .before .before .before .before .before in
-    let at-transition-count = at-collect .before in
-    let at-wide = at-transition-count .before .before in
-    let at-slice-known = at-wide .before .before .before in
-    let at-shared-slice-known = at-slice-known .before in
-    let start = at-shared-slice-known .before in (
+    let at-if1 = c .before .before .before .before .before .before .before .before in
+    let at-pairs = at-if1 .before in
+    let at-collect = c .before .before .before .before .before .before .before .before .before .before .before
+    .before .before .before .before in
+    let at-count = at-collect .before .before .before .before .before in
+    let at-wide = at-count .before .before in
+    let at-table = at-wide .before .before .before in
+    let at-tree = at-table .before in
+    let start = at-tree .before in
+    let g = (given (start .args .tree .now) (start .args .table .now) (start .pre .0) (start .pre .1 .1 .0) (λ i.
+    (at-tree .shared-slice-known) .given i .fits) (λ i. (at-table .slice-known) .given i .fits)
+    (at-count .transition-count .result) (at-wide .wide .result) (at-count .transition-count .ensures .0)
+    (at-wide .wide .ensures) _ (at-collect .collect .ensures (decode (start .args .table .now)) (start .pre .1
+    .0))) in (
+      (readTree (start .args .tree .now), g),
       (
-        (readTree (start .args .tree .now)),
-        (given (start .args .tree .now) (start .args .table .now) (start .pre
-            .0) (start .pre .1 .1 .0) (λ i. (at-shared-slice-known .shared-slice-known) .given i .fits) (λ i.
-            (at-slice-known .slice-known) .given i .fits) (at-transition-count .transition-count .result) (at-wide .wide
-            .result) (at-transition-count .transition-count .ensures .0) (at-wide .wide .ensures) (at-collect .collect
-            .result) (at-collect .collect .ensures (decode (start .args .table .now)) (start .pre .1 .0))),
-      ),
-      (
-        start .pre .1
-            .1 .1,
-        (
-          not-false _ (at-if1 .if1 .left),
-          λ t h. (at-count-pairs .count-pairs) .ensures (decode (start .args
-              .table .now)) t (given-setting h) (states-counted (h .lists)),
-        ),
+        start .pre .1 .1 .1,
+        λ t h. counted-few
+            (at-pairs .count-pairs .ensures .0 (decode (start .args .table .now)) t (given-setting h)
+            (states-counted (h .lists))) (not-false _ (at-if1 .if1 .left)),
       ),
     )
 
@@ -110,19 +128,19 @@ same-length-3 c = search needs
 
 returns-2 : tie.Need-returns-2
 returns-2 c =
-    let at-apply = c .before .before .before .before in
-    let at-collect = at-apply .before .before .before .before .before .before .before .before .before .before in
-    let at-transition-count = at-collect .before in
-    let at-wide = at-transition-count .before .before in
-    let at-slice-known = at-wide .before .before .before in
-    let at-shared-slice-known = at-slice-known .before in
-    let start = at-shared-slice-known .before in
-    at-apply .apply .ensures (readTree (start .args .tree .now)) (given (start .args .tree .now) (start .args
-    .table .now) (start .pre .0) (start .pre .1 .1 .0) (λ i. (at-shared-slice-known .shared-slice-known) .given i
-    .fits) (λ i. (at-slice-known .slice-known) .given i .fits) (at-transition-count .transition-count .result)
-    (at-wide .wide .result) (at-transition-count .transition-count .ensures .0) (at-wide .wide .ensures)
-    (at-collect .collect .result) (at-collect .collect .ensures (decode (start .args .table .now)) (start .pre .1
-    .0)))
+    let at-collect = c .before .before .before .before .before .before .before .before .before .before .before
+    .before .before .before .before .before .before .before .before .before in
+    let at-count = at-collect .before .before .before .before .before in
+    let at-wide = at-count .before .before in
+    let at-table = at-wide .before .before .before in
+    let at-tree = at-table .before in
+    let start = at-tree .before in
+    let g = (given (start .args .tree .now) (start .args .table .now) (start .pre .0) (start .pre .1 .1 .0) (λ i.
+    (at-tree .shared-slice-known) .given i .fits) (λ i. (at-table .slice-known) .given i .fits)
+    (at-count .transition-count .result) (at-wide .wide .result) (at-count .transition-count .ensures .0)
+    (at-wide .wide .ensures) _ (at-collect .collect .ensures (decode (start .args .table .now)) (start .pre .1
+    .0))) in
+    c .before .before .before .before .apply .ensures (readTree (start .args .tree .now)) g
 
 pub work-spec : {M : Type 1} → statement M
 work-spec =

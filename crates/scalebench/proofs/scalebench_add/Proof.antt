@@ -1,14 +1,11 @@
--- `scalebench_add` meets its contract: the three parts of the result, the answer as its number.
-use Rattle.scalebench.proofs.Changing.{returned}
+-- `scalebench_add` meets its contract: it is the change that inserts.
+use Rattle.calls.specs.Calls.{addResult}
 use borrow.Author.Needs.{needs}
 use Rattle.scalebench.proofs.scalebench_add.Statement.{statement}
 use Rattle.scalebench.proofs.scalebench_add.Tie as tie
 
-add-requires : tie.Need-add-requires
-add-requires c κs = search needs
-
-answer-number-requires : tie.Need-answer-number-requires
-answer-number-requires c κs = search needs
+change-number-requires : tie.Need-change-number-requires
+change-number-requires c κs = search needs
 
 same-length : tie.Need-same-length
 same-length c = search needs
@@ -17,11 +14,8 @@ same-length-2 : tie.Need-same-length-2
 same-length-2 c = search needs
 
 returns : tie.Need-returns
-returns c =
-    let at-add = c .before .before .before .before .before in
-    let x = returned (at-add .add .result) (at-add .add .ensures) (c .answer-number .ensures) in
-    (x .0, (x .1, x .2))
+unfolding addResult
+returns c = c .before .before .before .before .change-number .ensures
 
 pub scalebench-add-spec : {M : Type 1} → statement M
-scalebench-add-spec =
-    tie.close (tie.spec add-requires answer-number-requires same-length same-length-2 returns)
+scalebench-add-spec = tie.close (tie.spec change-number-requires same-length same-length-2 returns)

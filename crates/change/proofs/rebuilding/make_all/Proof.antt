@@ -13,12 +13,12 @@ use Rattle.change.proofs.rebuilding.make_all.Tie as tie
 
 sub-make : tie.Need-sub-make
 sub-make c =
-    let some = c .before .before .before .before .before .before .before .before .pre .0 in
+    let some = c .before .before .before .before .pre .0 in
     omega (arith, given-size (some .4 .named .given))
 
 part-make-start : tie.Need-part-make-start
 part-make-start c =
-    let some = c .before .before .before .before .before .before .before .before .pre .0 in
+    let some = c .before .before .before .before .pre .0 in
     omega (arith, given-size (some .4 .named .given))
 
 part-make-end : tie.Need-part-make-end
@@ -26,8 +26,7 @@ part-make-end c = search needs
 
 make-requires : tie.Need-make-requires
 make-requires c κs =
-    let start = c .before .before .before .before .before .before .before .before .before .before .before
-    .before .before .before .before .before in
+    let start = c .before .before .before .before .before .before .before .before in
     let some = start .pre .0 in
     let room = start .pre .1 in (
       given-over (some .4 .named .given) .runs,
@@ -55,8 +54,8 @@ same-length-3 c = search needs
 
 returns : tie.Need-returns
 returns c =
-    let start = c .before .before .before .before .before .before .before .before .before .before .before
-    .before .before .before .before .before .before .before .before .before .before .before .before in
+    let start = c .before .before .before .before .before .before .before .before .before .before .before .before
+    .before .before .before in
     let make-call = c .before .before .before .before .before .before .make in
     let room = make-call .ensures .0 in
     λ inserting t o cl F.

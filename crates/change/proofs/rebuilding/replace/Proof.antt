@@ -11,7 +11,9 @@ use Rattle.change.proofs.rebuilding.replace.Statement.{statement}
 use Rattle.change.proofs.rebuilding.replace.Tie as tie
 
 rebuild-table-requires : tie.Need-rebuild-table-requires
-rebuild-table-requires c κs = search needs
+rebuild-table-requires c κs =
+    let pre = c .before .before .before .pre in
+    (pre .0, (pre .1 .0, pre .1 .1 .1))
 
 same-length : tie.Need-same-length
 same-length c = search needs

@@ -1,12 +1,12 @@
--- `change::rebuilding::renumber_table` meets its contract: the run numbered by the rule is the changed automaton.
+-- `change::fallback::renumber_table` meets its contract: the run numbered by the rule is the changed automaton.
 use mathlib.Core.Path.{_≡_}
 use native.Mathlib.Omega.{arith}
 use lib.ListN.{length}
 use Rattle.change.proofs.Inputs.{given-few, given-size}
 use Rattle.change.proofs.Rebuilt.{written}
 use borrow.Author.Needs.{needs}
-use Rattle.change.proofs.rebuilding.renumber_table.Statement.{statement}
-use Rattle.change.proofs.rebuilding.renumber_table.Tie as tie
+use Rattle.change.proofs.fallback.renumber_table.Statement.{statement}
+use Rattle.change.proofs.fallback.renumber_table.Tie as tie
 
 write-scratch-requires : tie.Need-write-scratch-requires
 write-scratch-requires c κs = search needs

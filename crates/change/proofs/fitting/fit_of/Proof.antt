@@ -1,4 +1,4 @@
--- `change::fit_of` meets its contract: what fits small arrays fits a table.
+-- `change::fitting::fit_of` meets its contract: what fits small arrays fits a table.
 use mathlib.Core.Path.{_≡_, sym}
 use native.Mathlib.Omega.{arith}
 use Prim.Native.Nat.{ℕ}
@@ -8,8 +8,8 @@ use Rattle.format.specs.Format.{maxTransitions}
 use Rattle.table.specs.Layout.{decode}
 use Rattle.change.proofs.Sizes.{within-more}
 use borrow.Author.Needs.{needs}
-use Rattle.change.proofs.fit_of.Statement.{statement}
-use Rattle.change.proofs.fit_of.Tie as tie
+use Rattle.change.proofs.fitting.fit_of.Statement.{statement}
+use Rattle.change.proofs.fitting.fit_of.Tie as tie
 
 fits-small-requires : tie.Need-fits-small-requires
 fits-small-requires c κs = search needs

@@ -1,11 +1,11 @@
--- `change::classes::name_classes` meets its contract: the first classes stand at their numbers.
+-- `change::classes::classify_names` meets its contract: the first classes stand at their numbers.
 use Prim.Native.Nat.{_+_, _-_, _≤_}
 use native.Mathlib.Omega.{arith}
 use Rattle.change.specs.Classes.{classOfName}
 use Rattle.change.proofs.Classing.{ClassedBelow, classed-end, classed-next, classed-start}
 use borrow.Author.Needs.{needs}
-use Rattle.change.proofs.classes.name_classes.Statement.{statement}
-use Rattle.change.proofs.classes.name_classes.Tie as tie
+use Rattle.change.proofs.classes.classify_names.Statement.{statement}
+use Rattle.change.proofs.classes.classify_names.Tie as tie
 
 abbrev Inv-loop : tie.InvT-loop
 Inv-loop table n m states own inserting classes₀ p₀ classes p =
@@ -15,7 +15,7 @@ abbrev μ-loop : tie.MeasureT-loop
 μ-loop table n m states own inserting classes₀ p₀ classes p = n + m + 1 - p
 
 loop-holds : tie.Need-loop-holds Inv-loop μ-loop
-loop-holds c = (omega arith, omega arith, classed-start)
+loop-holds c = (omega arith, omega arith, classed-start (c .before .pre .1 .1 .1))
 
 add-loop : tie.Need-add-loop Inv-loop μ-loop
 add-loop c = search needs
@@ -23,8 +23,8 @@ add-loop c = search needs
 class-of-requires : tie.Need-class-of-requires Inv-loop μ-loop
 class-of-requires c κs = search needs
 
-array-write-classes : tie.Need-array-write-classes Inv-loop μ-loop
-array-write-classes c = search needs
+element-write-classes : tie.Need-element-write-classes Inv-loop μ-loop
+element-write-classes c = omega (arith, c .before .before .loop .inv .2 .size)
 
 add-p : tie.Need-add-p Inv-loop μ-loop
 add-p c = search needs
@@ -44,8 +44,8 @@ loop-again c =
 returns : tie.Need-returns Inv-loop μ-loop
 returns c = classed-end (c .before .loop .inv .2) (omega arith)
 
-pub name-classes-spec : {M : Type 1} → statement M
-name-classes-spec =
+pub classify-names-spec : {M : Type 1} → statement M
+classify-names-spec =
     tie.close
     (tie.spec
     Inv-loop
@@ -53,7 +53,7 @@ name-classes-spec =
     loop-holds
     add-loop
     class-of-requires
-    array-write-classes
+    element-write-classes
     add-p
     loop-less
     loop-again

@@ -1,11 +1,11 @@
--- `change::fits_small` meets its contract: it answers yes only if `fits` does.
+-- `change::fitting::fits_small` meets its contract: it answers yes only if `fits` does.
 use mathlib.Core.Path.{_∙_, sym}
 use mathlib.Core.Path.{_≡_}
 use native.Mathlib.Omega.{arith}
 use Prim.Native.Nat.{ℕ}
 use borrow.Author.Needs.{needs}
-use Rattle.change.proofs.fits_small.Statement.{statement}
-use Rattle.change.proofs.fits_small.Tie as tie
+use Rattle.change.proofs.fitting.fits_small.Statement.{statement}
+use Rattle.change.proofs.fitting.fits_small.Tie as tie
 
 returns : tie.Need-returns
 returns c = λ e. let z : _≡_ {A = ℕ} 0 1 = cc in absurd (omega arith)

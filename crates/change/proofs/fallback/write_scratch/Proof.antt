@@ -1,9 +1,9 @@
--- `change::rebuilding::write_scratch` meets its contract: the transitions between names as a run of bytes.
+-- `change::fallback::write_scratch` meets its contract: the transitions between names as a run of bytes.
 use native.Mathlib.Omega.{arith}
 use Rattle.change.proofs.Runs.{run-put}
 use borrow.Author.Needs.{needs}
-use Rattle.change.proofs.rebuilding.write_scratch.Statement.{statement}
-use Rattle.change.proofs.rebuilding.write_scratch.Tie as tie
+use Rattle.change.proofs.fallback.write_scratch.Statement.{statement}
+use Rattle.change.proofs.fallback.write_scratch.Tie as tie
 
 no-entries-requires : tie.Need-no-entries-requires
 no-entries-requires c κs = search needs
