@@ -1,9 +1,9 @@
 #!/bin/sh
 # The differential runs with wrong hints. A hint has no contract, so a library whose hints are spoiled is proved as it
 # stands and must give every answer as before: the order of the names is guessed from the wrong end of the heap, the
-# transitions are merged in falling order, a cursor over the uses of a state stops at the uses of every other one, and the
-# transition that gave a state its number is one that cannot have. Run `tools/prove scalebench` before it. It takes a proof
-# of the crates above the hints and the time of the differential runs.
+# transitions are merged in falling order, and the transition that gave a state its number is one that cannot have. Run
+# `tools/prove scalebench` before it. It takes a proof of the crates above the hints and the time of the differential
+# runs.
 set -eu
 cd "$(dirname "$0")/.."
 folder=$(mktemp -d)
@@ -26,8 +26,6 @@ spoil numbering/src/heap.rt 'if !is_before(head, args, room[parent], spare[paren
 spoil numbering/src/sorting.rt '    is_before(heads[i], args[i], heads[j], args[j])' \
     '    is_before(heads[j], args[j], heads[i], args[i])'
 spoil numbering/src/givers.rt 'if top_argument(transitions, at) >= out {' 'if top_argument(transitions, at) < out {'
-spoil uses/src/swapping.rt 'if arg_of(transitions, TRANSITION_BYTES * i, k) == q {' \
-    'if arg_of(transitions, TRANSITION_BYTES * i, k) != q {'
 cd "$folder"
 rt staticlib scalebench >staticlib.log 2>&1 || { cat staticlib.log; exit 1; }
 CARGO_TARGET_DIR=$folder/target/cargo cargo run --quiet --release --offline --manifest-path differential/Cargo.toml
