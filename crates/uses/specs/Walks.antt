@@ -47,7 +47,7 @@ pub record Paired (s : List ℕ) (c k p q to i x : ℕ) : Type 0 where
   pub first : stepAt s c (transitionBytes * i) k q ≡ outOf s (transitionBytes * i)
   pub second : stepAt s c (transitionBytes * x) k p ≡ outOf s (transitionBytes * x)
 
--- a step of the walk from i and x to j and y; it goes on if it is right
+-- a step of the walk from i and x to j and y; a right one passes at least one use
 pub record Stepped (a : Arrays) (s : List ℕ) (c k p q to i x j y : ℕ) (right : Bool) : Type 0 where
   pub first-inside : j ≤ to
   pub second-inside : y ≤ to

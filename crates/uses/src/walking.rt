@@ -1,5 +1,5 @@
-// The uses of two states walked in step, one place after another. In most states that are used alike the uses come in
-// pairs, in the same order, so that nothing has to be searched for. A walk that does not end well says nothing.
+// The uses of two states walked in step, one place after another. The uses of most states that are used alike come in
+// pairs, in the same order, so that nothing has to be searched for. A walk that stops before its end says nothing.
 ghost use mathlib.Core.Bool.{true};
 ghost use mathlib.Core.Path.{_≡_};
 ghost use Prim.Native.Nat.{_*_, _+_, _-_, _<_, _^_, _≤_, ℕ};
@@ -28,7 +28,8 @@ use packed::meta_at;
 
 const CHILD_NUMBERS: usize = MAX_NODES * MAX_ARITY;
 
-// Where the walk stands: at transition i for the first state and at x for the second, if the step was right.
+// Where a step leaves the walk: at transition i for the first state and at x for the second. The step is not right if
+// neither could be passed.
 struct Stand {
     i: usize,
     x: usize,
