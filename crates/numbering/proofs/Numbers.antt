@@ -119,6 +119,10 @@ pub positive : (x : ℕ) → (x ≡ 0 → ⊥) → 1 ≤ x
 positive zero h = absurd (h refl)
 positive (suc x) h = omega arith
 
+-- the digit by which w is longer than v is not 0
+abbrev pub adds : ℕ → ℕ → Bool
+adds v w = not (eqb w (256 * v))
+
 -- the first k of n arguments have their numbers as digits, and each of them has one if `whole` says so
 pub record ArgsRenamed (numbers : List ℕ) (a n : ℕ) (whole : Bool) (v k : ℕ) : Type 0 where
   pub within : k ≤ n
@@ -132,7 +136,7 @@ renamed-start numbers a n =
 
 pub renamed-next : {numbers : List ℕ} {a n : ℕ} {whole : Bool} {v k : ℕ} → ArgsRenamed numbers a n whole v k → k < n →
     {w : ℕ} → w ≡ byteValues * v + numberAt numbers a k → w < byteValues * v + byteValues →
-    ArgsRenamed numbers a n (whole && not (eqb w (256 * v))) w (k + 1)
+    ArgsRenamed numbers a n (whole && adds v w) w (k + 1)
 renamed-next {numbers} {a} {n} {whole} {v} {k} inv l {w} e small = record {
   within = omega arith;
   packed =
@@ -143,6 +147,11 @@ renamed-next {numbers} {a} {n} {whole} {v} {k} inv l {w} e small = record {
   has = λ both. below-more (λ j. 1 ≤ numberAt numbers a j) k (inv .has (and-left whole _ both))
       (omega (arith, e, eqb-false w (256 * v) (not-true (eqb w (256 * v)) (and-right whole _ both))));
 }
+
+-- four tests after others, in a row or by themselves
+pub in-a-row : (p q r s t : Bool) → (p && (((q && r) && s) && t)) ≡ true → ((((p && q) && r) && s) && t) ≡ true
+in-a-row true q r s t e = e
+in-a-row false q r s t e = e
 
 -- all of them do
 pub renamed-end : {numbers : List ℕ} {a n : ℕ} {whole : Bool} {v k : ℕ} → ArgsRenamed numbers a n whole v k → n ≤ k →

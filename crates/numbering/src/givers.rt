@@ -61,7 +61,7 @@ pub fn givers_of(transitions: &[u8], count: usize) -> [u16; BYTE_VALUES]
 }
 
 // How many entries had been made after old transition g, counted from 1, and no more than a limit.
-fn end_of(ends: &[u16], g: usize, limit: usize) -> usize
+pub fn end_of(ends: &[u16], g: usize, limit: usize) -> usize
     ensures { λ r. ⌜ r ≤ limit ⌝ }
 {
     if g == 0 {

@@ -8,6 +8,7 @@ mod writing; // the new table
 mod heap; // a heap of transitions
 mod placing; // transitions to their outputs, or to wait
 mod givers; // few transitions to place first
+mod leaves; // leaves, numbered at once
 mod order; // an order of the names, guessed
 
 ghost use mathlib.Core.Bool.{cond, true};

@@ -14,6 +14,7 @@ use crate::reading::name_at;
 use crate::reading::out_of;
 use crate::reading::place_of;
 use format::BYTE_VALUES;
+use format::MAX_ARITY;
 use format::wide;
 use packed::padded;
 
@@ -89,6 +90,27 @@ struct Renamed {
     args: u64,
 }
 
+// All eight arguments with their numbers, without a loop.
+fn rename_all(args: u64, numbers: &[u8; BYTE_VALUES]) -> Renamed
+    ensures { λ r. ⌜ (r .whole ≡ true → (k : ℕ) → k < maxArity → 1 ≤ numberAt (now (numbers .entry)) args k) ⌝ }
+    ensures { λ r. ⌜ r .args ≡ digits (numberAt (now (numbers .entry)) args) 0 maxArity 0 ⌝ }
+{
+    let a = with_number(0, args, 0, numbers);
+    let b = with_number(a, args, 1, numbers);
+    let c = with_number(b, args, 2, numbers);
+    let d = with_number(c, args, 3, numbers);
+    let e = with_number(d, args, 4, numbers);
+    let f = with_number(e, args, 5, numbers);
+    let g = with_number(f, args, 6, numbers);
+    let h = with_number(g, args, 7, numbers);
+    let first = (a != 0) & (b != 256 * a) & (c != 256 * b) & (d != 256 * c);
+    let last = (e != 256 * d) & (f != 256 * e) & (g != 256 * f) & (h != 256 * g);
+    Renamed {
+        whole: first & last,
+        args: h,
+    }
+}
+
 // The first arguments with their numbers. Neighbours mostly have the same number of arguments, so the end of the loop
 // is foreseen.
 fn rename_args(args: u64, arity: usize, numbers: &[u8; BYTE_VALUES]) -> Renamed
@@ -96,6 +118,9 @@ fn rename_args(args: u64, arity: usize, numbers: &[u8; BYTE_VALUES]) -> Renamed
     ensures { λ r. ⌜ (r .whole ≡ true → (k : ℕ) → k < arity → 1 ≤ numberAt (now (numbers .entry)) args k) ⌝ }
     ensures { λ r. ⌜ r .args ≡ padTo arity (digits (numberAt (now (numbers .entry)) args) 0 arity 0) ⌝ }
 {
+    if arity == MAX_ARITY {
+        return rename_all(args, numbers);
+    }
     let mut whole = true;
     let mut v = 0u64;
     let mut k = 0;

@@ -9,14 +9,14 @@ use Rattle.numbering.proofs.order.follow.Statement.{statement}
 use Rattle.numbering.proofs.order.follow.Tie as tie
 
 abbrev Inv-loop : tie.InvT-loop
-Inv-loop heads args count outputs placed numbers₀ lists₀ next₀ bests₀ fresh₀ news₀ room₀ spare₀ order₀ new₀ size₀
-    states₀ turns₀ numbers lists next bests fresh news room spare order new size states turns =
+Inv-loop heads args count outputs given placed numbers₀ lists₀ next₀ bests₀ fresh₀ news₀ room₀ spare₀ order₀ new₀
+    size₀ states₀ turns₀ numbers lists next bests fresh news room spare order new size states turns =
     (turns ≤ count) × (size ≤ length room) × (states ≤ outputs) × (new ≤ 256) × (length order ≡ 256) × (length next ≡
     length next₀) × (length room ≡ length room₀) × Room room spare
 
 abbrev μ-loop : tie.MeasureT-loop
-μ-loop heads args count outputs placed numbers₀ lists₀ next₀ bests₀ fresh₀ news₀ room₀ spare₀ order₀ new₀ size₀
-    states₀ turns₀ numbers lists next bests fresh news room spare order new size states turns =
+μ-loop heads args count outputs given placed numbers₀ lists₀ next₀ bests₀ fresh₀ news₀ room₀ spare₀ order₀ new₀
+    size₀ states₀ turns₀ numbers lists next bests fresh news room spare order new size states turns =
     count - turns
 
 loop-holds : tie.Need-loop-holds Inv-loop μ-loop
@@ -24,12 +24,12 @@ loop-holds c =
     let start = c .before .before .before .before .before in (
       omega arith,
       omega arith,
-      omega arith,
       start .pre .1 .0,
-      start .pre .1 .1 .1 .1 .1,
+      start .pre .1 .1 .0,
+      start .pre .1 .1 .1 .1 .1 .1,
       refl,
       refl,
-      start .pre .1 .1 .1 .1 .0,
+      start .pre .1 .1 .1 .1 .1 .0,
     )
 
 same-length : tie.Need-same-length Inv-loop μ-loop
@@ -55,7 +55,7 @@ push-new-requires c κs =
     let at-others = c .before .before .before .before .before .before in
     let at-loop = at-others .before .before .before .before .before .before in
     let start = at-loop .before .before .before .before .before .before in (
-      start .pre .1 .1 .0,
+      start .pre .1 .1 .1 .0,
       (
         omega (arith, at-others .others .ensures, at-loop .loop .inv .3),
         (
@@ -90,7 +90,7 @@ same-length-6 c =
       at-push-new .push-new .kept,
       at-loop .loop .inv .6,
       at-loop .loop .inv .7,
-      start .pre .1 .1 .1 .1 .0,
+      start .pre .1 .1 .1 .1 .1 .0,
     )
 
 returns-2 : tie.Need-returns-2 Inv-loop μ-loop
@@ -178,11 +178,11 @@ place-list-requires c κs =
     let start = at-loop .before .before .before .before .before .before in (
       at-next-name .next-name .ensures .0,
       (
-        start .pre .1 .1 .0,
+        start .pre .1 .1 .1 .0,
         omega (
           arith,
           at-loop .loop .inv .5,
-          start .pre .1 .1 .1 .0,
+          start .pre .1 .1 .1 .1 .0,
         ),
       ),
     )

@@ -1,0 +1,101 @@
+-- `numbering::renumbering::rename_all` meets its contract: each place is one digit more.
+use native.Mathlib.Omega.{arith}
+use mathlib.Core.Bool.{_&&_}
+use Rattle.format.specs.Format.{maxArity}
+use Rattle.numbering.proofs.Numbers.{adds, in-a-row, renamed-next, renamed-start}
+use borrow.Author.Needs.{needs}
+use Rattle.numbering.proofs.renumbering.rename_all.Statement.{statement}
+use Rattle.numbering.proofs.renumbering.rename_all.Tie as tie
+
+with-number-requires : tie.Need-with-number-requires
+with-number-requires c κs = search needs
+
+with-number-requires-2 : tie.Need-with-number-requires-2
+with-number-requires-2 c κs = search needs
+
+with-number-requires-3 : tie.Need-with-number-requires-3
+with-number-requires-3 c κs = search needs
+
+with-number-requires-4 : tie.Need-with-number-requires-4
+with-number-requires-4 c κs = search needs
+
+with-number-requires-5 : tie.Need-with-number-requires-5
+with-number-requires-5 c κs = search needs
+
+with-number-requires-6 : tie.Need-with-number-requires-6
+with-number-requires-6 c κs = search needs
+
+with-number-requires-7 : tie.Need-with-number-requires-7
+with-number-requires-7 c κs = search needs
+
+with-number-requires-8 : tie.Need-with-number-requires-8
+with-number-requires-8 c κs = search needs
+
+mul-first : tie.Need-mul-first
+mul-first c = search needs
+
+mul-first-2 : tie.Need-mul-first-2
+mul-first-2 c = search needs
+
+mul-first-3 : tie.Need-mul-first-3
+mul-first-3 c = search needs
+
+mul-last : tie.Need-mul-last
+mul-last c = search needs
+
+mul-last-2 : tie.Need-mul-last-2
+mul-last-2 c = search needs
+
+mul-last-3 : tie.Need-mul-last-3
+mul-last-3 c = search needs
+
+mul-last-4 : tie.Need-mul-last-4
+mul-last-4 c = search needs
+
+returns : tie.Need-returns
+returns c =
+    let s = c .before .before .before .before .before .before .before .before .args in
+    let start = renamed-start (s .numbers .now) (s .args) maxArity in
+    let w1 = c .before .before .before .before .before .before .before .with-number in
+    let r1 = renamed-next start (omega arith) (w1 .ensures .0) (w1 .ensures .1) in
+    let w2 = c .before .before .before .before .before .before .with-number2 in
+    let r2 = renamed-next r1 (omega arith) (w2 .ensures .0) (w2 .ensures .1) in
+    let w3 = c .before .before .before .before .before .with-number3 in
+    let r3 = renamed-next r2 (omega arith) (w3 .ensures .0) (w3 .ensures .1) in
+    let w4 = c .before .before .before .before .with-number4 in
+    let r4 = renamed-next r3 (omega arith) (w4 .ensures .0) (w4 .ensures .1) in
+    let w5 = c .before .before .before .with-number5 in
+    let r5 = renamed-next r4 (omega arith) (w5 .ensures .0) (w5 .ensures .1) in
+    let w6 = c .before .before .with-number6 in
+    let r6 = renamed-next r5 (omega arith) (w6 .ensures .0) (w6 .ensures .1) in
+    let w7 = c .before .with-number7 in
+    let r7 = renamed-next r6 (omega arith) (w7 .ensures .0) (w7 .ensures .1) in
+    let w8 = c .with-number8 in
+    let r8 = renamed-next r7 (omega arith) (w8 .ensures .0) (w8 .ensures .1) in
+    let first =
+    adds 0 (w1 .result) && adds (w1 .result) (w2 .result) && adds (w2 .result) (w3 .result)
+    && adds (w3 .result) (w4 .result) in
+    let row = in-a-row first (adds (w4 .result) (w5 .result)) (adds (w5 .result) (w6 .result))
+    (adds (w6 .result) (w7 .result)) (adds (w7 .result) (w8 .result)) in
+    (λ whole. r8 .has (row whole), r8 .packed)
+
+pub rename-all-spec : {M : Type 1} → statement M
+rename-all-spec =
+    tie.close
+    (tie.spec
+    with-number-requires
+    with-number-requires-2
+    with-number-requires-3
+    with-number-requires-4
+    with-number-requires-5
+    with-number-requires-6
+    with-number-requires-7
+    with-number-requires-8
+    mul-first
+    mul-first-2
+    mul-first-3
+    mul-last
+    mul-last-2
+    mul-last-3
+    mul-last-4
+    returns)
