@@ -1,7 +1,7 @@
 -- What a change hands to the crates below: the arrays of the subtrees and their names, and the kept names as chains.
 use mathlib.Core.Bool.{Bool, false, true}
 use mathlib.Core.List.{List}
-use mathlib.Core.Path.{_∙_, _≡_, ap, refl, subst, sym}
+use mathlib.Core.Path.{_∙_, _≡_, ap, refl, sym}
 use Prim.Native.Nat.{_+_, _-_, _<_, _≤_, suc, zero, ℕ}
 use native.Mathlib.Omega.{arith}
 use lib.Dec.{leb, ltb}
@@ -111,17 +111,12 @@ between-few {inserting} {t} {b} {k} {n} {r} {o} {names} N limit e =
 
 -- a table has room, and the classes stand beside
 pub fitting : {inserting : Bool} {t : Tree} {b : List ℕ} {k n : ℕ} {r : Subtrees} {o names firsts nexts sizes cl : List ℕ}
-    {root : ℕ} {f : Bool} → Named inserting t b k n r o names →
-    KeptAbove n (r .count) o (r .states) names 0 firsts nexts sizes → root ≡ r .root →
-    Classed (classOfName b n (r .states) (n + root) inserting) (n + r .count) cl →
+    {f : Bool} → Named inserting t b k n r o names →
+    KeptAbove n (r .count) o (r .states) names 0 firsts nexts sizes →
+    Classed (classOfName b n (r .states) (n + r .count) inserting) (n + r .count) cl →
     f ≡ fitsTable (changedAutomaton inserting t (decode b)) → f ≡ true →
     Fitting inserting t b k n r o names firsts nexts cl
-fitting {inserting} {t} {b} {k} {n} {r} {o} {names} {firsts} {nexts} {sizes} {cl} N K own C e h = record {
-  named = N;
-  chained = K .chained;
-  classed = subst (λ (x : ℕ). Classed (classOfName b n (r .states) (n + x) inserting) (n + r .count) cl) own C;
-  fits = sym e ∙ h;
-}
+fitting N K C e h = record { named = N; chained = K .chained; classed = C; fits = sym e ∙ h }
 
 pub table-size : {b : List ℕ} (A : Automaton) → b ≡ encode A → length b ≡ tableBytes
 table-size A e = ap length e ∙ encode-length A

@@ -2,9 +2,8 @@
 use mathlib.Core.Bool.{Bool, cond, true}
 use mathlib.Core.List.{List}
 use mathlib.Core.Path.{_∙_, _≡_, ap, subst, sym}
-use Prim.Native.Nat.{_*_, _+_, _<_, _≤_, ℕ}
+use Prim.Native.Nat.{_*_, _<_, ℕ}
 use native.Mathlib.Omega.{arith}
-use lib.ListN.{getD}
 use Rattle.alike.specs.Known.{Holds, Shaped}
 use Rattle.automata.specs.Automaton.{Automaton, Transition, accepts}
 use Rattle.automata.specs.NamedChange.{changedSet}
@@ -13,10 +12,10 @@ use Rattle.change.specs.Given.{Given}
 use Rattle.format.specs.Format.{headBytes, transitionBytes}
 use Rattle.naming.specs.Classes.{Changed, Classed, ClassesIn, Rooted}
 use Rattle.naming.specs.Known.{Known, Sized}
-use Rattle.packed.specs.Packed.{HoldsPadded, Padded, Searchable}
+use Rattle.packed.specs.Packed.{Padded, Searchable}
 use Rattle.pairs.specs.Counts.{PairsCounted}
 use Rattle.subtrees.specs.Store.{Subtrees, bottomUp}
-use Rattle.table.specs.Layout.{body, decode, transitionCount, transitionsIn}
+use Rattle.table.specs.Layout.{decode}
 use Rattle.trees.specs.Tree.{Tree}
 use Rattle.change.proofs.Inputs.{given-few, given-fits, given-layout, given-over, given-setting, given-size}
 use Rattle.change.proofs.Inputs.{given-states}
@@ -74,10 +73,8 @@ module _ {t : Tree} {b : List ℕ} {k n : ℕ} {r : Subtrees} (g : Given t b k n
     each = λ q h. decoded-class b q (h .0) (omega (arith, h .1, decoded-states b));
   }
 
-  pub given-rooted : {root : ℕ} → root ≡ r .root → Rooted t (bottomUp t) (r .count) root
-  given-rooted e =
-      subst (Rooted t (bottomUp t) (r .count)) (sym e)
-      record { some = g .lists .root-some; known = g .lists .root-known; whole = g .lists .root }
+  pub given-rooted : Rooted t (bottomUp t) (r .count) (r .count)
+  given-rooted = record { some = g .lists .some; known = omega arith; whole = g .lists .last }
 
   pub given-known : {S : Tree → Bool} {f : Bool} {o w cl : List ℕ} → PairsCounted (decode b) t f o w →
       Classed S (bottomUp t) (r .count) cl →

@@ -49,20 +49,20 @@ module _ {t : Tree} {b : List ℕ} {k n : ℕ} {r : Subtrees} (g : Given t b k n
   A = decode b
 
   -- the tree itself has its own number, and no other
-  own-test : (j : ℕ) → 1 ≤ j → j ≤ r .count → eqTree (treeNumbered (bottomUp t) j) t ≡ eqb j (r .root)
-  own-test j h l = go (eqb j (r .root)) refl
+  own-test : (j : ℕ) → 1 ≤ j → j ≤ r .count → eqTree (treeNumbered (bottomUp t) j) t ≡ eqb j (r .count)
+  own-test j h l = go (eqb j (r .count)) refl
     where
-      go : (d : Bool) → eqb j (r .root) ≡ d → eqTree (treeNumbered (bottomUp t) j) t ≡ d
+      go : (d : Bool) → eqb j (r .count) ≡ d → eqTree (treeNumbered (bottomUp t) j) t ≡ d
       go true e =
-          ap (λ (i : ℕ). eqTree (treeNumbered (bottomUp t) i) t) (eqb-true j (r .root) e)
-          ∙ ap (λ (u : Tree). eqTree u t) (g .lists .root) ∙ eqTree-same t
+          ap (λ (i : ℕ). eqTree (treeNumbered (bottomUp t) i) t) (eqb-true j (r .count) e)
+          ∙ ap (λ (u : Tree). eqTree u t) (g .lists .last) ∙ eqTree-same t
       go false e = no (eqTree (treeNumbered (bottomUp t) j) t) refl
         where
           no : (d : Bool) → eqTree (treeNumbered (bottomUp t) j) t ≡ d → d ≡ false
           no true d =
-              absurd (eqb-false j (r .root) e
-              (number-inj (g .lists) j (r .root) h l (g .lists .root-some) (g .lists .root-known)
-              (eqTree-true (treeNumbered (bottomUp t) j) t d ∙ sym (g .lists .root))))
+              absurd (eqb-false j (r .count) e
+              (number-inj (g .lists) j (r .count) h l (g .lists .some) (omega arith)
+              (eqTree-true (treeNumbered (bottomUp t) j) t d ∙ sym (g .lists .last))))
           no false d = refl
 
   state-class : (j : ℕ) → 1 ≤ j → j ≤ r .count →
@@ -74,18 +74,18 @@ module _ {t : Tree} {b : List ℕ} {k n : ℕ} {r : Subtrees} (g : Given t b k n
       ∙ ap (accepting A) e
 
   pub name-class : (p : ℕ) → p ≤ n + r .count →
-      classOfName b n (r .states) (n + r .root) inserting p ≡
+      classOfName b n (r .states) (n + r .count) inserting p ≡
       nameClass (decode b) (bottomUp t) (changedSet inserting (decode b) t) p
   unfolding classOfName nameClass
   name-class p h = go (leb p n) refl
     where
       go : (c : Bool) → leb p n ≡ c →
-          classOfName b n (r .states) (n + r .root) inserting p ≡
+          classOfName b n (r .states) (n + r .count) inserting p ≡
           nameClass A (bottomUp t) (changedSet inserting A t) p
       go true e =
           let l = leb-true p n e in
           rw (
-            ne-eqb p (n + r .root) (λ d. omega (arith, g .lists .root-some)),
+            ne-eqb p (n + r .count) (λ d. omega (arith, g .lists .some)),
             e,
             le-leb p (states A) (omega (arith, given-states g)),
           )
@@ -97,9 +97,9 @@ module _ {t : Tree} {b : List ℕ} {k n : ℕ} {r : Subtrees} (g : Given t b k n
           (ap₂ (λ (c x : Bool). cond c inserting x) (same l) (state-class (p - n) (omega arith) (omega arith))
           ∙ sym (chosen inserting A t (treeNumbered (bottomUp t) (p - n))))
         where
-          shift : n < p → (d : Bool) → eqb (p - n) (r .root) ≡ d → eqb p (n + r .root) ≡ d
-          shift l true d = eq-eqb p (n + r .root) (let z = eqb-true (p - n) (r .root) d in omega arith)
-          shift l false d = ne-eqb p (n + r .root) (λ z. eqb-false (p - n) (r .root) d (omega arith))
+          shift : n < p → (d : Bool) → eqb (p - n) (r .count) ≡ d → eqb p (n + r .count) ≡ d
+          shift l true d = eq-eqb p (n + r .count) (let z = eqb-true (p - n) (r .count) d in omega arith)
+          shift l false d = ne-eqb p (n + r .count) (λ z. eqb-false (p - n) (r .count) d (omega arith))
 
-          same : n < p → eqb p (n + r .root) ≡ eqTree (treeNumbered (bottomUp t) (p - n)) t
-          same l = shift l (eqb (p - n) (r .root)) refl ∙ sym (own-test (p - n) (omega arith) (omega arith))
+          same : n < p → eqb p (n + r .count) ≡ eqTree (treeNumbered (bottomUp t) (p - n)) t
+          same l = shift l (eqb (p - n) (r .count)) refl ∙ sym (own-test (p - n) (omega arith) (omega arith))

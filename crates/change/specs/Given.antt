@@ -60,7 +60,7 @@ pub record Fitting (inserting : Bool) (t : Tree) (b : List ℕ) (k n : ℕ) (r :
     (o names firsts nexts cl : List ℕ) : Type 0 where
   pub named : Named inserting t b k n r o names
   pub chained : Chained n (r .count) o (r .states) names 0 firsts nexts
-  pub classed : Classed (classOfName b n (r .states) (n + r .root) inserting) (n + r .count) cl
+  pub classed : Classed (classOfName b n (r .states) (n + r .count) inserting) (n + r .count) cl
   pub fits : fitsTable (changedAutomaton inserting t (decode b)) ≡ true
 
 -- some change of some tree does, with no more transitions between names than a limit

@@ -56,13 +56,12 @@ fn own_class(accepting: bool) -> u8
     0
 }
 
-// Fills in the classes of the names 1 to n + m, each at the byte of its number.
+// Fills in the classes of the names 1 to n + m, each at the byte of its number. The last is that of the tree itself.
 pub fn classify_names(
     table: &[u8],
     n: usize,
     m: usize,
     states: &[u8; MAX_NODES],
-    own: usize,
     inserting: bool,
     classes: &mut [u8; BYTE_VALUES],
 )
@@ -70,12 +69,12 @@ pub fn classify_names(
     requires { ⌜ n ≤ maxStates ⌝ }
     requires { ⌜ m ≤ maxNodes ⌝ }
     requires { ⌜ length (now classes) ≡ byteValues ⌝ }
-    ensures { λ _. ⌜ Classed (classOfName (now (table .entry)) n (now (states .entry)) own inserting) (n + m) (now
-        (classes .exit)) ⌝ }
+    ensures { λ _. ⌜ Classed (classOfName (now (table .entry)) n (now (states .entry)) (n + m) inserting) (n + m)
+        (now (classes .exit)) ⌝ }
 {
     let mut p = 1;
     while p <= n + m {
-        classes[p] = class_of(table, n, states, own, inserting, p);
+        classes[p] = class_of(table, n, states, n + m, inserting, p);
         p += 1;
     }
 }

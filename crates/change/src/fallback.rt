@@ -27,7 +27,6 @@ fn write_scratch(
     count: usize,
     n: usize,
     m: usize,
-    root: u8,
     labels: &[u16; MAX_NODES],
     arities: &[u8; MAX_NODES],
     children: &[u8; CHILD_NUMBERS],
@@ -37,11 +36,11 @@ fn write_scratch(
     nexts: &[u8; BYTE_VALUES],
     scratch: &mut [u8],
 ) -> usize
-    requires { ⌜ SomeFitting (now table) count n (arrays m root (now labels) (now arities) (now children) (now
+    requires { ⌜ SomeFitting (now table) count n (arrays m (now labels) (now arities) (now children) (now
         states)) (now names) (now firsts) (now nexts) maxTransitions ⌝ }
     requires { ⌜ length (now scratch) ≡ scratchBytes ⌝ }
     ensures { λ r. ⌜ ((inserting : Bool) (t : Tree) (o cl : List ℕ) → Fitting inserting t (now (table .entry)) count
-        n (arrays m root (now (labels .entry)) (now (arities .entry)) (now (children .entry)) (now (states .entry))) o
+        n (arrays m (now (labels .entry)) (now (arities .entry)) (now (children .entry)) (now (states .entry))) o
         (now (names .entry)) (now (firsts .entry)) (now (nexts .entry)) cl →
         Run t (now (table .entry)) (now (names .entry)) (now (scratch .exit)) r (n + m)) ⌝ }
 {
@@ -53,7 +52,6 @@ fn write_scratch(
         count,
         n,
         m,
-        root,
         labels,
         arities,
         children,
@@ -76,7 +74,6 @@ pub fn renumber_table(
     count: usize,
     n: usize,
     m: usize,
-    root: u8,
     labels: &[u16; MAX_NODES],
     arities: &[u8; MAX_NODES],
     children: &[u8; CHILD_NUMBERS],
@@ -86,11 +83,11 @@ pub fn renumber_table(
     nexts: &[u8; BYTE_VALUES],
     classes: &[u8; BYTE_VALUES],
 )
-    requires { ⌜ SomeFitting (now table) count n (arrays m root (now labels) (now arities) (now children) (now
+    requires { ⌜ SomeFitting (now table) count n (arrays m (now labels) (now arities) (now children) (now
         states)) (now names) (now firsts) (now nexts) maxTransitions ⌝ }
     requires { ⌜ length (now scratch) ≡ scratchBytes ⌝ }
     ensures { λ _. ⌜ ((inserting : Bool) (t : Tree) (o : List ℕ) → Fitting inserting t (now (table .entry)) count n
-        (arrays m root (now (labels .entry)) (now (arities .entry)) (now (children .entry)) (now (states .entry))) o
+        (arrays m (now (labels .entry)) (now (arities .entry)) (now (children .entry)) (now (states .entry))) o
         (now (names .entry)) (now (firsts .entry)) (now (nexts .entry)) (now (classes .entry)) →
         now (table .exit) ≡ encode (changedAutomaton inserting t (decode (now (table .entry))))) ⌝ }
 {
@@ -99,7 +96,6 @@ pub fn renumber_table(
         count,
         n,
         m,
-        root,
         labels,
         arities,
         children,

@@ -25,7 +25,6 @@ fn fits(
     count: usize,
     n: usize,
     m: usize,
-    root: u8,
     labels: &[u16; MAX_NODES],
     arities: &[u8; MAX_NODES],
     children: &[u8; CHILD_NUMBERS],
@@ -35,12 +34,11 @@ fn fits(
     sizes: &[u8; BYTE_VALUES],
     limit: usize,
 ) -> bool
-    requires { ⌜ SomeGiven (now table) count n (arrays m root (now labels) (now arities) (now children) (now states))
-        ⌝ }
+    requires { ⌜ SomeGiven (now table) count n (arrays m (now labels) (now arities) (now children) (now states)) ⌝ }
     requires { ⌜ maxNodes ≤ limit ⌝ }
     requires { ⌜ limit ≤ maxTransitions ⌝ }
     ensures { λ r. ⌜ ((inserting : Bool) (t : Tree) (firsts nexts : List ℕ) →
-        Named inserting t (now (table .entry)) count n (arrays m root (now (labels .entry)) (now (arities .entry))
+        Named inserting t (now (table .entry)) count n (arrays m (now (labels .entry)) (now (arities .entry))
         (now (children .entry)) (now (states .entry))) (now (opens .entry)) (now (names .entry)) →
         KeptAbove n (m) (now (opens .entry)) (now (states .entry)) (now (names .entry)) 0 firsts nexts (now
         (sizes .entry)) →
@@ -68,7 +66,6 @@ fn fits_small(
     count: usize,
     n: usize,
     m: usize,
-    root: u8,
     labels: &[u16; MAX_NODES],
     arities: &[u8; MAX_NODES],
     children: &[u8; CHILD_NUMBERS],
@@ -77,10 +74,9 @@ fn fits_small(
     opens: &[u8; BYTE_VALUES],
     sizes: &[u8; BYTE_VALUES],
 ) -> bool
-    requires { ⌜ SomeGiven (now table) count n (arrays m root (now labels) (now arities) (now children) (now states))
-        ⌝ }
+    requires { ⌜ SomeGiven (now table) count n (arrays m (now labels) (now arities) (now children) (now states)) ⌝ }
     ensures { λ r. ⌜ (r ≡ true → (inserting : Bool) (t : Tree) (firsts nexts : List ℕ) →
-        Named inserting t (now (table .entry)) count n (arrays m root (now (labels .entry)) (now (arities .entry))
+        Named inserting t (now (table .entry)) count n (arrays m (now (labels .entry)) (now (arities .entry))
         (now (children .entry)) (now (states .entry))) (now (opens .entry)) (now (names .entry)) →
         KeptAbove n (m) (now (opens .entry)) (now (states .entry)) (now (names .entry)) 0 firsts nexts (now
         (sizes .entry)) →
@@ -94,7 +90,6 @@ fn fits_small(
         count,
         n,
         m,
-        root,
         labels,
         arities,
         children,
@@ -117,7 +112,6 @@ pub fn fit_of(
     count: usize,
     n: usize,
     m: usize,
-    root: u8,
     labels: &[u16; MAX_NODES],
     arities: &[u8; MAX_NODES],
     children: &[u8; CHILD_NUMBERS],
@@ -126,10 +120,9 @@ pub fn fit_of(
     opens: &[u8; BYTE_VALUES],
     sizes: &[u8; BYTE_VALUES],
 ) -> Fit
-    requires { ⌜ SomeGiven (now table) count n (arrays m root (now labels) (now arities) (now children) (now states))
-        ⌝ }
+    requires { ⌜ SomeGiven (now table) count n (arrays m (now labels) (now arities) (now children) (now states)) ⌝ }
     ensures { λ r. ⌜ ((inserting : Bool) (t : Tree) (firsts nexts : List ℕ) →
-        Named inserting t (now (table .entry)) count n (arrays m root (now (labels .entry)) (now (arities .entry))
+        Named inserting t (now (table .entry)) count n (arrays m (now (labels .entry)) (now (arities .entry))
         (now (children .entry)) (now (states .entry))) (now (opens .entry)) (now (names .entry)) →
         KeptAbove n (m) (now (opens .entry)) (now (states .entry)) (now (names .entry)) 0 firsts nexts (now
         (sizes .entry)) →
@@ -140,7 +133,6 @@ pub fn fit_of(
         count,
         n,
         m,
-        root,
         labels,
         arities,
         children,
@@ -159,7 +151,6 @@ pub fn fit_of(
         count,
         n,
         m,
-        root,
         labels,
         arities,
         children,

@@ -54,7 +54,6 @@ fn name(
     count: usize,
     n: usize,
     m: usize,
-    root: u8,
     labels: &[u16; MAX_NODES],
     arities: &[u8; MAX_NODES],
     children: &[u8; CHILD_NUMBERS],
@@ -64,16 +63,15 @@ fn name(
     inserting: bool,
     names: &mut [u8; MAX_NODES],
 )
-    requires { ⌜ SomeGiven (now table) count n (arrays m root (now labels) (now arities) (now children) (now states))
-        ⌝ }
-    ensures { λ _. ⌜ ((t : Tree) → Given t (now (table .entry)) count n (arrays m root (now (labels .entry))
+    requires { ⌜ SomeGiven (now table) count n (arrays m (now labels) (now arities) (now children) (now states)) ⌝ }
+    ensures { λ _. ⌜ ((t : Tree) → Given t (now (table .entry)) count n (arrays m (now (labels .entry))
         (now (arities .entry)) (now (children .entry)) (now (states .entry))) →
         PairsCounted (decode (now (table .entry))) t true (now (opens .entry)) (now (weights .entry)) →
-        Named inserting t (now (table .entry)) count n (arrays m root (now (labels .entry)) (now (arities .entry))
+        Named inserting t (now (table .entry)) count n (arrays m (now (labels .entry)) (now (arities .entry))
         (now (children .entry)) (now (states .entry))) (now (opens .entry)) (now (names .exit))) ⌝ }
 {
     let mut classes = [0u8; MAX_NODES];
-    classify(table, m, states, wide(root), inserting, &mut classes);
+    classify(table, m, states, m, inserting, &mut classes);
     let mut lows = [0u16; BYTE_VALUES];
     let mut lasts = [0u16; BYTE_VALUES];
     note_uses(&table[HEAD_BYTES..], count, &mut lows, &mut lasts);
@@ -116,7 +114,6 @@ fn apply(
     count: usize,
     n: usize,
     m: usize,
-    root: u8,
     labels: &[u16; MAX_NODES],
     arities: &[u8; MAX_NODES],
     children: &[u8; CHILD_NUMBERS],
@@ -125,13 +122,12 @@ fn apply(
     weights: &[u8; BYTE_VALUES],
     inserting: bool,
 ) -> Answer
-    requires { ⌜ SomeGiven (now table) count n (arrays m root (now labels) (now arities) (now children) (now states))
-        ⌝ }
+    requires { ⌜ SomeGiven (now table) count n (arrays m (now labels) (now arities) (now children) (now states)) ⌝ }
     requires { ⌜ length (now scratch) ≡ scratchBytes ⌝ }
-    requires { ⌜ ((t : Tree) → Given t (now table) count n (arrays m root (now labels) (now arities) (now children)
+    requires { ⌜ ((t : Tree) → Given t (now table) count n (arrays m (now labels) (now arities) (now children)
         (now states)) →
         PairsCounted (decode (now table)) t true (now opens) (now weights)) ⌝ }
-    ensures { λ r. ⌜ ((t : Tree) → Given t (now (table .entry)) count n (arrays m root (now (labels .entry))
+    ensures { λ r. ⌜ ((t : Tree) → Given t (now (table .entry)) count n (arrays m (now (labels .entry))
         (now (arities .entry)) (now (children .entry)) (now (states .entry))) →
         Worked (changeOf inserting t) (now (table .entry)) (now (table .exit)) r) ⌝ }
 {
@@ -141,7 +137,6 @@ fn apply(
         count,
         n,
         m,
-        root,
         labels,
         arities,
         children,
@@ -169,7 +164,6 @@ fn apply(
         count,
         n,
         m,
-        root,
         labels,
         arities,
         children,
@@ -181,16 +175,14 @@ fn apply(
     if !fit.fits {
         return Answer::Refused { number: 17 };
     }
-    let own = n + wide(root);
     let mut classes = [0u8; BYTE_VALUES];
-    classify_names(table, n, m, states, own, inserting, &mut classes);
+    classify_names(table, n, m, states, inserting, &mut classes);
     replace(
         table,
         scratch,
         count,
         n,
         m,
-        root,
         labels,
         arities,
         children,
@@ -225,7 +217,7 @@ fn work(
     let mut arities = [0u8; MAX_NODES];
     let mut children = [0u8; CHILD_NUMBERS];
     let mut states = [0u8; MAX_NODES];
-    let found = collect(
+    let m = collect(
         tree,
         reached,
         &mut labels,
@@ -233,8 +225,6 @@ fn work(
         &mut children,
         &mut states,
     );
-    let m = found.count;
-    let root = found.root;
     let mut opens = [0u8; BYTE_VALUES];
     let mut weights = [0u8; BYTE_VALUES];
     if !count_pairs(
@@ -253,7 +243,6 @@ fn work(
         count,
         n,
         m,
-        root,
         &labels,
         &arities,
         &children,

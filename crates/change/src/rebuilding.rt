@@ -33,7 +33,6 @@ pub fn make_all(
     count: usize,
     n: usize,
     m: usize,
-    root: u8,
     labels: &[u16; MAX_NODES],
     arities: &[u8; MAX_NODES],
     children: &[u8; CHILD_NUMBERS],
@@ -45,11 +44,11 @@ pub fn make_all(
     args: &mut [u64],
     ends: &mut [u16],
 ) -> usize
-    requires { ⌜ SomeFitting (now table) count n (arrays m root (now labels) (now arities) (now children) (now
+    requires { ⌜ SomeFitting (now table) count n (arrays m (now labels) (now arities) (now children) (now
         states)) (now names) (now firsts) (now nexts) (length (now heads)) ⌝ }
     requires { ⌜ Room (now heads) (now args) ⌝ }
     ensures { λ r. ⌜ ((inserting : Bool) (t : Tree) (o cl : List ℕ) → Fitting inserting t (now (table .entry)) count
-        n (arrays m root (now (labels .entry)) (now (arities .entry)) (now (children .entry)) (now (states .entry))) o
+        n (arrays m (now (labels .entry)) (now (arities .entry)) (now (children .entry)) (now (states .entry))) o
         (now (names .entry)) (now (firsts .entry)) (now (nexts .entry)) cl →
         Packed t (now (table .entry)) (now (names .entry)) (now (heads .exit)) (now (args .exit)) r) ⌝ }
 {
@@ -78,7 +77,6 @@ fn rebuild_in(
     count: usize,
     n: usize,
     m: usize,
-    root: u8,
     labels: &[u16; MAX_NODES],
     arities: &[u8; MAX_NODES],
     children: &[u8; CHILD_NUMBERS],
@@ -95,7 +93,7 @@ fn rebuild_in(
     ends: &mut [u16],
     few: bool,
 ) -> bool
-    requires { ⌜ SomeFitting (now table) count n (arrays m root (now labels) (now arities) (now children) (now
+    requires { ⌜ SomeFitting (now table) count n (arrays m (now labels) (now arities) (now children) (now
         states)) (now names) (now firsts) (now nexts) (length (now heads)) ⌝ }
     requires { ⌜ Room (now heads) (now args) ⌝ }
     requires { ⌜ Room (now room) (now spare) ⌝ }
@@ -103,7 +101,7 @@ fn rebuild_in(
     requires { ⌜ length (now next) ≡ length (now heads) ⌝ }
     requires { ⌜ length (now classes) ≡ byteValues ⌝ }
     ensures { λ r. ⌜ ((inserting : Bool) (t : Tree) (o : List ℕ) → Fitting inserting t (now (table .entry)) count n
-        (arrays m root (now (labels .entry)) (now (arities .entry)) (now (children .entry)) (now (states .entry))) o
+        (arrays m (now (labels .entry)) (now (arities .entry)) (now (children .entry)) (now (states .entry))) o
         (now (names .entry)) (now (firsts .entry)) (now (nexts .entry)) (now (classes .entry)) →
         now (table .exit) ≡ cond r (encode (changedAutomaton inserting t (decode (now (table .entry)))))
         (now (table .entry))) ⌝ }
@@ -114,7 +112,6 @@ fn rebuild_in(
         count,
         n,
         m,
-        root,
         labels,
         arities,
         children,
@@ -150,7 +147,6 @@ fn rebuild_small(
     count: usize,
     n: usize,
     m: usize,
-    root: u8,
     labels: &[u16; MAX_NODES],
     arities: &[u8; MAX_NODES],
     children: &[u8; CHILD_NUMBERS],
@@ -161,11 +157,11 @@ fn rebuild_small(
     classes: &[u8; BYTE_VALUES],
     few: bool,
 ) -> bool
-    requires { ⌜ SomeFitting (now table) count n (arrays m root (now labels) (now arities) (now children) (now
+    requires { ⌜ SomeFitting (now table) count n (arrays m (now labels) (now arities) (now children) (now
         states)) (now names) (now firsts) (now nexts) smallTransitions ⌝ }
     requires { ⌜ length (now classes) ≡ byteValues ⌝ }
     ensures { λ r. ⌜ ((inserting : Bool) (t : Tree) (o : List ℕ) → Fitting inserting t (now (table .entry)) count n
-        (arrays m root (now (labels .entry)) (now (arities .entry)) (now (children .entry)) (now (states .entry))) o
+        (arrays m (now (labels .entry)) (now (arities .entry)) (now (children .entry)) (now (states .entry))) o
         (now (names .entry)) (now (firsts .entry)) (now (nexts .entry)) (now (classes .entry)) →
         now (table .exit) ≡ cond r (encode (changedAutomaton inserting t (decode (now (table .entry)))))
         (now (table .entry))) ⌝ }
@@ -182,7 +178,6 @@ fn rebuild_small(
         count,
         n,
         m,
-        root,
         labels,
         arities,
         children,
@@ -207,7 +202,6 @@ fn rebuild_large(
     count: usize,
     n: usize,
     m: usize,
-    root: u8,
     labels: &[u16; MAX_NODES],
     arities: &[u8; MAX_NODES],
     children: &[u8; CHILD_NUMBERS],
@@ -218,11 +212,11 @@ fn rebuild_large(
     classes: &[u8; BYTE_VALUES],
     few: bool,
 ) -> bool
-    requires { ⌜ SomeFitting (now table) count n (arrays m root (now labels) (now arities) (now children) (now
+    requires { ⌜ SomeFitting (now table) count n (arrays m (now labels) (now arities) (now children) (now
         states)) (now names) (now firsts) (now nexts) maxTransitions ⌝ }
     requires { ⌜ length (now classes) ≡ byteValues ⌝ }
     ensures { λ r. ⌜ ((inserting : Bool) (t : Tree) (o : List ℕ) → Fitting inserting t (now (table .entry)) count n
-        (arrays m root (now (labels .entry)) (now (arities .entry)) (now (children .entry)) (now (states .entry))) o
+        (arrays m (now (labels .entry)) (now (arities .entry)) (now (children .entry)) (now (states .entry))) o
         (now (names .entry)) (now (firsts .entry)) (now (nexts .entry)) (now (classes .entry)) →
         now (table .exit) ≡ cond r (encode (changedAutomaton inserting t (decode (now (table .entry)))))
         (now (table .entry))) ⌝ }
@@ -239,7 +233,6 @@ fn rebuild_large(
         count,
         n,
         m,
-        root,
         labels,
         arities,
         children,
@@ -264,7 +257,6 @@ fn rebuild_table(
     count: usize,
     n: usize,
     m: usize,
-    root: u8,
     labels: &[u16; MAX_NODES],
     arities: &[u8; MAX_NODES],
     children: &[u8; CHILD_NUMBERS],
@@ -276,14 +268,14 @@ fn rebuild_table(
     small: bool,
     few: bool,
 ) -> bool
-    requires { ⌜ SomeFitting (now table) count n (arrays m root (now labels) (now arities) (now children) (now
+    requires { ⌜ SomeFitting (now table) count n (arrays m (now labels) (now arities) (now children) (now
         states)) (now names) (now firsts) (now nexts) maxTransitions ⌝ }
-    requires { ⌜ (small ≡ true → SomeFitting (now table) count n (arrays m root (now labels) (now arities) (now
+    requires { ⌜ (small ≡ true → SomeFitting (now table) count n (arrays m (now labels) (now arities) (now
         children) (now states)) (now names) (now firsts) (now nexts)
         smallTransitions) ⌝ }
     requires { ⌜ length (now classes) ≡ byteValues ⌝ }
     ensures { λ r. ⌜ ((inserting : Bool) (t : Tree) (o : List ℕ) → Fitting inserting t (now (table .entry)) count n
-        (arrays m root (now (labels .entry)) (now (arities .entry)) (now (children .entry)) (now (states .entry))) o
+        (arrays m (now (labels .entry)) (now (arities .entry)) (now (children .entry)) (now (states .entry))) o
         (now (names .entry)) (now (firsts .entry)) (now (nexts .entry)) (now (classes .entry)) →
         now (table .exit) ≡ cond r (encode (changedAutomaton inserting t (decode (now (table .entry)))))
         (now (table .entry))) ⌝ }
@@ -295,7 +287,6 @@ fn rebuild_table(
             count,
             n,
             m,
-            root,
             labels,
             arities,
             children,
@@ -312,7 +303,6 @@ fn rebuild_table(
         count,
         n,
         m,
-        root,
         labels,
         arities,
         children,
@@ -332,7 +322,6 @@ pub fn replace(
     count: usize,
     n: usize,
     m: usize,
-    root: u8,
     labels: &[u16; MAX_NODES],
     arities: &[u8; MAX_NODES],
     children: &[u8; CHILD_NUMBERS],
@@ -343,15 +332,15 @@ pub fn replace(
     classes: &[u8; BYTE_VALUES],
     small: bool,
 )
-    requires { ⌜ SomeFitting (now table) count n (arrays m root (now labels) (now arities) (now children) (now
+    requires { ⌜ SomeFitting (now table) count n (arrays m (now labels) (now arities) (now children) (now
         states)) (now names) (now firsts) (now nexts) maxTransitions ⌝ }
-    requires { ⌜ (small ≡ true → SomeFitting (now table) count n (arrays m root (now labels) (now arities) (now
+    requires { ⌜ (small ≡ true → SomeFitting (now table) count n (arrays m (now labels) (now arities) (now
         children) (now states)) (now names) (now firsts) (now nexts)
         smallTransitions) ⌝ }
     requires { ⌜ length (now scratch) ≡ scratchBytes ⌝ }
     requires { ⌜ length (now classes) ≡ byteValues ⌝ }
     ensures { λ _. ⌜ ((inserting : Bool) (t : Tree) (o : List ℕ) → Fitting inserting t (now (table .entry)) count n
-        (arrays m root (now (labels .entry)) (now (arities .entry)) (now (children .entry)) (now (states .entry))) o
+        (arrays m (now (labels .entry)) (now (arities .entry)) (now (children .entry)) (now (states .entry))) o
         (now (names .entry)) (now (firsts .entry)) (now (nexts .entry)) (now (classes .entry)) →
         now (table .exit) ≡ encode (changedAutomaton inserting t (decode (now (table .entry))))) ⌝ }
 {
@@ -360,7 +349,6 @@ pub fn replace(
         count,
         n,
         m,
-        root,
         labels,
         arities,
         children,
@@ -379,7 +367,6 @@ pub fn replace(
         count,
         n,
         m,
-        root,
         labels,
         arities,
         children,
@@ -399,7 +386,6 @@ pub fn replace(
         count,
         n,
         m,
-        root,
         labels,
         arities,
         children,

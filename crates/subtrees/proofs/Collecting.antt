@@ -3,10 +3,10 @@
 use mathlib.Core.Bool.{Bool, cond, false, true}
 use mathlib.Core.List.{List, [], _++_, _∷_}
 use mathlib.Core.Path.{_∙_, _≡_, ap, ap₂, refl, subst, sym}
-use Prim.Native.Nat.{_+_, _-_, _<_, _≤_, suc, ℕ}
+use Prim.Native.Nat.{_+_, _-_, _<_, _≤_, ℕ}
 use native.Mathlib.Omega.{arith}
 use lib.ListN.{drop, drop-of-length-le, getD, length, length-drop, length-set, set, take}
-use lib.Seq.{drop-cons, drop-drop, ext-getD, getD-drop, getD-take, length-take-le}
+use lib.Seq.{drop-drop, ext-getD, getD-drop, getD-take, length-take-le}
 use Rattle.automata.specs.Automaton.{Automaton, run}
 use Rattle.automata.specs.Change.{subtrees}
 use Rattle.format.specs.Format.{maxArity, maxNodes}
@@ -15,11 +15,10 @@ use Rattle.running.specs.Running.{HoldsStates}
 use Rattle.subtrees.specs.Steps.{Children, Entered, Filled, NumberGiven, Sized, addLast}
 use Rattle.subtrees.specs.Store.{Held, Lists, Stored, arrays, bottomUp, treeNumbered, treesNumbered}
 use Rattle.trees.specs.Listing.{childrenAt, firstTree, firstTrees, labelAt, laterTrees, nodesIn, readTree, readTrees}
-use Rattle.trees.specs.Tree.{Tree, cons, count, eqTree, nil, node}
+use Rattle.trees.specs.Tree.{Tree, cons, count, eqTree, node}
 use Rattle.subtrees.proofs.Numbers.{Among, among-drop, among-index, among-more, numbered-append}
 use Rattle.subtrees.proofs.Numbers.{numbered-count, numbered-first, numbered-later}
-use Rattle.subtrees.proofs.Orders.{found-node, foundIn, in-reverse, reverse-in}
-use Rattle.trees.proofs.Trees.{cons-tree}
+use Rattle.subtrees.proofs.Orders.{found-node, foundIn, in-reverse, last-number, reverse-in}
 use Rattle.lists.specs.Positions.{byteFrom}
 use Rattle.running.proofs.Tables.{node-byte}
 use Rattle.trees.proofs.Suffixes.{Passed, children-there, nodes-end, nodesFrom, read-next, read-whole}
@@ -231,28 +230,13 @@ module _ {s bs : List ℕ} {i top found : ℕ} {stack l r c q : List ℕ} (ok : 
 -- no node is left
 module _ {s bs : List ℕ} {top found : ℕ} {stack l r c q : List ℕ} (ok : Passed s)
     (inv : Collecting s bs 0 top found stack l r c q) where
-  pub end-top : top < maxNodes
-  end-top = omega (arith, trees-count inv, ap count (read-whole ok))
-
   pub collecting-end : (A : Automaton) → HoldsStates A (readTree s) bs →
-      Lists A (readTree s) (bottomUp (readTree s)) (arrays found (getD stack top 0) l r c q)
-  collecting-end A h = record {
+      Lists A (readTree s) (bottomUp (readTree s)) (arrays found l r c q)
+  collecting-end A h = let held = rw (read-whole ok) at (inv .stored A h) in record {
     few = omega (arith, inv .room);
-    stored = rw (read-whole ok) at (inv .stored A h);
+    stored = held;
     subtree = λ x m. reverse-in (subtrees (readTree s)) x m;
     every-subtree = λ x m. in-reverse (subtrees (readTree s)) x m;
-    root-some = root-among .0;
-    root-known = root-among .1;
-    root = sym (cons-tree _ _ _ _ trees);
+    some = last-number (readTree s) (held .size) .0;
+    last = last-number (readTree s) (held .size) .1;
   }
-    where
-      split : drop top stack ≡ getD stack top 0 ∷ drop (suc top) stack
-      split = drop-cons stack top 0 (omega (arith, end-top, inv .stacked))
-
-      root-among : (1 ≤ getD stack top 0) × (getD stack top 0 ≤ found)
-      root-among = (rw split at (inv .numbers)) .0
-
-      trees : cons (readTree s) nil ≡ treesNumbered (bottomUp (readTree s)) (getD stack top 0 ∷ drop (suc top) stack)
-      trees =
-          sym (read-whole ok) ∙ inv .trees ∙
-          ap₂ treesNumbered (ap foundIn (read-whole ok)) split

@@ -1,16 +1,20 @@
 -- The order in which a pass from the last node finds the subtrees: a node that takes its children off the trees
--- after it comes last, unless it was found before.
-use mathlib.Core.Bool.{Bool, false, false≢true, true}
+-- after it comes last, unless it was found before. So the whole tree has the last number.
+use mathlib.Core.Bool.{Bool, cond, false, false≢true, true}
 use mathlib.Core.List.{List, [], _++_, _∷_, reverse, reverse-cons}
 use mathlib.Core.Logic.{_⊎_, inl, inr}
 use mathlib.Core.Path.{_∙_, _≡_, ap, refl, sym}
-use Prim.Native.Nat.{ℕ}
+use Prim.Native.Nat.{_+_, _-_, _≤_, ℕ}
+use native.Mathlib.Omega.{arith}
+use lib.ListN.{length, length-append}
+use lib.Seq.{getD-at}
 use Rattle.automata.specs.Change.{addNew, collect, collects}
 use Rattle.lists.specs.Closure.{elem}
 use Rattle.lists.specs.Tests.{_∈_}
 use Rattle.subtrees.specs.Steps.{addLast}
+use Rattle.subtrees.specs.Store.{bottomUp, treeNumbered}
 use Rattle.trees.specs.Listing.{firstTrees, laterTrees}
-use Rattle.trees.specs.Tree.{Forest, Tree, _⧺_, cons, eqTree, nil, node}
+use Rattle.trees.specs.Tree.{Forest, Tree, _⧺_, cons, depth, depths, eqTree, nil, noTree, node}
 use Rattle.lists.proofs.Closure.{elem-in, in-elem}
 use Rattle.lists.proofs.Tests.{append-in, in-append-left, in-append-right}
 use Rattle.trees.proofs.Forests.{first-later}
@@ -80,3 +84,43 @@ found-node a c f =
     ap (λ P. reverse (addNew (node a (firstTrees c f)) P))
     (sym (collects-append (firstTrees c f) (laterTrees c f) []) ∙ ap (λ g. collects g []) (first-later c f)) ∙
     reverse-new (collects f []) (node a (firstTrees c f))
+
+-- ---- the tree itself comes last
+
+-- a list gets no tree that is deeper than those whose subtrees it gets
+mutual
+  collect-depth : (t : Tree) (P : List Tree) (n : ℕ) → depth t ≤ n → ((u : Tree) → u ∈ P → depth u ≤ n) →
+      (u : Tree) → u ∈ collect t P → depth u ≤ n
+  collect-depth (node a f) P n b h u m =
+      go (λ i. collects-depth f P n (omega arith) h u i) (elem eqTree (node a f) (collects f P)) m
+    where
+      go : (u ∈ collects f P → depth u ≤ n) → (d : Bool) → u ∈ cond d (collects f P) (node a f ∷ collects f P) →
+          depth u ≤ n
+      go ih true i = ih i
+      go ih false (inl e) = omega (arith, ap depth e)
+      go ih false (inr i) = ih i
+
+  collects-depth : (f : Forest) (P : List Tree) (n : ℕ) → depths f ≤ n → ((u : Tree) → u ∈ P → depth u ≤ n) →
+      (u : Tree) → u ∈ collects f P → depth u ≤ n
+  collects-depth nil P n b h u m = h u m
+  collects-depth (cons t f) P n b h u m =
+      collect-depth t (collects f P) n (omega arith) (λ v i. collects-depth f P n (omega arith) h v i) u m
+
+tree-last : (a : ℕ) (f : Forest) → bottomUp (node a f) ≡ foundIn f ++ (node a f ∷ [])
+tree-last a f =
+    reverse-new (collects f []) (node a f) ∙
+    last-new (foundIn f) (node a f) (λ m.
+    let i = reverse-in (collects f []) (node a f) m in
+    omega (arith, collects-depth f [] (depths f) (omega arith) (λ u j. absurd j) (node a f) i))
+
+-- so it has the last number
+pub last-number : (t : Tree) {n : ℕ} → length (bottomUp t) ≡ n → (1 ≤ n) × (treeNumbered (bottomUp t) n ≡ t)
+last-number (node a f) {n} e = (omega (arith, size), at)
+  where
+    size : n ≡ length (foundIn f) + 1
+    size = sym e ∙ ap length (tree-last a f) ∙ length-append (foundIn f) (node a f ∷ [])
+
+    at : treeNumbered (bottomUp (node a f)) n ≡ node a f
+    at =
+        ap (λ ts. treeNumbered ts n) (tree-last a f) ∙
+        getD-at (foundIn f) (node a f) [] noTree (n - 1) (omega (arith, size))

@@ -54,24 +54,22 @@ pub record Stored (A : Automaton) (ts : List Tree) (n : ℕ) (l r c q : List ℕ
 abbrev pub Held : Tree → List ℕ → Type 0
 Held t bs = (A : Automaton) × HoldsStates A t bs
 
--- how many subtrees arrays hold, the number of the tree itself, and the arrays
+-- how many subtrees arrays hold, and the arrays
 pub record Subtrees : Type 0 where
   pub count : ℕ
-  pub root : ℕ
   pub labels : List ℕ
   pub arities : List ℕ
   pub children : List ℕ
   pub states : List ℕ
 
-abbrev pub arrays : ℕ → ℕ → List ℕ → List ℕ → List ℕ → List ℕ → Subtrees
-arrays n i l r c q = record { count = n; root = i; labels = l; arities = r; children = c; states = q }
+abbrev pub arrays : ℕ → List ℕ → List ℕ → List ℕ → List ℕ → Subtrees
+arrays n l r c q = record { count = n; labels = l; arities = r; children = c; states = q }
 
--- s has the distinct subtrees ts of t, with t's own number
+-- s has the distinct subtrees ts of t, the last of which is t itself
 pub record Lists (A : Automaton) (t : Tree) (ts : List Tree) (s : Subtrees) : Type 0 where
   pub few : s .count ≤ maxNodes
   pub stored : Stored A ts (s .count) (s .labels) (s .arities) (s .children) (s .states)
   pub subtree : (x : Tree) → x ∈ ts → x ∈ subtrees t
   pub every-subtree : (x : Tree) → x ∈ subtrees t → x ∈ ts
-  pub root-some : 1 ≤ s .root
-  pub root-known : s .root ≤ s .count
-  pub root : treeNumbered ts (s .root) ≡ t
+  pub some : 1 ≤ s .count
+  pub last : treeNumbered ts (s .count) ≡ t

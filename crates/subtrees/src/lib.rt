@@ -23,12 +23,6 @@ use listing::label_at;
 
 pub const CHILD_NUMBERS: usize = MAX_NODES * MAX_ARITY;
 
-// How many distinct subtrees a tree has, and the number of the tree itself.
-pub struct Collected {
-    pub count: usize,
-    pub root: u8,
-}
-
 // The number of a subtree, and how many there are with it.
 struct Place {
     number: u8,
@@ -176,7 +170,8 @@ fn enter(
 }
 
 // The distinct subtrees of the tree that is listed, and their states, from those of the tree's nodes. Subtree j, from 1
-// on, goes to index j - 1 of the arrays; its child k to 8 (j - 1) + k, with 0 beyond the arity.
+// on, goes to index j - 1 of the arrays; its child k to 8 (j - 1) + k, with 0 beyond the arity. Returns how many they
+// are, which is the number of the tree itself: it comes after its parts.
 pub fn collect(
     tree: &[u8],
     reached: &[u8; MAX_NODES],
@@ -184,13 +179,13 @@ pub fn collect(
     arities: &mut [u8; MAX_NODES],
     children: &mut [u8; CHILD_NUMBERS],
     states: &mut [u8; MAX_NODES],
-) -> Collected
+) -> usize
     requires { ⌜ listingRefusal (now tree) ≡ 0 ⌝ }
     requires { ⌜ Held (readTree (now tree)) (now reached) ⌝ }
     requires { ⌜ Sized (now labels) (now arities) (now children) (now states) ⌝ }
     ensures { λ r. ⌜ ((A : Automaton) → HoldsStates A (readTree (now (tree .entry))) (now (reached .entry)) →
-        Lists A (readTree (now (tree .entry))) (bottomUp (readTree (now (tree .entry)))) (arrays (r .count) (r .root)
-        (now (labels .exit)) (now (arities .exit)) (now (children .exit)) (now (states .exit)))) ⌝ }
+        Lists A (readTree (now (tree .entry))) (bottomUp (readTree (now (tree .entry)))) (arrays r (now (labels
+        .exit)) (now (arities .exit)) (now (children .exit)) (now (states .exit)))) ⌝ }
 {
     let mut stack = [0u8; MAX_NODES];
     let mut top = MAX_NODES;
@@ -217,9 +212,5 @@ pub fn collect(
         top = top + width - 1;
         stack[top] = place.number;
     }
-    let root = stack[top];
-    Collected {
-        count: found,
-        root: root,
-    }
+    found
 }

@@ -1,6 +1,5 @@
 -- `change::apply` meets its contract: refusal 17 by counting, or the new table and its numbers.
 use Prim.Native.Nat.{ℕ}
-use native.Mathlib.Omega.{arith}
 use lib.ListN.{length-replicate}
 use borrow.Author.Tests.{not-false, not-true}
 use Rattle.automata.specs.NamedChange.{changedAutomaton}
@@ -40,26 +39,16 @@ returns c =
     (at-keep .keep .ensures) in
     worked-17 (start .args .inserting) t (start .args .table .now) P (fit .table) (not-true _ (c .if1 .taken))
 
-wide-requires : tie.Need-wide-requires
-wide-requires c κs = search needs
-
-add-own : tie.Need-add-own
-add-own c =
-    let g = c .before .before .before .before .before .before .before .before .before .before .before .before
-    .before .before .before .before .before .pre .0 .1 in
-    omega (arith, given-few g, c .wide .ensures, g .lists .root-known, g .lists .few)
-
 classify-names-requires : tie.Need-classify-names-requires
 classify-names-requires c κs =
     let g = c .before .before .before .before .before .before .before .before .before .before .before .before
-    .before .before .before .before .before .before .before .pre .0 .1 in
+    .before .before .before .before .before .before .pre .0 .1 in
     (given-size g, (given-few g, (g .lists .few, length-replicate {A = ℕ} byteValues 0)))
 
 replace-requires : tie.Need-replace-requires
 replace-requires c κs =
     let at-classify = c .before .before .before .before .before .before in
-    let at-wide = at-classify .before .before .before in
-    let at-if1 = at-wide .before in
+    let at-if1 = at-classify .before .before .before in
     let at-fit-of = at-if1 .before .before in
     let at-keep = at-fit-of .before .before .before .before in
     let at-name = at-keep .before .before .before .before .before in
@@ -71,7 +60,7 @@ replace-requires c κs =
     let classes = at-classify .classify-names .ensures in
     let N = at-name .name .ensures t g (start .pre .1 .1 t g) in
     let fit = at-fit-of .fit-of .ensures inserting t _ _ N (at-keep .keep .ensures) in
-    let F = fitting N (at-keep .keep .ensures) (at-wide .wide .ensures) classes (fit .table)
+    let F = fitting N (at-keep .keep .ensures) classes (fit .table)
     (not-false _ (at-if1 .if1 .left)) in (
       (inserting, t, opens, _, F, between-few N maxTransitions (F .fits)),
       (
@@ -84,8 +73,7 @@ done-requires : tie.Need-done-requires
 done-requires c κs =
     let at-replace = c .before .before .before .before .before in
     let at-classify = at-replace .before .before .before .before .before .before .before in
-    let at-wide = at-classify .before .before .before in
-    let at-if1 = at-wide .before in
+    let at-if1 = at-classify .before .before .before in
     let at-fit-of = at-if1 .before .before in
     let at-keep = at-fit-of .before .before .before .before in
     let at-name = at-keep .before .before .before .before .before in
@@ -95,7 +83,7 @@ done-requires c κs =
     let inserting = start .args .inserting in
     let N = at-name .name .ensures t g (start .pre .1 .1 t g) in
     let fit = at-fit-of .fit-of .ensures inserting t _ _ N (at-keep .keep .ensures) in
-    let F = fitting N (at-keep .keep .ensures) (at-wide .wide .ensures) (at-classify .classify-names .ensures)
+    let F = fitting N (at-keep .keep .ensures) (at-classify .classify-names .ensures)
     (fit .table) (not-false _ (at-if1 .if1 .left)) in
     table-size (changedAutomaton inserting t (decode (start .args .table .now)))
     (at-replace .replace .ensures inserting t (start .args .opens .now) F)
@@ -110,8 +98,7 @@ returns-2 : tie.Need-returns-2
 returns-2 c =
     let at-replace = c .before .before .before .before .before .before in
     let at-classify = at-replace .before .before .before .before .before .before .before in
-    let at-wide = at-classify .before .before .before in
-    let at-if1 = at-wide .before in
+    let at-if1 = at-classify .before .before .before in
     let at-fit-of = at-if1 .before .before in
     let at-keep = at-fit-of .before .before .before .before in
     let at-name = at-keep .before .before .before .before .before in
@@ -121,7 +108,7 @@ returns-2 c =
     let N = at-name .name .ensures t g P in
     let fit = at-fit-of .fit-of .ensures inserting t _ _ N (at-keep .keep .ensures) in
     let h = not-false _ (at-if1 .if1 .left) in
-    let F = fitting N (at-keep .keep .ensures) (at-wide .wide .ensures) (at-classify .classify-names .ensures)
+    let F = fitting N (at-keep .keep .ensures) (at-classify .classify-names .ensures)
     (fit .table) h in
     worked-done inserting t (start .args .table .now) P (fit .table) h
     (at-replace .replace .ensures inserting t (start .args .opens .now) F) (c .done .ensures)
@@ -135,8 +122,6 @@ apply-spec =
     fit-of-requires
     same-length
     returns
-    wide-requires
-    add-own
     classify-names-requires
     replace-requires
     done-requires

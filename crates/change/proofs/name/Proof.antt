@@ -13,39 +13,28 @@ use borrow.Author.Needs.{needs}
 use Rattle.change.proofs.name.Statement.{statement}
 use Rattle.change.proofs.name.Tie as tie
 
-wide-requires : tie.Need-wide-requires
-wide-requires c κs = search needs
-
 classify-requires : tie.Need-classify-requires
 classify-requires c κs =
-    let g = c .before .before .before .pre .1 in
+    let g = c .before .before .pre .1 in
     (given-size g, (g .lists .few, length-replicate {A = ℕ} maxNodes 0))
 
 sub-note-uses : tie.Need-sub-note-uses
-sub-note-uses c = omega (arith, given-size (c .before .before .before .before .pre .1))
+sub-note-uses c = omega (arith, given-size (c .before .before .before .pre .1))
 
 part-note-uses-start : tie.Need-part-note-uses-start
-part-note-uses-start c = omega (arith, given-size (c .before .before .before .before .pre .1))
+part-note-uses-start c = omega (arith, given-size (c .before .before .before .pre .1))
 
 part-note-uses-end : tie.Need-part-note-uses-end
 part-note-uses-end c = search needs
 
 note-uses-requires : tie.Need-note-uses-requires
-note-uses-requires c κs = given-over (c .before .before .before .before .before .before .before .pre .1) .runs
+note-uses-requires c κs = given-over (c .before .before .before .before .before .before .pre .1) .runs
 
 sub-name-all : tie.Need-sub-name-all
-sub-name-all c = omega (
-  arith,
-  given-size (c .before .before .before .before .before .before .before .before .pre
-      .1),
-)
+sub-name-all c = omega (arith, given-size (c .before .before .before .before .before .before .before .pre .1))
 
 part-name-all-start : tie.Need-part-name-all-start
-part-name-all-start c = omega (
-  arith,
-  given-size (c .before .before .before .before .before .before .before .before
-      .pre .1),
-)
+part-name-all-start c = omega (arith, given-size (c .before .before .before .before .before .before .before .pre .1))
 
 part-name-all-end : tie.Need-part-name-all-end
 part-name-all-end c = search needs
@@ -53,19 +42,18 @@ part-name-all-end c = search needs
 name-all-requires : tie.Need-name-all-requires
 name-all-requires c κs =
     let at-uses = c .before .before .before .before .before in
-    let start = at-uses .before .before .before .before .before .before .before .before in
+    let start = at-uses .before .before .before .before .before .before .before in
     given-sized (start .pre .1) (at-uses .note-uses .ensures)
 
 returns : tie.Need-returns
 returns c =
     let at-classify = c .before .before .before .before .before .before .before .before .before .before in
-    let at-wide = at-classify .before .before in
-    let start = at-wide .before .before in
+    let start = at-classify .before .before .before in
     λ t g P.
     let A = decode (start .args .table .now) in
     let S = changedSet (start .args .inserting) A t in
     let classed = at-classify .classify .ensures A t (bottomUp t) S (start .args .labels .now) (start .args .arities
-    .now) (start .args .children .now) (given-held g) (given-classes g) (given-rooted g (at-wide .wide .ensures))
+    .now) (start .args .children .now) (given-held g) (given-classes g) (given-rooted g)
     (set-changed (start .args .inserting) A t) in
     record {
       given = g;
@@ -77,7 +65,6 @@ pub name-spec : {M : Type 1} → statement M
 name-spec =
     tie.close
     (tie.spec
-    wide-requires
     classify-requires
     sub-note-uses
     part-note-uses-start

@@ -1,7 +1,7 @@
 -- The loop at i has gone through the nodes from i on: their trees are on the stack, their subtrees in the arrays.
 use Rattle.trees.proofs.Suffixes.{passed}
 use Rattle.subtrees.proofs.Collecting.{Collecting, collecting-at, collecting-end, collecting-next}
-use Rattle.subtrees.proofs.Collecting.{collecting-start, end-top, pop-children, pop-narrow, pop-room}
+use Rattle.subtrees.proofs.Collecting.{collecting-start, pop-children, pop-narrow, pop-room}
 use Rattle.subtrees.proofs.Arrays.{filled-at}
 use native.Mathlib.Omega.{arith}
 use mathlib.Core.Path.{_∙_, refl}
@@ -107,12 +107,6 @@ loop-again c =
     (collecting-next ok (at-loop .loop .inv) more filled (entered .1 .0) (entered .0) (start .pre .1 .0)
     (rw (label, arity) at (entered .1 .1)))
 
-array-read-root : tie.Need-array-read-root Inv-loop μ-loop
-array-read-root c =
-    let start = c .before .before .before in
-    let ok = passed (start .args .tree .now) (start .pre .0) in
-    end-top ok (collecting-at (c .before .loop .inv) 0 (omega arith))
-
 returns : tie.Need-returns Inv-loop μ-loop
 returns c =
     let start = c .before .before .before in
@@ -138,5 +132,4 @@ collect-spec =
     array-write-stack
     loop-less
     loop-again
-    array-read-root
     returns)

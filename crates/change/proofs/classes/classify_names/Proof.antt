@@ -8,17 +8,20 @@ use Rattle.change.proofs.classes.classify_names.Statement.{statement}
 use Rattle.change.proofs.classes.classify_names.Tie as tie
 
 abbrev Inv-loop : tie.InvT-loop
-Inv-loop table n m states own inserting classes₀ p₀ classes p =
-    (1 ≤ p) × (p ≤ n + m + 1) × ClassedBelow (classOfName table n states own inserting) classes p
+Inv-loop table n m states inserting classes₀ p₀ classes p =
+    (1 ≤ p) × (p ≤ n + m + 1) × ClassedBelow (classOfName table n states (n + m) inserting) classes p
 
 abbrev μ-loop : tie.MeasureT-loop
-μ-loop table n m states own inserting classes₀ p₀ classes p = n + m + 1 - p
+μ-loop table n m states inserting classes₀ p₀ classes p = n + m + 1 - p
 
 loop-holds : tie.Need-loop-holds Inv-loop μ-loop
 loop-holds c = (omega arith, omega arith, classed-start (c .before .pre .1 .1 .1))
 
 add-loop : tie.Need-add-loop Inv-loop μ-loop
 add-loop c = search needs
+
+add-class-of : tie.Need-add-class-of Inv-loop μ-loop
+add-class-of c = search needs
 
 class-of-requires : tie.Need-class-of-requires Inv-loop μ-loop
 class-of-requires c κs = search needs
@@ -52,6 +55,7 @@ classify-names-spec =
     μ-loop
     loop-holds
     add-loop
+    add-class-of
     class-of-requires
     element-write-classes
     add-p
