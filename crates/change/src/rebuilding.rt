@@ -1,5 +1,6 @@
-// The table of the changed set. Its transitions are made between names. If the numbers of the names are found at once they
-// are written with them; else they go through the scratch, and the numbers are found by the rule.
+// The table of the changed set. Its transitions are made between names. If the numbers of the names are found at once,
+// from few transitions or from all, they are written with them; else they go through the scratch, and the numbers are
+// found by the rule.
 ghost use mathlib.Core.Bool.{Bool, cond, false, true};
 ghost use mathlib.Core.List.{List};
 ghost use mathlib.Core.Path.{_≡_};
@@ -70,9 +71,9 @@ pub fn make_all(
     )
 }
 
-// Writes the new table if the numbers of the names are found at once; else leaves the table as it is. The arrays are lent.
-// `few` says whether the numbers are sought from few transitions first.
-fn rebuild_in(
+// Writes the new table if the numbers of the names are found at once; else leaves the table as it is. The arrays are
+// lent, and have other numbers afterwards. `few` says whether the numbers are sought from few transitions first.
+fn attempt(
     table: &mut [u8],
     count: usize,
     n: usize,
@@ -141,6 +142,88 @@ fn rebuild_in(
     )
 }
 
+// The same, from few transitions first, and if that fails from all. The second attempt makes the transitions anew: the
+// first leaves other numbers in the arrays.
+fn rebuild_in(
+    table: &mut [u8],
+    count: usize,
+    n: usize,
+    m: usize,
+    labels: &[u16; MAX_NODES],
+    arities: &[u8; MAX_NODES],
+    children: &[u8; CHILD_NUMBERS],
+    states: &[u8; MAX_NODES],
+    names: &[u8; MAX_NODES],
+    firsts: &[u8; BYTE_VALUES],
+    nexts: &[u8; BYTE_VALUES],
+    classes: &[u8; BYTE_VALUES],
+    heads: &mut [u64],
+    args: &mut [u64],
+    room: &mut [u64],
+    spare: &mut [u64],
+    next: &mut [u16],
+    ends: &mut [u16],
+) -> bool
+    requires { ⌜ SomeFitting (now table) count n (arrays m (now labels) (now arities) (now children) (now
+        states)) (now names) (now firsts) (now nexts) (length (now heads)) ⌝ }
+    requires { ⌜ Room (now heads) (now args) ⌝ }
+    requires { ⌜ Room (now room) (now spare) ⌝ }
+    requires { ⌜ length (now room) ≡ length (now heads) ⌝ }
+    requires { ⌜ length (now next) ≡ length (now heads) ⌝ }
+    requires { ⌜ length (now classes) ≡ byteValues ⌝ }
+    ensures { λ r. ⌜ ((inserting : Bool) (t : Tree) (o : List ℕ) → Fitting inserting t (now (table .entry)) count n
+        (arrays m (now (labels .entry)) (now (arities .entry)) (now (children .entry)) (now (states .entry))) o
+        (now (names .entry)) (now (firsts .entry)) (now (nexts .entry)) (now (classes .entry)) →
+        now (table .exit) ≡ cond r (encode (changedAutomaton inserting t (decode (now (table .entry)))))
+        (now (table .entry))) ⌝ }
+    ensures { λ r. ⌜ (r ≡ false → now (table .exit) ≡ now (table .entry)) ⌝ }
+{
+    if attempt(
+        table,
+        count,
+        n,
+        m,
+        labels,
+        arities,
+        children,
+        states,
+        names,
+        firsts,
+        nexts,
+        classes,
+        heads,
+        args,
+        room,
+        spare,
+        next,
+        ends,
+        true,
+    ) {
+        return true;
+    }
+    attempt(
+        table,
+        count,
+        n,
+        m,
+        labels,
+        arities,
+        children,
+        states,
+        names,
+        firsts,
+        nexts,
+        classes,
+        heads,
+        args,
+        room,
+        spare,
+        next,
+        ends,
+        false,
+    )
+}
+
 // The same with small arrays.
 fn rebuild_small(
     table: &mut [u8],
@@ -155,7 +238,6 @@ fn rebuild_small(
     firsts: &[u8; BYTE_VALUES],
     nexts: &[u8; BYTE_VALUES],
     classes: &[u8; BYTE_VALUES],
-    few: bool,
 ) -> bool
     requires { ⌜ SomeFitting (now table) count n (arrays m (now labels) (now arities) (now children) (now
         states)) (now names) (now firsts) (now nexts) smallTransitions ⌝ }
@@ -192,7 +274,6 @@ fn rebuild_small(
         &mut spare,
         &mut next,
         &mut ends,
-        few,
     )
 }
 
@@ -210,7 +291,6 @@ fn rebuild_large(
     firsts: &[u8; BYTE_VALUES],
     nexts: &[u8; BYTE_VALUES],
     classes: &[u8; BYTE_VALUES],
-    few: bool,
 ) -> bool
     requires { ⌜ SomeFitting (now table) count n (arrays m (now labels) (now arities) (now children) (now
         states)) (now names) (now firsts) (now nexts) maxTransitions ⌝ }
@@ -247,7 +327,6 @@ fn rebuild_large(
         &mut spare,
         &mut next,
         &mut ends,
-        few,
     )
 }
 
@@ -266,7 +345,6 @@ fn rebuild_table(
     nexts: &[u8; BYTE_VALUES],
     classes: &[u8; BYTE_VALUES],
     small: bool,
-    few: bool,
 ) -> bool
     requires { ⌜ SomeFitting (now table) count n (arrays m (now labels) (now arities) (now children) (now
         states)) (now names) (now firsts) (now nexts) maxTransitions ⌝ }
@@ -295,7 +373,6 @@ fn rebuild_table(
             firsts,
             nexts,
             classes,
-            few,
         );
     }
     rebuild_large(
@@ -311,7 +388,6 @@ fn rebuild_table(
         firsts,
         nexts,
         classes,
-        few,
     )
 }
 
@@ -358,25 +434,6 @@ pub fn replace(
         nexts,
         classes,
         small,
-        true,
-    ) {
-        return;
-    }
-    if rebuild_table(
-        table,
-        count,
-        n,
-        m,
-        labels,
-        arities,
-        children,
-        states,
-        names,
-        firsts,
-        nexts,
-        classes,
-        small,
-        false,
     ) {
         return;
     }
