@@ -124,7 +124,7 @@ fn attempt(
         args,
         ends,
     );
-    let givers = givers_of(&table[HEAD_BYTES..], count);
+    let givers = givers_of(&table[HEAD_BYTES..], count, m, states, names);
     rebuild(
         heads,
         args,

@@ -4,7 +4,7 @@ ghost use mathlib.Core.Path.{_≡_};
 ghost use Prim.Native.Nat.{_*_, _+_, _<_, _≤_};
 ghost use lib.ListN.{length};
 ghost use Rattle.fields.specs.Fields.{HoldsTransitions};
-ghost use Rattle.format.specs.Format.{byteValues, maxStates, transitionBytes};
+ghost use Rattle.format.specs.Format.{byteValues, maxNodes, maxStates, transitionBytes};
 ghost use Rattle.packed.specs.Heads.{Room};
 use crate::placing::place;
 use crate::placing::place_all;
@@ -13,7 +13,9 @@ use crate::reading::out_of;
 use fields::arg_of;
 use format::BYTE_VALUES;
 use format::MAX_ARITY;
+use format::MAX_NODES;
 use format::TRANSITION_BYTES;
+use format::wide;
 use format::widened;
 use validity::greater;
 
@@ -47,9 +49,40 @@ fn note_giver(transitions: &[u8], i: usize, givers: &mut [u16; BYTE_VALUES])
     givers[out] = (i + 1) as u16;
 }
 
-// For each state the first transition into it whose arguments are all below it, counted from 1; 0 if there is none.
-pub fn givers_of(transitions: &[u8], count: usize) -> [u16; BYTE_VALUES]
+fn forget(givers: &mut [u16; BYTE_VALUES], q: u8) {
+    givers[wide(q)] = 0;
+}
+
+// Forgets the givers of the states that are now names of subtrees of other states: what led to those states leads here, and
+// may come first.
+fn forget_givers(
+    m: usize,
+    states: &[u8; MAX_NODES],
+    names: &[u8; MAX_NODES],
+    givers: &mut [u16; BYTE_VALUES],
+)
+    requires { ⌜ m ≤ maxNodes ⌝ }
+{
+    let mut j = 0;
+    while j < m {
+        if (states[j] != 0) & (names[j] != states[j]) {
+            forget(givers, names[j]);
+        }
+        j += 1;
+    }
+}
+
+// For each state the first transition into it whose arguments are all below it, counted from 1; 0 if there is none, or if
+// others may come before it. The m subtrees had these states and have these names.
+pub fn givers_of(
+    transitions: &[u8],
+    count: usize,
+    m: usize,
+    states: &[u8; MAX_NODES],
+    names: &[u8; MAX_NODES],
+) -> [u16; BYTE_VALUES]
     requires { ⌜ HoldsTransitions (now transitions) count ⌝ }
+    requires { ⌜ m ≤ maxNodes ⌝ }
 {
     let mut givers = [0u16; BYTE_VALUES];
     let mut i = 0;
@@ -57,6 +90,7 @@ pub fn givers_of(transitions: &[u8], count: usize) -> [u16; BYTE_VALUES]
         note_giver(transitions, i, &mut givers);
         i += 1;
     }
+    forget_givers(m, states, names, &mut givers);
     givers
 }
 

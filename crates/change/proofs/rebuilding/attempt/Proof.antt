@@ -29,7 +29,8 @@ givers-of-requires : tie.Need-givers-of-requires
 givers-of-requires c κs =
     let start = c .before .before .before .before .before .before .before .before .before .before .before .before
     .before .before .before .before .before .before .before .before in
-    given-over (start .pre .0 .4 .named .given) .runs
+    let given = start .pre .0 .4 .named .given in
+    (given-over given .runs, given .lists .few)
 
 rebuild-requires : tie.Need-rebuild-requires
 rebuild-requires c κs =
