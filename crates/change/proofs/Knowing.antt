@@ -35,7 +35,7 @@ module _ {t : Tree} {b : List ℕ} {k n : ℕ} {r : Subtrees} (g : Given t b k n
       subst (λ (s : List ℕ). Padded s (transitionBytes * i)) (sym (part-body b))
       record { narrow = l .arity; rest = l .rest }
 
-  given-searchable : Searchable (part b headBytes) k
+  pub given-searchable : Searchable (part b headBytes) k
   given-searchable = record {
     padded = record { runs = given-over g .runs; each = given-padded };
     rises = subst (λ (τs : List Transition). rising τs ≡ true) (given-setting g .transitions) (given-setting g .rises);

@@ -19,6 +19,7 @@ use format::BYTE_VALUES;
 use format::MAX_NODES;
 use format::MAX_PRODUCT;
 use opening::open_states;
+pub use opening::some_marked;
 pub use sums::index;
 pub use sums::sum_fits;
 

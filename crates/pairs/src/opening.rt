@@ -46,7 +46,7 @@ fn open_at_once(counts: &[u8; BYTE_VALUES], sums: &[u8; BYTE_VALUES], marks: &mu
 }
 
 // Whether some argument of the transition that starts at a byte is marked.
-fn some_marked(transitions: &[u8], at: usize, marks: &[u8; BYTE_VALUES]) -> bool
+pub fn some_marked(transitions: &[u8], at: usize, marks: &[u8; BYTE_VALUES]) -> bool
     requires { ⌜ Readable (now transitions) at ⌝ }
     ensures { λ r. ⌜ r ≡ any (marked (now (marks .entry))) (transitionAt (now (transitions .entry)) at .args) ⌝ }
 {

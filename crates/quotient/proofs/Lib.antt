@@ -12,3 +12,4 @@ pub mod NodeLink
 pub mod Linking
 pub mod CountLink
 pub mod OneChoice
+pub mod PlainChoice

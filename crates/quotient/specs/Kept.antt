@@ -1,10 +1,10 @@
 -- Names by number: of n states and m subtrees, x up to n is a state, n + j the own name of subtree j. And the kept
 -- names of each state as chains: the first of each state, and for each name the next one, 0 at the end.
-use mathlib.Core.Bool.{Bool, _&&_, cond}
+use mathlib.Core.Bool.{Bool, _&&_, cond, false}
 use mathlib.Core.List.{List, [], _∷_}
 use mathlib.Core.Logic.{_⊎_}
 use mathlib.Core.Path.{_≡_}
-use Prim.Native.Nat.{_+_, _-_, _<_, suc, zero, ℕ}
+use Prim.Native.Nat.{_+_, _-_, _<_, _≤_, suc, zero, ℕ}
 use lib.Dec.{eqb, leb}
 use lib.ListN.{length}
 use Rattle.format.specs.Format.{byteValues}
@@ -56,6 +56,17 @@ Above x y = (y ≡ 0) ⊎ ((x < y) × (y < byteValues))
 pub record Rises (nexts : List ℕ) : Type 0 where
   pub size : length nexts ≡ byteValues
   pub above : (x : ℕ) → Above x (entry nexts x)
+
+-- the state q keeps its name and has no other
+pub record Plain (n : ℕ) (firsts nexts : List ℕ) (q : ℕ) : Type 0 where
+  pub some : 1 ≤ q
+  pub state : q ≤ n
+  pub first : entry firsts q ≡ q
+  pub last : entry nexts q ≡ 0
+
+-- every other one is marked
+abbrev pub OddMarked : ℕ → List ℕ → List ℕ → List ℕ → Type 0
+OddMarked n firsts nexts odd = (q : ℕ) → q < byteValues → marked odd q ≡ false → Plain n firsts nexts q
 
 -- chains of the kept names above x
 pub record Chained (n m : ℕ) (o s v : List ℕ) (x : ℕ) (firsts nexts : List ℕ) : Type 0 where

@@ -6,6 +6,7 @@ mod counting; // how many states and transitions the new table has
 mod entries; // transitions put into two arrays
 mod finishing; // the entry of one choice
 mod kept; // the names that are kept, by state
+mod plain; // transitions over states that keep their names
 mod making; // all transitions
 mod nodes; // subtrees as nodes over own names
 

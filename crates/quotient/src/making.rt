@@ -5,21 +5,22 @@ ghost use Prim.Native.Nat.{_+_, _<_, _≤_, ℕ};
 ghost use lib.ListN.{length};
 ghost use Rattle.automata.specs.Automaton.{Automaton};
 ghost use Rattle.automata.specs.Quotient.{quotientList};
-ghost use Rattle.fields.specs.Fields.{HoldsTransitions};
 ghost use Rattle.format.specs.Format.{maxNodes, maxStates, maxTransitions};
 ghost use Rattle.packed.specs.Heads.{HoldsEntries};
+ghost use Rattle.packed.specs.Packed.{HoldsPadded};
 ghost use Rattle.subtrees.specs.Store.{bottomUp};
 ghost use Rattle.trees.specs.Tree.{Tree};
-ghost use Rattle.quotient.specs.Kept.{Rises};
+ghost use Rattle.quotient.specs.Kept.{OddMarked, Rises};
 ghost use Rattle.quotient.specs.Making.{Appended, Room, chosenIn, newEntry, newIn};
 ghost use Rattle.quotient.specs.Nodes.{EachNode, Nodes, metaOf};
 ghost use Rattle.quotient.specs.Setting.{Chosen, FewChosen};
-use crate::choosing::choose_names;
 use crate::entries::push;
 use crate::nodes::CHILD_NUMBERS;
 use crate::nodes::is_new;
 use crate::nodes::pack_keys;
 use crate::nodes::pack_metas;
+use crate::plain::choose_at;
+use crate::plain::mark_odd;
 use format::BYTE_VALUES;
 use format::MAX_NODES;
 use format::TRANSITION_BYTES;
@@ -40,6 +41,7 @@ fn choose_all(
     count: usize,
     firsts: &[u8; BYTE_VALUES],
     nexts: &[u8; BYTE_VALUES],
+    odd: &[u8; BYTE_VALUES],
     n: usize,
     m: usize,
     metas: &[u64; MAX_NODES],
@@ -49,8 +51,9 @@ fn choose_all(
     args: &mut [u64],
     ends: &mut [u16],
 ) -> usize
-    requires { ⌜ HoldsTransitions (now transitions) count ⌝ }
+    requires { ⌜ HoldsPadded (now transitions) count ⌝ }
     requires { ⌜ Rises (now nexts) ⌝ }
+    requires { ⌜ OddMarked n (now firsts) (now nexts) (now odd) ⌝ }
     requires { ⌜ m ≤ maxNodes ⌝ }
     requires { ⌜ Room (now heads) (now args) (0 + length (chosenIn (now transitions) count (now firsts) (now nexts)
         n m (now metas) (now keys) (now names))) ⌝ }
@@ -61,11 +64,12 @@ fn choose_all(
     let mut made = 0;
     let mut i = 0;
     while i < count {
-        made = choose_names(
+        made = choose_at(
             transitions,
             TRANSITION_BYTES * i,
             firsts,
             nexts,
+            odd,
             n,
             m,
             metas,
@@ -178,7 +182,7 @@ pub fn make(
     args: &mut [u64],
     ends: &mut [u16],
 ) -> usize
-    requires { ⌜ HoldsTransitions (now transitions) count ⌝ }
+    requires { ⌜ HoldsPadded (now transitions) count ⌝ }
     requires { ⌜ Room (now heads) (now args) 0 ⌝ }
     requires { ⌜ FewChosen (now transitions) count n m (now labels) (now arities) (now children) (now states) (now names)
         (now firsts) (now nexts) (length (now heads)) ⌝ }
@@ -192,11 +196,14 @@ pub fn make(
     pack_metas(m, labels, arities, &mut metas);
     let mut keys = [0u64; MAX_NODES];
     pack_keys(n, m, labels, arities, children, &mut keys);
+    let mut odd = [1u8; BYTE_VALUES];
+    mark_odd(n, firsts, nexts, &mut odd);
     let made = choose_all(
         transitions,
         count,
         firsts,
         nexts,
+        &odd,
         n,
         m,
         &metas,

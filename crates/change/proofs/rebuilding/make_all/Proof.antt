@@ -4,7 +4,8 @@ use Rattle.naming.specs.Choice.{nameIn}
 use Rattle.subtrees.specs.Store.{bottomUp}
 use Rattle.table.specs.Layout.{decode}
 use Rattle.change.proofs.Handing.{fitting-chosen}
-use Rattle.change.proofs.Inputs.{given-over, given-size}
+use Rattle.change.proofs.Inputs.{given-size}
+use Rattle.change.proofs.Knowing.{given-searchable}
 use Rattle.packed.proofs.Heads.{entries-in, entries-packed}
 use Rattle.change.proofs.Runs.{between-fit}
 use borrow.Author.Needs.{needs}
@@ -29,7 +30,7 @@ make-requires c κs =
     let start = c .before .before .before .before .before .before .before .before in
     let some = start .pre .0 in
     let room = start .pre .1 in (
-      given-over (some .4 .named .given) .runs,
+      given-searchable (some .4 .named .given) .padded,
       (
         record { few = room .few; args-size = room .args; within = omega arith },
         (

@@ -12,13 +12,13 @@ use Rattle.quotient.proofs.making.choose_all.Statement.{statement}
 use Rattle.quotient.proofs.making.choose_all.Tie as tie
 
 abbrev Inv-loop : tie.InvT-loop
-Inv-loop transitions count firsts nexts n m metas keys names heads₀ args₀ ends₀ made₀ i₀ heads args ends made i =
+Inv-loop transitions count firsts nexts odd n m metas keys names heads₀ args₀ ends₀ made₀ i₀ heads args ends made i =
     Making heads₀ args₀ 0 (chosenIn transitions count firsts nexts n m metas keys names) (leftFrom (nthChosen
     transitions firsts nexts n m metas keys names) count i) heads args made × (i ≤ count) ×
     (length ends ≡ length ends₀)
 
 abbrev μ-loop : tie.MeasureT-loop
-μ-loop transitions count firsts nexts n m metas keys names heads₀ args₀ ends₀ made₀ i₀ heads args ends made i =
+μ-loop transitions count firsts nexts odd n m metas keys names heads₀ args₀ ends₀ made₀ i₀ heads args ends made i =
     count - i
 
 loop-holds : tie.Need-loop-holds Inv-loop μ-loop
@@ -31,23 +31,29 @@ loop-holds c =
       refl,
     )
 
-mul-choose-names : tie.Need-mul-choose-names Inv-loop μ-loop
-mul-choose-names c = search needs
+mul-choose-at : tie.Need-mul-choose-at Inv-loop μ-loop
+mul-choose-at c = search needs
 
-choose-names-requires : tie.Need-choose-names-requires Inv-loop μ-loop
-choose-names-requires c κs =
+choose-at-requires : tie.Need-choose-at-requires Inv-loop μ-loop
+choose-at-requires c κs =
     let start = c .before .before .before .before .before .before .before .before in
     let a = start .args in
     let loop = c .before .before .before .loop in
     let nth = nthChosen (a .transitions .now) (a .firsts .now) (a .nexts .now) (a .n) (a .m) (a .metas .now) (a .keys
     .now) (a .names .now) in (
-      readable (start .pre .0) (loop .i) (omega arith),
+      readable (start .pre .0 .runs) (loop .i) (omega arith),
       (
-        start .pre .1 .0,
+        start .pre .0 .each (loop .i) (omega arith),
         (
-          start .pre .1 .1 .0,
-          making-room (nth (loop .i)) (leftFrom nth (a .count) (loop .i + 1)) (loop .inv .0)
-              (left-next nth (a .count) (loop .i) (omega arith)) (start .pre .1 .1 .1),
+          start .pre .1 .0,
+          (
+            start .pre .1 .1 .0,
+            (
+              start .pre .1 .1 .1 .0,
+              making-room (nth (loop .i)) (leftFrom nth (a .count) (loop .i + 1)) (loop .inv .0)
+                  (left-next nth (a .count) (loop .i) (omega arith)) (start .pre .1 .1 .1 .1),
+            ),
+          ),
         ),
       ),
     )
@@ -63,8 +69,8 @@ note-end-requires c κs =
     .now) (a .names .now) in
     let room = making-room (nth (loop .i)) (leftFrom nth (a .count) (loop .i + 1)) (loop .inv .0)
     (left-next nth (a .count) (loop .i) (omega (arith, chosen .before .before .before .loop-test .taken)))
-    (start .pre .1 .1 .1) in
-    omega (arith, room .few, room .within, chosen .choose-names .ensures .count)
+    (start .pre .1 .1 .1 .1) in
+    omega (arith, room .few, room .within, chosen .choose-at .ensures .count)
 
 add-i : tie.Need-add-i Inv-loop μ-loop
 add-i c = search needs
@@ -83,7 +89,7 @@ loop-again c =
     .now) (a .names .now) in (
       making-next (leftFrom nth (a .count) (loop .i + 1)) (loop .inv .0)
           (left-next nth (a .count) (loop .i) (omega (arith, chosen .before .before .before .loop-test .taken)))
-          (chosen .choose-names .ensures),
+          (chosen .choose-at .ensures),
       omega (arith, chosen .before .before .before .loop-test .taken),
       omega (arith, c .before .before .note-end .kept, loop .inv .2),
     )
@@ -111,8 +117,8 @@ choose-all-spec =
     Inv-loop
     μ-loop
     loop-holds
-    mul-choose-names
-    choose-names-requires
+    mul-choose-at
+    choose-at-requires
     note-end-requires
     add-i
     loop-less

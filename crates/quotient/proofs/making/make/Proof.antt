@@ -1,6 +1,7 @@
 -- `quotient::making::make` meets its contract: the entries are those of the transitions between names, and there is
 -- room for them.
 use native.Mathlib.Omega.{arith}
+use mathlib.Core.Path.{refl}
 use lib.ListN.{length-replicate}
 use Prim.Native.Nat.{ℕ}
 use Rattle.format.specs.Format.{maxNodes}
@@ -29,9 +30,16 @@ pack-keys-requires c κs =
     let N = nodes (H .stored) (H .size) (H .few) in
     (omega (arith, H .size, H .setting .few), (N, length-replicate {A = ℕ} maxNodes 0))
 
+mark-odd-requires : tie.Need-mark-odd-requires
+mark-odd-requires c κs =
+    let start = c .before .before .before .before .before .before .before .before .before in
+    let H = start .pre .1 .1 .4 .changed in
+    (omega (arith, H .size, H .setting .few), refl)
+
 choose-all-requires : tie.Need-choose-all-requires
 choose-all-requires c κs =
-    let at-keys = c .before .before .before .before .before in
+    let at-odd = c .before .before .before .before .before .before in
+    let at-keys = at-odd .before .before in
     let at-known = at-keys .before .before .before .before .before .before .before in
     let start = at-known .before in
     let F = start .pre .1 .1 in
@@ -41,17 +49,20 @@ choose-all-requires c κs =
       (
         F .4 .chained .rises,
         (
-          H .few,
-          record {
-            few = start .pre .1 .0 .few;
-            args-size = start .pre .1 .0 .args-size;
-            within = omega (
-              arith,
-              all-length (F .4) (pack-metas-call .ensures) (at-keys .pack-keys .ensures) (start .pre .0)
-                  (λ i. omega (arith, at-known .shared-slice-known .given i)),
-              F .5,
-            );
-          },
+          at-odd .mark-odd .ensures,
+          (
+            H .few,
+            record {
+              few = start .pre .1 .0 .few;
+              args-size = start .pre .1 .0 .args-size;
+              within = omega (
+                arith,
+                all-length (F .4) (pack-metas-call .ensures) (at-keys .pack-keys .ensures) (start .pre .0 .runs)
+                    (λ i. omega (arith, at-known .shared-slice-known .given i)),
+                F .5,
+              );
+            },
+          ),
         ),
       ),
     )
@@ -59,7 +70,7 @@ choose-all-requires c κs =
 add-lost-requires : tie.Need-add-lost-requires
 add-lost-requires c κs =
     let at-choose = c .before .before .before .before .before .before .before .before .before .before in
-    let at-keys = at-choose .before .before .before .before .before .before in
+    let at-keys = at-choose .before .before .before .before .before .before .before .before .before in
     let at-known = at-keys .before .before .before .before .before .before .before in
     let start = at-known .before in
     let F = start .pre .1 .1 in
@@ -75,7 +86,7 @@ add-lost-requires c κs =
           appended-room (choose-all-call .ensures) (start .pre .1 .0) (omega (
             arith,
             choose-all-call .ensures .count,
-            all-length (F .4) (pack-metas-call .ensures) (at-keys .pack-keys .ensures) (start .pre .0)
+            all-length (F .4) (pack-metas-call .ensures) (at-keys .pack-keys .ensures) (start .pre .0 .runs)
                 (λ i. omega (arith, at-known .shared-slice-known .given i)),
             F .5,
           )),
@@ -96,7 +107,7 @@ returns : tie.Need-returns
 returns c =
     let at-add = c .before .before .before .before in
     let at-choose = at-add .before .before .before .before .before .before .before .before .before .before .before in
-    let at-keys = at-choose .before .before .before .before .before .before in
+    let at-keys = at-choose .before .before .before .before .before .before .before .before .before in
     let at-known = at-keys .before .before .before .before .before .before .before in
     let start = at-known .before in
     let pack-metas-call = at-keys .before .before .pack-metas in
@@ -107,12 +118,12 @@ returns c =
         arith,
         choose-all-call .ensures .count,
         at-add .add-lost .ensures .count,
-        all-length (start .pre .1 .1 .4) (pack-metas-call .ensures) (pack-keys-call .ensures) (start .pre .0)
+        all-length (start .pre .1 .1 .4) (pack-metas-call .ensures) (pack-keys-call .ensures) (start .pre .0 .runs)
             (λ i. omega (arith, at-known .shared-slice-known .given i)),
         start .pre .1 .1 .5,
       )),
       λ A t ν o C. entries-held (quotientList A t (bottomUp t) ν) (all-link C (pack-metas-call .ensures) (pack-keys-call
-          .ensures) (start .pre .0) (λ i. omega (arith, at-known .shared-slice-known .given i))) all,
+          .ensures) (start .pre .0 .runs) (λ i. omega (arith, at-known .shared-slice-known .given i))) all,
     )
 
 pub make-spec : {M : Type 1} → statement M
@@ -121,6 +132,7 @@ make-spec =
     (tie.spec
     pack-metas-requires
     pack-keys-requires
+    mark-odd-requires
     choose-all-requires
     add-lost-requires
     same-length

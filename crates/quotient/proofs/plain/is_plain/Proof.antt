@@ -1,0 +1,26 @@
+-- `quotient::plain::is_plain` meets its contract: the arguments are some, and none is marked.
+use mathlib.Core.Bool.{false≢true}
+use mathlib.Core.Path.{_∙_, sym}
+use native.Mathlib.Omega.{arith}
+use borrow.Author.Tests.{not-true}
+use borrow.Author.Needs.{needs}
+use Rattle.quotient.proofs.plain.is_plain.Statement.{statement}
+use Rattle.quotient.proofs.plain.is_plain.Tie as tie
+
+arity-of-requires : tie.Need-arity-of-requires
+arity-of-requires c κs = search needs
+
+returns : tie.Need-returns
+returns c = (λ t. absurd (false≢true t), λ t. absurd (false≢true t))
+
+some-marked-requires : tie.Need-some-marked-requires
+some-marked-requires c κs = search needs
+
+returns-2 : tie.Need-returns-2
+returns-2 c = (
+  λ _. omega (arith, c .before .before .arity-of .ensures, c .before .if1 .left),
+  λ t. sym (c .some-marked .ensures) ∙ not-true _ t,
+)
+
+pub is-plain-spec : {M : Type 1} → statement M
+is-plain-spec = tie.close (tie.spec arity-of-requires returns some-marked-requires returns-2)
