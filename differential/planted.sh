@@ -1,9 +1,9 @@
 #!/bin/sh
 # The differential runs with wrong hints. A hint has no contract, so a library whose hints are spoiled is proved as it
-# stands and must give every answer as before: the order of the names is guessed from the wrong end of the heap, the
-# transitions are merged in falling order, and the transition that gave a state its number is one that cannot have. Run
-# `tools/prove scalebench` before it. It takes a proof of the crates above the hints and the time of the differential
-# runs.
+# stands and must give every answer as before: names get their numbers from transitions that are no leaves as if they
+# were, the order of the others is guessed from the wrong end of the heap, the transitions are merged in falling order,
+# and the transition that gave a state its number is one that cannot have. Run `tools/prove scalebench` before it. It
+# takes a proof of the crates above the hints and the time of the differential runs.
 set -eu
 cd "$(dirname "$0")/.."
 folder=$(mktemp -d)
@@ -21,6 +21,7 @@ spoil() {
     cat "$folder/spoiled" >"$folder/crates/$1"
 }
 
+spoil numbering/src/leaves.rt 'if head >= least {' 'if head < least {'
 spoil numbering/src/heap.rt 'if !is_before(head, args, room[parent], spare[parent]) {' \
     'if is_before(head, args, room[parent], spare[parent]) {'
 spoil numbering/src/sorting.rt '    is_before(heads[i], args[i], heads[j], args[j])' \

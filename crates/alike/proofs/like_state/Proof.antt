@@ -43,5 +43,4 @@ returns-2 c =
     (like-state-parts A t S N (treeNumbered ts (a .j)) (a .q)) (not-false _ (c .before .if1 .left)) (c .state-uses-agree .ensures A t ts holds)
 
 pub like-state-spec : {M : Type 1} → statement M
-like-state-spec =
-    tie.close (tie.spec named-like-state-requires returns state-uses-agree-requires returns-2)
+like-state-spec = tie.close (tie.spec named-like-state-requires returns state-uses-agree-requires returns-2)

@@ -5,27 +5,6 @@ use borrow.Author.Needs.{needs}
 use Rattle.bench.proofs.main.Statement.{statement}
 use Rattle.bench.proofs.main.Tie as tie
 
-empty-table-requires : tie.Need-empty-table-requires
-empty-table-requires c κs = search needs
-
-empty-scratch-requires : tie.Need-empty-scratch-requires
-empty-scratch-requires c κs = search needs
-
-large-buffer-requires : tie.Need-large-buffer-requires
-large-buffer-requires c κs = search needs
-
-large-buffer-requires-2 : tie.Need-large-buffer-requires-2
-large-buffer-requires-2 c κs = search needs
-
-slice-aggregate-read-all : tie.Need-slice-aggregate-read-all
-slice-aggregate-read-all c = search needs
-
-slice-aggregate-read-all-2 : tie.Need-slice-aggregate-read-all-2
-slice-aggregate-read-all-2 c = search needs
-
-slice-aggregate-read-all-3 : tie.Need-slice-aggregate-read-all-3
-slice-aggregate-read-all-3 c = search needs
-
 read-all-requires : tie.Need-read-all-requires
 read-all-requires c κs =
     let after-large-buffer2 = c .before .before .before .before .before in
@@ -42,23 +21,11 @@ read-all-requires c κs =
       ),
     )
 
-enum-known-p : tie.Need-enum-known-p
-enum-known-p c = search needs
-
-returns : tie.Need-returns
-returns c = search needs
-
 slice-aggregate-close : tie.Need-slice-aggregate-close
 slice-aggregate-close c =
     let after-p = c .before .before in
     let after-read-all = after-p .before .before .before .before .before in
     sym (met-ended _ _ _ _ _ _ (after-read-all .read-all .ensures) (after-p .p .given .1) .ready .line)
-
-slice-aggregate-close-2 : tie.Need-slice-aggregate-close-2
-slice-aggregate-close-2 c = search needs
-
-slice-aggregate-close-3 : tie.Need-slice-aggregate-close-3
-slice-aggregate-close-3 c = search needs
 
 close-requires : tie.Need-close-requires
 close-requires c κs =
@@ -66,33 +33,9 @@ close-requires c κs =
     let after-read-all = after-p .before .before .before .before .before in
     let M = met-ended _ _ _ _ _ _ (after-read-all .read-all .ensures) (after-p .p .given .1) in (M .ready, M .room)
 
-slice-aggregate-flush : tie.Need-slice-aggregate-flush
-slice-aggregate-flush c = search needs
-
-flush-requires : tie.Need-flush-requires
-flush-requires c κs = search needs
-
-returns-2 : tie.Need-returns-2
-returns-2 c = search needs
-
 pub main-spec : {M : Type 1} → statement M
 main-spec =
-    tie.close
-    (tie.spec
-    empty-table-requires
-    empty-scratch-requires
-    large-buffer-requires
-    large-buffer-requires-2
-    slice-aggregate-read-all
-    slice-aggregate-read-all-2
-    slice-aggregate-read-all-3
-    read-all-requires
-    enum-known-p
-    returns
-    slice-aggregate-close
-    slice-aggregate-close-2
-    slice-aggregate-close-3
-    close-requires
-    slice-aggregate-flush
-    flush-requires
-    returns-2)
+    tie.close (tie.spec (λ c κs. search needs) (λ c κs. search needs) (λ c κs. search needs)
+    (λ c κs. search needs) (λ c. search needs) (λ c. search needs) (λ c. search needs) read-all-requires
+    (λ c. search needs) (λ c. search needs) slice-aggregate-close (λ c. search needs) (λ c. search needs)
+    close-requires (λ c. search needs) (λ c κs. search needs) (λ c. search needs))

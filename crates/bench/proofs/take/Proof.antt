@@ -23,36 +23,15 @@ loop-holds c =
     let start = c .before .before .before in
     (taking-start _ _ _ _ _ _ (start .pre .0) (start .pre .1), refl, refl)
 
-sub-feed : tie.Need-sub-feed Inv-loop μ-loop
-sub-feed c = search needs
-
-part-feed-start : tie.Need-part-feed-start Inv-loop μ-loop
-part-feed-start c = search needs
-
-part-feed-end : tie.Need-part-feed-end Inv-loop μ-loop
-part-feed-end c = search needs
-
 feed-requires : tie.Need-feed-requires Inv-loop μ-loop
 feed-requires c κs =
     let after-loop = c .before .before .before .before .before .before in
     let start = after-loop .before .before .before .before in
     (after-loop .loop .inv .0 .ready, taking-room (after-loop .loop .inv .0) (start .pre .1))
 
-flush-requires : tie.Need-flush-requires Inv-loop μ-loop
-flush-requires c κs = search needs
-
-same-length : tie.Need-same-length Inv-loop μ-loop
-same-length c = search needs
-
-same-length-2 : tie.Need-same-length-2 Inv-loop μ-loop
-same-length-2 c = search needs
-
 returns : tie.Need-returns Inv-loop μ-loop
 unfolding Took
 returns c = tt
-
-add-at : tie.Need-add-at Inv-loop μ-loop
-add-at c = search needs
 
 loop-less : tie.Need-loop-less Inv-loop μ-loop
 loop-less c =
@@ -74,34 +53,12 @@ loop-again c =
       search needs,
     )
 
-same-length-3 : tie.Need-same-length-3 Inv-loop μ-loop
-same-length-3 c = search needs
-
-same-length-4 : tie.Need-same-length-4 Inv-loop μ-loop
-same-length-4 c = search needs
-
 returns-2 : tie.Need-returns-2 Inv-loop μ-loop
 unfolding Took
 returns-2 c = taking-all (c .before .loop .inv .0) (c .loop-test .left)
 
 pub take-spec : {M : Type 1} → statement M
 take-spec =
-    tie.close
-    (tie.spec
-    Inv-loop
-    μ-loop
-    loop-holds
-    sub-feed
-    part-feed-start
-    part-feed-end
-    feed-requires
-    flush-requires
-    same-length
-    same-length-2
-    returns
-    add-at
-    loop-less
-    loop-again
-    same-length-3
-    same-length-4
-    returns-2)
+    tie.close (tie.spec Inv-loop μ-loop loop-holds (λ c. search needs) (λ c. search needs) (λ c. search needs)
+    feed-requires (λ c κs. search needs) (λ c. search needs) (λ c. search needs) returns (λ c. search needs)
+    loop-less loop-again (λ c. search needs) (λ c. search needs) returns-2)

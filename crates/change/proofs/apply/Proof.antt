@@ -25,9 +25,6 @@ fit-of-requires : tie.Need-fit-of-requires
 fit-of-requires c κs = c .before .before .before .before .before .before .before .before .before .before .before
     .before .before .pre .0
 
-same-length : tie.Need-same-length
-same-length c = search needs
-
 returns : tie.Need-returns
 returns c =
     let at-fit-of = c .before .before in
@@ -88,12 +85,6 @@ done-requires c κs =
     table-size (changedAutomaton inserting t (decode (start .args .table .now)))
     (at-replace .replace .ensures inserting t (start .args .opens .now) F)
 
-same-length-2 : tie.Need-same-length-2
-same-length-2 c = search needs
-
-same-length-3 : tie.Need-same-length-3
-same-length-3 c = search needs
-
 returns-2 : tie.Need-returns-2
 returns-2 c =
     let at-replace = c .before .before .before .before .before .before in
@@ -115,16 +106,5 @@ returns-2 c =
 
 pub apply-spec : {M : Type 1} → statement M
 apply-spec =
-    tie.close
-    (tie.spec
-    name-requires
-    keep-requires
-    fit-of-requires
-    same-length
-    returns
-    classify-names-requires
-    replace-requires
-    done-requires
-    same-length-2
-    same-length-3
-    returns-2)
+    tie.close (tie.spec name-requires keep-requires fit-of-requires (λ c. search needs) returns
+    classify-names-requires replace-requires done-requires (λ c. search needs) (λ c. search needs) returns-2)

@@ -8,18 +8,6 @@ use borrow.Author.Needs.{needs}
 use Rattle.change.proofs.change.Statement.{statement}
 use Rattle.change.proofs.change.Tie as tie
 
-work-requires : tie.Need-work-requires
-work-requires c κs = search needs
-
-clear-requires : tie.Need-clear-requires
-clear-requires c κs = search needs
-
-same-length : tie.Need-same-length
-same-length c = search needs
-
-same-length-2 : tie.Need-same-length-2
-same-length-2 c = search needs
-
 returns : tie.Need-returns
 returns c =
     let at-clear = c .before .before in
@@ -30,4 +18,6 @@ returns c =
     .kept .1 .1 .1 .0))
 
 pub change-spec : {M : Type 1} → statement M
-change-spec = tie.close (tie.spec work-requires clear-requires same-length same-length-2 returns)
+change-spec =
+    tie.close (tie.spec (λ c κs. search needs) (λ c κs. search needs) (λ c. search needs) (λ c. search needs)
+    returns)

@@ -24,9 +24,6 @@ sub-note-uses c = omega (arith, given-size (c .before .before .before .pre .1))
 part-note-uses-start : tie.Need-part-note-uses-start
 part-note-uses-start c = omega (arith, given-size (c .before .before .before .pre .1))
 
-part-note-uses-end : tie.Need-part-note-uses-end
-part-note-uses-end c = search needs
-
 note-uses-requires : tie.Need-note-uses-requires
 note-uses-requires c κs = given-over (c .before .before .before .before .before .before .pre .1) .runs
 
@@ -35,9 +32,6 @@ sub-name-all c = omega (arith, given-size (c .before .before .before .before .be
 
 part-name-all-start : tie.Need-part-name-all-start
 part-name-all-start c = omega (arith, given-size (c .before .before .before .before .before .before .before .pre .1))
-
-part-name-all-end : tie.Need-part-name-all-end
-part-name-all-end c = search needs
 
 name-all-requires : tie.Need-name-all-requires
 name-all-requires c κs =
@@ -63,15 +57,5 @@ returns c =
 
 pub name-spec : {M : Type 1} → statement M
 name-spec =
-    tie.close
-    (tie.spec
-    classify-requires
-    sub-note-uses
-    part-note-uses-start
-    part-note-uses-end
-    note-uses-requires
-    sub-name-all
-    part-name-all-start
-    part-name-all-end
-    name-all-requires
-    returns)
+    tie.close (tie.spec classify-requires sub-note-uses part-note-uses-start (λ c. search needs)
+    note-uses-requires sub-name-all part-name-all-start (λ c. search needs) name-all-requires returns)

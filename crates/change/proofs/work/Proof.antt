@@ -19,9 +19,6 @@ slice-read-wide c =
     let start = c .before .before .before .before in
     omega (arith, (passed-size (start .args .table .now) (start .pre .1 .1 .0)))
 
-wide-requires : tie.Need-wide-requires
-wide-requires c κs = search needs
-
 transition-count-requires : tie.Need-transition-count-requires
 transition-count-requires c κs =
     let start = c .before .before .before .before .before .before in
@@ -48,9 +45,6 @@ part-count-pairs-start c =
     .before in
     omega (arith, (passed-size (start .args .table .now) (start .pre .1 .1 .0)))
 
-part-count-pairs-end : tie.Need-part-count-pairs-end
-part-count-pairs-end c = search needs
-
 count-pairs-requires : tie.Need-count-pairs-requires
 count-pairs-requires c κs =
     let at-collect = c .before .before .before .before .before in
@@ -74,9 +68,6 @@ count-pairs-requires c κs =
         ),
       ),
     )
-
-same-length : tie.Need-same-length
-same-length c = search needs
 
 returns : tie.Need-returns
 returns c =
@@ -120,12 +111,6 @@ apply-requires c κs =
       ),
     )
 
-same-length-2 : tie.Need-same-length-2
-same-length-2 c = search needs
-
-same-length-3 : tie.Need-same-length-3
-same-length-3 c = search needs
-
 returns-2 : tie.Need-returns-2
 returns-2 c =
     let at-collect = c .before .before .before .before .before .before .before .before .before .before .before
@@ -144,19 +129,6 @@ returns-2 c =
 
 pub work-spec : {M : Type 1} → statement M
 work-spec =
-    tie.close
-    (tie.spec
-    slice-read-wide
-    wide-requires
-    transition-count-requires
-    collect-requires
-    sub-count-pairs
-    part-count-pairs-start
-    part-count-pairs-end
-    count-pairs-requires
-    same-length
-    returns
-    apply-requires
-    same-length-2
-    same-length-3
-    returns-2)
+    tie.close (tie.spec slice-read-wide (λ c κs. search needs) transition-count-requires collect-requires
+    sub-count-pairs part-count-pairs-start (λ c. search needs) count-pairs-requires (λ c. search needs) returns
+    apply-requires (λ c. search needs) (λ c. search needs) returns-2)

@@ -10,15 +10,6 @@ returns c =
     ended-without (start .args .p) _ (start .args .table .now) (start .args .scratch .now) (start .args .out .now)
     (start .pre .0) (c .if1 .taken)
 
-end-line-requires : tie.Need-end-line-requires
-end-line-requires c κs = search needs
-
-same-length : tie.Need-same-length
-same-length c = search needs
-
-same-length-2 : tie.Need-same-length-2
-same-length-2 c = search needs
-
 returns-2 : tie.Need-returns-2
 returns-2 c =
     let after-end-line = c .before .before .before .before in
@@ -28,4 +19,5 @@ returns-2 c =
     .if1 .left))
 
 pub end-input-spec : {M : Type 1} → statement M
-end-input-spec = tie.close (tie.spec returns end-line-requires same-length same-length-2 returns-2)
+end-input-spec =
+    tie.close (tie.spec returns (λ c κs. search needs) (λ c. search needs) (λ c. search needs) returns-2)

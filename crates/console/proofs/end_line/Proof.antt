@@ -4,39 +4,6 @@ use borrow.Author.Needs.{needs}
 use Rattle.console.proofs.end_line.Statement.{statement}
 use Rattle.console.proofs.end_line.Tie as tie
 
-add-number : tie.Need-add-number
-add-number c = search needs
-
-sub-serve : tie.Need-sub-serve
-sub-serve c = search needs
-
-part-serve-start : tie.Need-part-serve-start
-part-serve-start c = search needs
-
-part-serve-end : tie.Need-part-serve-end
-part-serve-end c = search needs
-
-serve-requires : tie.Need-serve-requires
-serve-requires c κs = search needs
-
-sub-put-word : tie.Need-sub-put-word
-sub-put-word c = search needs
-
-part-put-word-start : tie.Need-part-put-word-start
-part-put-word-start c = search needs
-
-part-put-word-end : tie.Need-part-put-word-end
-part-put-word-end c = search needs
-
-put-word-requires : tie.Need-put-word-requires
-put-word-requires c κs = search needs
-
-same-length : tie.Need-same-length
-same-length c = search needs
-
-same-length-2 : tie.Need-same-length-2
-same-length-2 c = search needs
-
 returns : tie.Need-returns
 returns c =
     let after-serve = c .before .before .before .before .before .before .before .before in
@@ -46,17 +13,6 @@ returns c =
 
 pub end-line-spec : {M : Type 1} → statement M
 end-line-spec =
-    tie.close
-    (tie.spec
-    add-number
-    sub-serve
-    part-serve-start
-    part-serve-end
-    serve-requires
-    sub-put-word
-    part-put-word-start
-    part-put-word-end
-    put-word-requires
-    same-length
-    same-length-2
-    returns)
+    tie.close (tie.spec (λ c. search needs) (λ c. search needs) (λ c. search needs) (λ c. search needs)
+    (λ c κs. search needs) (λ c. search needs) (λ c. search needs) (λ c. search needs) (λ c κs. search needs)
+    (λ c. search needs) (λ c. search needs) returns)

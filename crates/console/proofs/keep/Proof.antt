@@ -7,14 +7,8 @@ use Rattle.console.proofs.keep.Tie as tie
 returns : tie.Need-returns
 returns c = kept-full _ _ _ (c .before .pre .0) (c .before .pre .1) (c .if1 .taken)
 
-element-write-line : tie.Need-element-write-line
-element-write-line c = search needs
-
-add-result : tie.Need-add-result
-add-result c = search needs
-
 returns-2 : tie.Need-returns-2
 returns-2 c = kept-more _ _ _ (c .before .pre .0) (c .if1 .left)
 
 pub keep-spec : {M : Type 1} → statement M
-keep-spec = tie.close (tie.spec returns element-write-line add-result returns-2)
+keep-spec = tie.close (tie.spec returns (λ c. search needs) (λ c. search needs) returns-2)

@@ -4,23 +4,11 @@ use borrow.Author.Needs.{needs}
 use Rattle.console.proofs.step.Statement.{statement}
 use Rattle.console.proofs.step.Tie as tie
 
-end-line-requires : tie.Need-end-line-requires
-end-line-requires c κs = search needs
-
-same-length : tie.Need-same-length
-same-length c = search needs
-
-same-length-2 : tie.Need-same-length-2
-same-length-2 c = search needs
-
 returns : tie.Need-returns
 returns c =
     let after-end-line = c .before .before .before .before in
     let after-if1 = after-end-line .before .before .before .before .before .before in
     moved-as (after-end-line .end-line .ensures) (stepped-end _ _ (after-if1 .if1 .taken))
-
-keep-requires : tie.Need-keep-requires
-keep-requires c κs = search needs
 
 returns-2 : tie.Need-returns-2
 returns-2 c =
@@ -31,5 +19,5 @@ returns-2 c =
 
 pub step-spec : {M : Type 1} → statement M
 step-spec =
-    tie.close
-    (tie.spec end-line-requires same-length same-length-2 returns keep-requires returns-2)
+    tie.close (tie.spec (λ c κs. search needs) (λ c. search needs) (λ c. search needs) returns
+    (λ c κs. search needs) returns-2)

@@ -34,18 +34,6 @@ search-holds c =
     search-start (start .args .label) (take (start .args .arity) (start .args .t5)) (start .args .transitions .now)
     (start .args .count)
 
-mul-at : tie.Need-mul-at Inv-args2 μ-args2 Inv-search μ-search
-mul-at c = search needs
-
-add-i : tie.Need-add-i Inv-args2 μ-args2 Inv-search μ-search
-add-i c = search needs
-
-label-of-requires : tie.Need-label-of-requires Inv-args2 μ-args2 Inv-search μ-search
-label-of-requires c κs = search needs
-
-search-less : tie.Need-search-less Inv-args2 μ-args2 Inv-search μ-search
-search-less c = search needs
-
 search-again : tie.Need-search-again Inv-args2 μ-args2 Inv-search μ-search
 search-again c =
     let start = c .before .before .before .before .before in
@@ -54,12 +42,6 @@ search-again c =
     (unlike-label (start .args .transitions .now) (transitionBytes * (c .before .before .before .search) .i) (start
     .args .label)
     (start .args .arity) (start .args .t5) enough (λ e. (c .if2) .taken (c .before .label-of .ensures .0 ∙ e)))
-
-arity-of-requires : tie.Need-arity-of-requires Inv-args2 μ-args2 Inv-search μ-search
-arity-of-requires c κs = search needs
-
-search-less-2 : tie.Need-search-less-2 Inv-args2 μ-args2 Inv-search μ-search
-search-less-2 c = search needs
 
 search-again-2 : tie.Need-search-again-2 Inv-args2 μ-args2 Inv-search μ-search
 search-again-2 c =
@@ -76,18 +58,6 @@ args2-holds c =
     agree-start (start .args .transitions .now) (transitionBytes * c .before .before .before .before .before .search .i)
     (start .args .arity) (start .args .t5)
 
-arg-of-requires : tie.Need-arg-of-requires Inv-args2 μ-args2 Inv-search μ-search
-arg-of-requires c κs = search needs
-
-array-read-wide : tie.Need-array-read-wide Inv-args2 μ-args2 Inv-search μ-search
-array-read-wide c = search needs
-
-wide-requires : tie.Need-wide-requires Inv-args2 μ-args2 Inv-search μ-search
-wide-requires c κs = search needs
-
-search-less-3 : tie.Need-search-less-3 Inv-args2 μ-args2 Inv-search μ-search
-search-less-3 c = search needs
-
 search-again-3 : tie.Need-search-again-3 Inv-args2 μ-args2 Inv-search μ-search
 search-again-3 c =
     let start = c .before .before .before .before .before .before .before .before .before .before .before .before in
@@ -101,22 +71,10 @@ search-again-3 c =
     .before .if3 .left) (omega arith)
     (λ e. (c .if4) .taken (c .before .before .arg-of .ensures .0 ∙ e ∙ sym (c .before .wide .ensures))))
 
-add-k : tie.Need-add-k Inv-args2 μ-args2 Inv-search μ-search
-add-k c = search needs
-
-args2-less : tie.Need-args2-less Inv-args2 μ-args2 Inv-search μ-search
-args2-less c = search needs
-
 args2-again : tie.Need-args2-again Inv-args2 μ-args2 Inv-search μ-search
 args2-again c =
     agree-next (c .before .before .before .before .args2 .inv) (omega arith) (sym (c .before .before .arg-of .ensures
     .0) ∙ c .if4 .left ∙ c .before .wide .ensures)
-
-out-of-requires : tie.Need-out-of-requires Inv-args2 μ-args2 Inv-search μ-search
-out-of-requires c κs = search needs
-
-cast-t21 : tie.Need-cast-t21 Inv-args2 μ-args2 Inv-search μ-search
-cast-t21 c = search needs
 
 returns : tie.Need-returns Inv-args2 μ-args2 Inv-search μ-search
 returns c = search-end (c .before .search .inv) (omega arith)
@@ -137,31 +95,8 @@ returns-2 c =
 
 pub find-spec : {M : Type 1} → statement M
 find-spec =
-    tie.close
-    (tie.spec
-    Inv-args2
-    μ-args2
-    Inv-search
-    μ-search
-    search-holds
-    mul-at
-    add-i
-    label-of-requires
-    search-less
-    search-again
-    arity-of-requires
-    search-less-2
-    search-again-2
-    args2-holds
-    arg-of-requires
-    array-read-wide
-    wide-requires
-    search-less-3
-    search-again-3
-    add-k
-    args2-less
-    args2-again
-    out-of-requires
-    cast-t21
-    returns
-    returns-2)
+    tie.close (tie.spec Inv-args2 μ-args2 Inv-search μ-search search-holds (λ c. search needs)
+    (λ c. search needs) (λ c κs. search needs) (λ c. search needs) search-again (λ c κs. search needs)
+    (λ c. search needs) search-again-2 args2-holds (λ c κs. search needs) (λ c. search needs)
+    (λ c κs. search needs) (λ c. search needs) search-again-3 (λ c. search needs) (λ c. search needs)
+    args2-again (λ c κs. search needs) (λ c. search needs) returns returns-2)

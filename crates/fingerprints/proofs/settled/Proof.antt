@@ -10,17 +10,8 @@ use borrow.Author.Needs.{needs}
 use Rattle.fingerprints.proofs.settled.Statement.{statement}
 use Rattle.fingerprints.proofs.settled.Tie as tie
 
-state-prints-requires : tie.Need-state-prints-requires
-state-prints-requires c κs = search needs
-
-all-some-requires : tie.Need-all-some-requires
-all-some-requires c κs = search needs
-
 returns : tie.Need-returns
 returns c = λ e. absurd (false≢true e)
-
-all-differ-requires : tie.Need-all-differ-requires
-all-differ-requires c κs = search needs
 
 returns-2 : tie.Need-returns-2
 returns-2 c =
@@ -39,5 +30,4 @@ returns-2 c =
 
 pub settled-spec : {M : Type 1} → statement M
 settled-spec =
-    tie.close
-    (tie.spec state-prints-requires all-some-requires returns all-differ-requires returns-2)
+    tie.close (tie.spec (λ c κs. search needs) (λ c κs. search needs) returns (λ c κs. search needs) returns-2)

@@ -56,15 +56,5 @@ returns-4 c =
 
 pub automaton-refusal-spec : {M : Type 1} → statement M
 automaton-refusal-spec =
-    tie.close
-    (tie.spec
-    ruled-requires
-    searched-refusal-requires
-    returns
-    loopless-requires
-    searched-refusal-requires-2
-    returns-2
-    settled-requires
-    searched-refusal-requires-3
-    returns-3
-    returns-4)
+    tie.close (tie.spec ruled-requires searched-refusal-requires returns loopless-requires
+    searched-refusal-requires-2 returns-2 settled-requires searched-refusal-requires-3 returns-3 returns-4)

@@ -6,24 +6,9 @@ use borrow.Author.Needs.{needs}
 use Rattle.intake.proofs.content_refusal.Statement.{statement}
 use Rattle.intake.proofs.content_refusal.Tie as tie
 
-layout-fits-requires : tie.Need-layout-fits-requires
-layout-fits-requires c κs = search needs
-
 returns : tie.Need-returns
 returns c =
     refused-7 ((c .before .before .before .args .table .now)) (c .before .layout-fits .ensures) (c .if1 .taken)
-
-transition-count-requires : tie.Need-transition-count-requires
-transition-count-requires c κs = search needs
-
-sub-rises : tie.Need-sub-rises
-sub-rises c = search needs
-
-part-rises-start : tie.Need-part-rises-start
-part-rises-start c = search needs
-
-part-rises-end : tie.Need-part-rises-end
-part-rises-end c = search needs
 
 rises-requires : tie.Need-rises-requires
 rises-requires c κs =
@@ -37,21 +22,6 @@ returns-2 c =
     .before .before .before .layout-fits .ensures) (c .before .before .before .before .if1 .left) (table-rises
     ((c .before .before .before .before .before .before .before .args .table .now)) (c .before .before .before
     .transition-count .ensures .0) (c .before .rises .ensures)) (c .if2 .taken)
-
-shared-slice-read-wide : tie.Need-shared-slice-read-wide
-shared-slice-read-wide c = search needs
-
-wide-requires : tie.Need-wide-requires
-wide-requires c κs = search needs
-
-sub-automaton-refusal : tie.Need-sub-automaton-refusal
-sub-automaton-refusal c = search needs
-
-part-automaton-refusal-start : tie.Need-part-automaton-refusal-start
-part-automaton-refusal-start c = search needs
-
-part-automaton-refusal-end : tie.Need-part-automaton-refusal-end
-part-automaton-refusal-end c = search needs
 
 automaton-refusal-requires : tie.Need-automaton-refusal-requires
 automaton-refusal-requires c κs =
@@ -77,20 +47,6 @@ returns-3 c =
 
 pub content-refusal-spec : {M : Type 1} → statement M
 content-refusal-spec =
-    tie.close
-    (tie.spec
-    layout-fits-requires
-    returns
-    transition-count-requires
-    sub-rises
-    part-rises-start
-    part-rises-end
-    rises-requires
-    returns-2
-    shared-slice-read-wide
-    wide-requires
-    sub-automaton-refusal
-    part-automaton-refusal-start
-    part-automaton-refusal-end
-    automaton-refusal-requires
-    returns-3)
+    tie.close (tie.spec (λ c κs. search needs) returns (λ c κs. search needs) (λ c. search needs)
+    (λ c. search needs) (λ c. search needs) rises-requires returns-2 (λ c. search needs) (λ c κs. search needs)
+    (λ c. search needs) (λ c. search needs) (λ c. search needs) automaton-refusal-requires returns-3)

@@ -10,11 +10,5 @@ returns c =
     climbing-acyclic (start .args .transitions .now) (start .args .n) (start .args .count) (start .pre .0)
     (start .pre .1 .1 (c .if1 .taken))
 
-acyclic-requires : tie.Need-acyclic-requires
-acyclic-requires c κs = search needs
-
-returns-2 : tie.Need-returns-2
-returns-2 c = search needs
-
 pub loopless-spec : {M : Type 1} → statement M
-loopless-spec = tie.close (tie.spec returns acyclic-requires returns-2)
+loopless-spec = tie.close (tie.spec returns (λ c κs. search needs) (λ c. search needs))

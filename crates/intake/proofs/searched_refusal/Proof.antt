@@ -7,9 +7,6 @@ use borrow.Author.Needs.{needs}
 use Rattle.intake.proofs.searched_refusal.Statement.{statement}
 use Rattle.intake.proofs.searched_refusal.Tie as tie
 
-ruled-requires : tie.Need-ruled-requires
-ruled-requires c κs = search needs
-
 reached-requires : tie.Need-reached-requires
 reached-requires c κs =
     (c .before .before .before .pre .0 .over, (c .before .before .before .pre .0 .states, c .ruled .ensures .0 []))
@@ -19,9 +16,6 @@ returns c =
     let start = c .before .before .before .before .before in
     refused-9 (viewed (start .args .classes .now) (start .args .transitions .now) (start .args .n) (start .args
     .count)) ((c .before .reached .ensures (start .args .classes .now))) (c .if1 .taken)
-
-all-coaccessible-requires : tie.Need-all-coaccessible-requires
-all-coaccessible-requires c κs = search needs
 
 returns-2 : tie.Need-returns-2
 returns-2 c =
@@ -117,16 +111,5 @@ returns-6 c =
 
 pub searched-refusal-spec : {M : Type 1} → statement M
 searched-refusal-spec =
-    tie.close
-    (tie.spec
-    ruled-requires
-    reached-requires
-    returns
-    all-coaccessible-requires
-    returns-2
-    loopless-requires
-    returns-3
-    all-distinguishable-requires
-    returns-4
-    returns-5
-    returns-6)
+    tie.close (tie.spec (λ c κs. search needs) reached-requires returns (λ c κs. search needs) returns-2
+    loopless-requires returns-3 all-distinguishable-requires returns-4 returns-5 returns-6)

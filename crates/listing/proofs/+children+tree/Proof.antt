@@ -56,15 +56,6 @@ tree-calls t = (
 children-returns : (t : ℕ) → children-lts.Need-returns (children-calls t) (children-at t) children.Post
 children-returns t c = search children-none
 
-children-tree-requires : (t : ℕ) → children-lts.Need-tree-requires (children-calls t) (children-at t) children.Post
-children-tree-requires t c κs = search needs
-
-children-enum-known-len : (t : ℕ) → children-lts.Need-enum-known-len (children-calls t) (children-at t) children.Post
-children-enum-known-len t c = search needs
-
-children-enum-told : (t : ℕ) → children-lts.Need-enum-told (children-calls t) (children-at t) children.Post
-children-enum-told t c = search needs
-
 children-returns-2 : (t : ℕ) → children-lts.Need-returns-2 (children-calls t) (children-at t) children.Post
 children-returns-2 t c = search children-bad
 
@@ -79,9 +70,6 @@ children-part-children-end : (t : ℕ) →
     children-lts.Need-part-children-end (children-calls t) (children-at t) children.Post
 children-part-children-end t c = search needs
 
-children-sub-children-2 : (t : ℕ) → children-lts.Need-sub-children-2 (children-calls t) (children-at t) children.Post
-children-sub-children-2 t c = search needs
-
 children-children-requires : (t : ℕ) →
     children-lts.Need-children-requires (children-calls t) (children-at t) children.Post
 children-children-requires t c κs =
@@ -95,9 +83,6 @@ children-children-requires t c κs =
 children-enum-known-more : (t : ℕ) →
     children-lts.Need-enum-known-more (children-calls t) (children-at t) children.Post
 children-enum-known-more t c = search needs
-
-children-enum-told-2 : (t : ℕ) → children-lts.Need-enum-told-2 (children-calls t) (children-at t) children.Post
-children-enum-told-2 t c = search needs
 
 children-returns-3 : (t : ℕ) → children-lts.Need-returns-3 (children-calls t) (children-at t) children.Post
 children-returns-3 t c = search children-bad-later
@@ -116,30 +101,6 @@ children-returns-4 t c = search children-good
 
 tree-returns : (t : ℕ) → tree-lts.Need-returns (tree-calls t) (tree-at t) tree.Post
 tree-returns t c = search tree-short
-
-tree-children-at-requires : (t : ℕ) → tree-lts.Need-children-at-requires (tree-calls t) (tree-at t) tree.Post
-tree-children-at-requires t c κs = search needs
-
-tree-wide-requires : (t : ℕ) → tree-lts.Need-wide-requires (tree-calls t) (tree-at t) tree.Post
-tree-wide-requires t c κs = search needs
-
-tree-sub-children : (t : ℕ) → tree-lts.Need-sub-children (tree-calls t) (tree-at t) tree.Post
-tree-sub-children t c = search needs
-
-tree-part-children-start : (t : ℕ) → tree-lts.Need-part-children-start (tree-calls t) (tree-at t) tree.Post
-tree-part-children-start t c = search needs
-
-tree-part-children-end : (t : ℕ) → tree-lts.Need-part-children-end (tree-calls t) (tree-at t) tree.Post
-tree-part-children-end t c = search needs
-
-tree-children-requires : (t : ℕ) → tree-lts.Need-children-requires (tree-calls t) (tree-at t) tree.Post
-tree-children-requires t c κs = search needs
-
-tree-enum-known-len : (t : ℕ) → tree-lts.Need-enum-known-len (tree-calls t) (tree-at t) tree.Post
-tree-enum-known-len t c = search needs
-
-tree-enum-told : (t : ℕ) → tree-lts.Need-enum-told (tree-calls t) (tree-at t) tree.Post
-tree-enum-told t c = search needs
 
 tree-returns-2 : (t : ℕ) → tree-lts.Need-returns-2 (tree-calls t) (tree-at t) tree.Post
 tree-returns-2 t c =
@@ -166,37 +127,9 @@ tree-returns-3 t c =
     (c .before .len .given .1)
 
 pub +children+tree-spec : {M : Type 1} → statement M
-+children+tree-spec = close μ-children μ-tree (λ t. children-lts.spec (children-calls t)
-    (children-at t)
-    children.Post
-    (children-returns t)
-    (children-tree-requires t)
-    (children-enum-known-len t)
-    (children-enum-told t)
-    (children-returns-2 t)
-    (children-sub-children t)
-    (children-part-children-start t)
-    (children-part-children-end t)
-    (children-sub-children-2 t)
-    (children-children-requires t)
-    (children-enum-known-more t)
-    (children-enum-told-2 t)
-    (children-returns-3 t)
-    (children-add-t9 t)
-    (children-returns-4 t))
-    λ t. tree-lts.spec
-    (tree-calls t)
-    (tree-at t)
-    tree.Post
-    (tree-returns t)
-    (tree-children-at-requires t)
-    (tree-wide-requires t)
-    (tree-sub-children t)
-    (tree-part-children-start t)
-    (tree-part-children-end t)
-    (tree-children-requires t)
-    (tree-enum-known-len t)
-    (tree-enum-told t)
-    (tree-returns-2 t)
-    (tree-add-t4 t)
-    (tree-returns-3 t)
++children+tree-spec =
+    close μ-children μ-tree
+    (λ t. children-lts.spec (children-calls t) (children-at t) children.Post (children-returns t) (λ c κs. search needs) (λ c. search needs) (λ c. search needs) (children-returns-2 t) (children-sub-children t) (children-part-children-start t) (children-part-children-end t) (λ c. search needs) (children-children-requires t) (children-enum-known-more t) (λ c. search needs) (children-returns-3 t) (children-add-t9 t) (children-returns-4 t))
+    λ t. tree-lts.spec (tree-calls t) (tree-at t) tree.Post (tree-returns t) (λ c κs. search needs)
+    (λ c κs. search needs) (λ c. search needs) (λ c. search needs) (λ c. search needs) (λ c κs. search needs)
+    (λ c. search needs) (λ c. search needs) (tree-returns-2 t) (tree-add-t4 t) (tree-returns-3 t)

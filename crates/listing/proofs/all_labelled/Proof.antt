@@ -20,20 +20,11 @@ loop-holds : tie.Need-loop-holds Inv-loop μ-loop
 unfolding allLabelled
 loop-holds c = every-start _ (zero-add _)
 
-label-at-requires : tie.Need-label-at-requires Inv-loop μ-loop
-label-at-requires c κs = search needs
-
 returns : tie.Need-returns Inv-loop μ-loop
 returns c =
     let turn = c .before .before .before .loop in
     every-broken (turn .inv) (c .before .before .loop-test .taken) (ap not (eq-eqb _ 0 (sym (c .before .label-at
     .ensures .0) ∙ c .if1 .taken)))
-
-add-i : tie.Need-add-i Inv-loop μ-loop
-add-i c = search needs
-
-loop-less : tie.Need-loop-less Inv-loop μ-loop
-loop-less c = search needs
 
 loop-again : tie.Need-loop-again Inv-loop μ-loop
 loop-again c =
@@ -46,14 +37,5 @@ returns-2 c = every-end (c .before .loop .inv) (c .loop-test .left)
 
 pub all-labelled-spec : {M : Type 1} → statement M
 all-labelled-spec =
-    tie.close
-    (tie.spec
-    Inv-loop
-    μ-loop
-    loop-holds
-    label-at-requires
-    returns
-    add-i
-    loop-less
-    loop-again
-    returns-2)
+    tie.close (tie.spec Inv-loop μ-loop loop-holds (λ c κs. search needs) returns (λ c. search needs)
+    (λ c. search needs) loop-again returns-2)

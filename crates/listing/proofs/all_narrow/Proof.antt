@@ -20,24 +20,12 @@ loop-holds : tie.Need-loop-holds Inv-loop μ-loop
 unfolding allNarrow
 loop-holds c = every-start _ (zero-add _)
 
-children-at-requires : tie.Need-children-at-requires Inv-loop μ-loop
-children-at-requires c κs = search needs
-
-wide-requires : tie.Need-wide-requires Inv-loop μ-loop
-wide-requires c κs = search needs
-
 returns : tie.Need-returns Inv-loop μ-loop
 returns c =
     let k = childrenAt (c .before .before .before .before .before .before .args .s .now) (c .before .before .before
     .before .loop .i) in
     let more = c .before .before .before .loop-test .taken in
     every-broken (c .before .before .before .before .loop .inv) more (lt-leb k maxArity (omega arith))
-
-add-i : tie.Need-add-i Inv-loop μ-loop
-add-i c = search needs
-
-loop-less : tie.Need-loop-less Inv-loop μ-loop
-loop-less c = search needs
 
 loop-again : tie.Need-loop-again Inv-loop μ-loop
 loop-again c =
@@ -51,15 +39,5 @@ returns-2 c = every-end (c .before .loop .inv) (c .loop-test .left)
 
 pub all-narrow-spec : {M : Type 1} → statement M
 all-narrow-spec =
-    tie.close
-    (tie.spec
-    Inv-loop
-    μ-loop
-    loop-holds
-    children-at-requires
-    wide-requires
-    returns
-    add-i
-    loop-less
-    loop-again
-    returns-2)
+    tie.close (tie.spec Inv-loop μ-loop loop-holds (λ c κs. search needs) (λ c κs. search needs) returns
+    (λ c. search needs) (λ c. search needs) loop-again returns-2)

@@ -5,12 +5,6 @@ use Rattle.listing.proofs.ReaderMeaning.{one-tree-measured}
 use Rattle.listing.proofs.one_tree.Statement.{statement}
 use Rattle.listing.proofs.one_tree.Tie as tie
 
-tree-requires : tie.Need-tree-requires
-tree-requires c κs = search needs
-
-enum-known-len : tie.Need-enum-known-len
-enum-known-len c = search needs
-
 enum-told : tie.Need-enum-told
 enum-told c = search needs
 
@@ -25,4 +19,4 @@ returns-2 c =
     sym (one-tree-measured s ∙ rw (sym (c .before .before .before .tree .ensures) ∙ c .before .len .given .1))
 
 pub one-tree-spec : {M : Type 1} → statement M
-one-tree-spec = tie.close (tie.spec tree-requires enum-known-len enum-told returns returns-2)
+one-tree-spec = tie.close (tie.spec (λ c κs. search needs) (λ c. search needs) enum-told returns returns-2)

@@ -37,26 +37,14 @@ module _ (s : List ℕ) where
 
 ruleset answers = (refused-1, refused-2, refused-3, refused-4, not-refused)
 
-whole-nodes-requires : tie.Need-whole-nodes-requires
-whole-nodes-requires c κs = search needs
-
 returns : tie.Need-returns
 returns c = search answers
-
-all-labelled-requires : tie.Need-all-labelled-requires
-all-labelled-requires c κs = search needs
 
 returns-2 : tie.Need-returns-2
 returns-2 c = search answers
 
-all-narrow-requires : tie.Need-all-narrow-requires
-all-narrow-requires c κs = search needs
-
 returns-3 : tie.Need-returns-3
 returns-3 c = search answers
-
-one-tree-requires : tie.Need-one-tree-requires
-one-tree-requires c κs = search needs
 
 returns-4 : tie.Need-returns-4
 returns-4 c = search answers
@@ -66,14 +54,5 @@ returns-5 c = search answers
 
 pub refusal-spec : {M : Type 1} → statement M
 refusal-spec =
-    tie.close
-    (tie.spec
-    whole-nodes-requires
-    returns
-    all-labelled-requires
-    returns-2
-    all-narrow-requires
-    returns-3
-    one-tree-requires
-    returns-4
-    returns-5)
+    tie.close (tie.spec (λ c κs. search needs) returns (λ c κs. search needs) returns-2 (λ c κs. search needs)
+    returns-3 (λ c κs. search needs) returns-4 returns-5)

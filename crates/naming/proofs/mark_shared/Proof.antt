@@ -8,9 +8,6 @@ use Rattle.naming.proofs.Sharing.{marked-none, marked-own, marked-other
 use Rattle.naming.proofs.mark_shared.Statement.{statement}
 use Rattle.naming.proofs.mark_shared.Tie as tie
 
-wide-requires : tie.Need-wide-requires
-wide-requires c κs = search needs
-
 returns : tie.Need-returns
 returns c = (c .before .before .pre .1 .1 .1 .1, marked-none (omega (arith, c .before .wide .ensures, c .if1 .taken)))
 
@@ -28,15 +25,6 @@ returns-2 c = (
   )),
 )
 
-sub-shared : tie.Need-sub-shared
-sub-shared c = search needs
-
-sub-shared-2 : tie.Need-sub-shared-2
-sub-shared-2 c = search needs
-
-element-write-shared : tie.Need-element-write-shared
-element-write-shared c = search needs
-
 returns-3 : tie.Need-returns-3
 returns-3 c =
     let start = c .before .before .before in (
@@ -53,13 +41,5 @@ returns-3 c =
 
 pub mark-shared-spec : {M : Type 1} → statement M
 mark-shared-spec =
-    tie.close
-    (tie.spec
-    wide-requires
-    returns
-    add-if2
-    returns-2
-    sub-shared
-    sub-shared-2
-    element-write-shared
-    returns-3)
+    tie.close (tie.spec (λ c κs. search needs) returns add-if2 returns-2 (λ c. search needs) (λ c. search needs)
+    (λ c. search needs) returns-3)

@@ -40,9 +40,6 @@ mark-shared-requires c κs =
     let now = at-loop .loop in
     (p .states, (p .shaped .few, (now .inv .within, (c .before .name-subtree .ensures .0, now .inv .marks))))
 
-sub-names : tie.Need-sub-names Inv-loop μ-loop
-sub-names c = search needs
-
 element-write-names : tie.Need-element-write-names Inv-loop μ-loop
 element-write-names c =
     let at-loop-test = c .before .before .before .before .before .before .before in
@@ -50,9 +47,6 @@ element-write-names c =
     let start = at-loop .before .before .before .before .before .before .before in
     let inv = at-loop .loop .inv in
     omega (arith, inv .within, inv .size, at-loop-test .loop-test .taken, start .pre .shaped .few)
-
-sub-j : tie.Need-sub-j Inv-loop μ-loop
-sub-j c = search needs
 
 loop-less : tie.Need-loop-less Inv-loop μ-loop
 loop-less c = omega (arith, c .before .before .before .before .before .before .before .loop-test .taken)
@@ -75,17 +69,6 @@ returns c =
 
 pub name-all-spec : {M : Type 1} → statement M
 name-all-spec =
-    tie.close
-    (tie.spec
-    Inv-loop
-    μ-loop
-    note-parents-requires
-    loop-holds
-    name-subtree-requires
-    mark-shared-requires
-    sub-names
-    element-write-names
-    sub-j
-    loop-less
-    loop-again
+    tie.close (tie.spec Inv-loop μ-loop note-parents-requires loop-holds name-subtree-requires
+    mark-shared-requires (λ c. search needs) element-write-names (λ c. search needs) loop-less loop-again
     returns)

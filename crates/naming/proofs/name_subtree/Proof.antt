@@ -11,36 +11,12 @@ use borrow.Author.Needs.{needs}
 use Rattle.naming.proofs.name_subtree.Statement.{statement}
 use Rattle.naming.proofs.name_subtree.Tie as tie
 
-sub-wide : tie.Need-sub-wide
-sub-wide c = search needs
-
-element-copy-out-wide : tie.Need-element-copy-out-wide
-element-copy-out-wide c = search needs
-
-wide-requires : tie.Need-wide-requires
-wide-requires c κs = search needs
-
-sub-wide-2 : tie.Need-sub-wide-2
-sub-wide-2 c = search needs
-
-element-copy-out-wide-2 : tie.Need-element-copy-out-wide-2
-element-copy-out-wide-2 c = search needs
-
-wide-requires-2 : tie.Need-wide-requires-2
-wide-requires-2 c κs = search needs
-
 anchored-requires : tie.Need-anchored-requires
 anchored-requires c κs =
     let start = c .before .before .before .before .before .before in
     let p = start .pre in
     let q = p .1 .1 in
     (p .0 .states, (p .0 .shaped, spanned (q .0) (q .1 .0) (q .1 .1) (c .before .before .wide .ensures) (c .wide2 .ensures)))
-
-add-result : tie.Need-add-result
-add-result c = search needs
-
-cast-result : tie.Need-cast-result
-cast-result c = search needs
 
 returns : tie.Need-returns
 returns c =
@@ -58,9 +34,6 @@ find-state-requires c κs =
     let q = p .1 .1 .1 in
     let within = spanned (p .1 .1 .0) (q .0) (q .1) (at-wide .wide .ensures) (c .before .before .wide2 .ensures) in
     (p .0, (q .0, (q .1, within)))
-
-cast-result-2 : tie.Need-cast-result-2
-cast-result-2 c = search needs
 
 returns-2 : tie.Need-returns-2
 returns-2 c = (
@@ -117,25 +90,7 @@ returns-4 c =
 
 pub name-subtree-spec : {M : Type 1} → statement M
 name-subtree-spec =
-    tie.close
-    (tie.spec
-    sub-wide
-    element-copy-out-wide
-    wide-requires
-    sub-wide-2
-    element-copy-out-wide-2
-    wide-requires-2
-    anchored-requires
-    add-result
-    cast-result
-    returns
-    find-state-requires
-    cast-result-2
-    returns-2
-    find-subtree-requires
-    add-result-2
-    cast-result-3
-    returns-3
-    add-result-3
-    cast-result-4
-    returns-4)
+    tie.close (tie.spec (λ c. search needs) (λ c. search needs) (λ c κs. search needs) (λ c. search needs)
+    (λ c. search needs) (λ c κs. search needs) anchored-requires (λ c. search needs) (λ c. search needs) returns
+    find-state-requires (λ c. search needs) returns-2 find-subtree-requires add-result-2 cast-result-3 returns-3
+    add-result-3 cast-result-4 returns-4)

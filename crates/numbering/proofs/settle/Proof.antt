@@ -7,12 +7,6 @@ use borrow.Author.Needs.{needs}
 use Rattle.numbering.proofs.settle.Statement.{statement}
 use Rattle.numbering.proofs.settle.Tie as tie
 
-no-names-requires : tie.Need-no-names-requires
-no-names-requires c κs = search needs
-
-number-names-requires : tie.Need-number-names-requires
-number-names-requires c κs = search needs
-
 returns : tie.Need-returns
 returns c = λ e. absurd (false≢true e)
 
@@ -23,12 +17,6 @@ renumber-requires c κs =
     let start = at-number-names .before .before .before .before .before .before .before in
     let n = at-number-names .number-names .ensures (not-false _ (at-if1 .if1 .left)) in
     (start .pre .0, (n .zero, numbered-bytes n (start .pre .1 .1 .1 .1) (start .pre .1 .1 .1 .0)))
-
-same-length : tie.Need-same-length
-same-length c = search needs
-
-same-length-2 : tie.Need-same-length-2
-same-length-2 c = search needs
 
 returns-2 : tie.Need-returns-2
 returns-2 c = λ e. absurd (false≢true e)
@@ -53,18 +41,6 @@ sound-requires c κs =
       start .pre .1 .1 .1 .0,
     )
 
-same-length-3 : tie.Need-same-length-3
-same-length-3 c = search needs
-
-same-length-4 : tie.Need-same-length-4
-same-length-4 c = search needs
-
-same-length-5 : tie.Need-same-length-5
-same-length-5 c = search needs
-
-same-length-6 : tie.Need-same-length-6
-same-length-6 c = search needs
-
 returns-3 : tie.Need-returns-3
 returns-3 c =
     let at-sort = c .before .before .before .before .before .before .before .before .before .before .before in
@@ -79,19 +55,6 @@ returns-3 c =
 
 pub settle-spec : {M : Type 1} → statement M
 settle-spec =
-    tie.close
-    (tie.spec
-    no-names-requires
-    number-names-requires
-    returns
-    renumber-requires
-    same-length
-    same-length-2
-    returns-2
-    sort-requires
-    sound-requires
-    same-length-3
-    same-length-4
-    same-length-5
-    same-length-6
-    returns-3)
+    tie.close (tie.spec (λ c κs. search needs) (λ c κs. search needs) returns renumber-requires
+    (λ c. search needs) (λ c. search needs) returns-2 sort-requires sound-requires (λ c. search needs)
+    (λ c. search needs) (λ c. search needs) (λ c. search needs) returns-3)

@@ -6,12 +6,6 @@ use borrow.Author.Needs.{needs}
 use Rattle.packed.proofs.meta_at.Statement.{statement}
 use Rattle.packed.proofs.meta_at.Tie as tie
 
-arity-of-requires : tie.Need-arity-of-requires
-arity-of-requires c κs = search needs
-
-label-of-requires : tie.Need-label-of-requires
-label-of-requires c κs = search needs
-
 mul-result : tie.Need-mul-result
 mul-result c =
     omega (
@@ -20,9 +14,6 @@ mul-result c =
       c .label-of .ensures .1,
       c .before .before .shared-slice-known .given (c .before .before .before .args .at + arityAt),
     )
-
-cast-result : tie.Need-cast-result
-cast-result c = search needs
 
 add-result : tie.Need-add-result
 add-result c =
@@ -33,10 +24,7 @@ add-result c =
       c .before .before .shared-slice-known .given (c .before .before .before .args .at + arityAt),
     )
 
-returns : tie.Need-returns
-returns c = search needs
-
 pub meta-at-spec : {M : Type 1} → statement M
 meta-at-spec =
-    tie.close
-    (tie.spec arity-of-requires label-of-requires mul-result cast-result add-result returns)
+    tie.close (tie.spec (λ c κs. search needs) (λ c κs. search needs) mul-result (λ c. search needs) add-result
+    (λ c. search needs))

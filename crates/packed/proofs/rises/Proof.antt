@@ -23,12 +23,6 @@ returns c =
     let e : start .count - 1 ≡ 0 = omega arith in
     sym (rising-next (start .transitions .now) (start .count) ∙ rw e)
 
-meta-at-requires : tie.Need-meta-at-requires Inv-loop μ-loop
-meta-at-requires c κs = search needs
-
-args-at-requires : tie.Need-args-at-requires Inv-loop μ-loop
-args-at-requires c κs = search needs
-
 loop-holds : tie.Need-loop-holds Inv-loop μ-loop
 loop-holds c =
     record {
@@ -36,24 +30,6 @@ loop-holds c =
       meta = c .before .meta-at .ensures;
       args = c .args-at .ensures;
     }
-
-add-loop : tie.Need-add-loop Inv-loop μ-loop
-add-loop c = search needs
-
-add-next : tie.Need-add-next Inv-loop μ-loop
-add-next c = search needs
-
-mul-next : tie.Need-mul-next Inv-loop μ-loop
-mul-next c = search needs
-
-meta-at-requires-2 : tie.Need-meta-at-requires-2 Inv-loop μ-loop
-meta-at-requires-2 c κs = search needs
-
-args-at-requires-2 : tie.Need-args-at-requires-2 Inv-loop μ-loop
-args-at-requires-2 c κs = search needs
-
-comes-before-requires : tie.Need-comes-before-requires Inv-loop μ-loop
-comes-before-requires c κs = search needs
 
 returns-2 : tie.Need-returns-2 Inv-loop μ-loop
 returns-2 c =
@@ -69,12 +45,6 @@ returns-2 c =
     every-broken (now .inv .passed) (omega arith)
     (sym e ∙ sym (c .before .comes-before .ensures) ∙ not-true _ (c .if2 .taken))
     ∙ sym (rising-next (start .args .transitions .now) (start .args .count))
-
-add-i : tie.Need-add-i Inv-loop μ-loop
-add-i c = search needs
-
-loop-less : tie.Need-loop-less Inv-loop μ-loop
-loop-less c = search needs
 
 loop-again : tie.Need-loop-again Inv-loop μ-loop
 loop-again c =
@@ -102,22 +72,6 @@ returns-3 c =
 
 pub rises-spec : {M : Type 1} → statement M
 rises-spec =
-    tie.close
-    (tie.spec
-    Inv-loop
-    μ-loop
-    returns
-    meta-at-requires
-    args-at-requires
-    loop-holds
-    add-loop
-    add-next
-    mul-next
-    meta-at-requires-2
-    args-at-requires-2
-    comes-before-requires
-    returns-2
-    add-i
-    loop-less
-    loop-again
-    returns-3)
+    tie.close (tie.spec Inv-loop μ-loop returns (λ c κs. search needs) (λ c κs. search needs) loop-holds
+    (λ c. search needs) (λ c. search needs) (λ c. search needs) (λ c κs. search needs) (λ c κs. search needs)
+    (λ c κs. search needs) returns-2 (λ c. search needs) (λ c. search needs) loop-again returns-3)

@@ -5,23 +5,11 @@ use borrow.Author.Needs.{needs}
 use Rattle.pairs.proofs.count_pairs.Statement.{statement}
 use Rattle.pairs.proofs.count_pairs.Tie as tie
 
-count-states-requires : tie.Need-count-states-requires
-count-states-requires c κs = search needs
-
-open-states-requires : tie.Need-open-states-requires
-open-states-requires c κs = search needs
-
 weigh-requires : tie.Need-weigh-requires
 weigh-requires c κs =
     let at-counts = c .before .before .before .before .before .before in
     let start = at-counts .before .before .before in
     (few-counted (at-counts .count-states .ensures) (start .pre .1 .0), start .pre .1 .1 .1)
-
-array-read-index : tie.Need-array-read-index
-array-read-index c = search needs
-
-index-requires : tie.Need-index-requires
-index-requires c κs = search needs
 
 sum-fits-requires : tie.Need-sum-fits-requires
 sum-fits-requires c κs =
@@ -54,12 +42,5 @@ returns c =
 
 pub count-pairs-spec : {M : Type 1} → statement M
 count-pairs-spec =
-    tie.close
-    (tie.spec
-    count-states-requires
-    open-states-requires
-    weigh-requires
-    array-read-index
-    index-requires
-    sum-fits-requires
-    returns)
+    tie.close (tie.spec (λ c κs. search needs) (λ c κs. search needs) weigh-requires (λ c. search needs)
+    (λ c κs. search needs) sum-fits-requires returns)

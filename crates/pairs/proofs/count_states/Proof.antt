@@ -17,12 +17,6 @@ abbrev μ-loop : tie.MeasureT-loop
 loop-holds : tie.Need-loop-holds Inv-loop μ-loop
 loop-holds c = (omega arith, counted-start (c .pre .1))
 
-element-copy-out-index : tie.Need-element-copy-out-index Inv-loop μ-loop
-element-copy-out-index c = search needs
-
-index-requires : tie.Need-index-requires Inv-loop μ-loop
-index-requires c κs = search needs
-
 element-copy-out-counts : tie.Need-element-copy-out-counts Inv-loop μ-loop
 element-copy-out-counts c = c .index .ensures .1
 
@@ -42,12 +36,6 @@ add-counts c =
 element-write-counts : tie.Need-element-write-counts Inv-loop μ-loop
 element-write-counts c = c .before .index .ensures .1
 
-add-j : tie.Need-add-j Inv-loop μ-loop
-add-j c = search needs
-
-loop-less : tie.Need-loop-less Inv-loop μ-loop
-loop-less c = search needs
-
 loop-again : tie.Need-loop-again Inv-loop μ-loop
 loop-again c =
     let read = c .before .index in
@@ -60,17 +48,6 @@ returns c =
 
 pub count-states-spec : {M : Type 1} → statement M
 count-states-spec =
-    tie.close
-    (tie.spec
-    Inv-loop
-    μ-loop
-    loop-holds
-    element-copy-out-index
-    index-requires
-    element-copy-out-counts
-    add-counts
-    element-write-counts
-    add-j
-    loop-less
-    loop-again
+    tie.close (tie.spec Inv-loop μ-loop loop-holds (λ c. search needs) (λ c κs. search needs)
+    element-copy-out-counts add-counts element-write-counts (λ c. search needs) (λ c. search needs) loop-again
     returns)

@@ -8,11 +8,8 @@ use Rattle.pairs.proofs.weight.Tie as tie
 returns : tie.Need-returns
 returns c = rw (nonzero-false (c .before .args .mark) (c .if1 .taken)) (omega arith)
 
-add-result : tie.Need-add-result
-add-result c = search needs
-
 returns-2 : tie.Need-returns-2
 returns-2 c = rw (nonzero-true (c .before .args .mark) (c .if1 .left))
 
 pub weight-spec : {M : Type 1} → statement M
-weight-spec = tie.close (tie.spec returns add-result returns-2)
+weight-spec = tie.close (tie.spec returns (λ c. search needs) returns-2)

@@ -15,12 +15,6 @@ transition-count-requires : tie.Need-transition-count-requires
 transition-count-requires c κs =
     let start = c .before .before in passed-length (start .args .table .now) (start .pre .1 .0)
 
-element-copy-out-wide : tie.Need-element-copy-out-wide
-element-copy-out-wide c = search needs
-
-wide-requires : tie.Need-wide-requires
-wide-requires c κs = search needs
-
 sub-sum-accepting : tie.Need-sub-sum-accepting
 sub-sum-accepting c =
     let start = c .before .before .before .before .before in
@@ -54,17 +48,11 @@ part-rank-within-start c =
     let start = c .before .before .before .before .before .before in
     let h = passed-length (start .args .table .now) (start .pre .1 .0) in search needs
 
-part-rank-within-end : tie.Need-part-rank-within-end
-part-rank-within-end c = search needs
-
 rank-within-requires : tie.Need-rank-within-requires
 rank-within-requires c κs =
     let start = c .before .before .before .before .before .before .before in
     let count = c .before .before .before .before .transition-count .ensures .0 in
     (start .pre .0, passed-seen (start .args .table .now) count refl (start .pre .1 .0) .0 .over .runs)
-
-plus-requires : tie.Need-plus-requires
-plus-requires c κs = search needs
 
 value-of-requires : tie.Need-value-of-requires
 value-of-requires c κs =
@@ -95,17 +83,6 @@ returns c =
 
 pub rank-spec : {M : Type 1} → statement M
 rank-spec =
-    tie.close
-    (tie.spec
-    transition-count-requires
-    element-copy-out-wide
-    wide-requires
-    sub-sum-accepting
-    sum-accepting-requires
-    sub-rank-within
-    part-rank-within-start
-    part-rank-within-end
-    rank-within-requires
-    plus-requires
-    value-of-requires
-    returns)
+    tie.close (tie.spec transition-count-requires (λ c. search needs) (λ c κs. search needs) sub-sum-accepting
+    sum-accepting-requires sub-rank-within part-rank-within-start (λ c. search needs) rank-within-requires
+    (λ c κs. search needs) value-of-requires returns)

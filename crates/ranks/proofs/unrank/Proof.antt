@@ -18,9 +18,6 @@ shared-slice-read-wide c =
     let start = c .before .before .before .before in
     omega (arith, passed-length (start .args .table .now) (start .pre .0))
 
-wide-requires : tie.Need-wide-requires
-wide-requires c κs = search needs
-
 choose-state-requires : tie.Need-choose-state-requires
 choose-state-requires c κs =
     let start = c .before .before .before .before .before in
@@ -44,9 +41,6 @@ part-list-tree-start : tie.Need-part-list-tree-start
 part-list-tree-start c =
     let start = c .before .before .before .before .before .before in
     let h = passed-length (start .args .table .now) (start .pre .0) in search needs
-
-part-list-tree-end : tie.Need-part-list-tree-end
-part-list-tree-end c = search needs
 
 list-tree-requires : tie.Need-list-tree-requires
 list-tree-requires c κs =
@@ -83,9 +77,6 @@ copy-requires c κs =
     let start = c .before .before .before .before .before .before .before .before .before .before .before .before in
     (c .before .before .before .list-tree .ensures .0, start .pre .1 .1 .1 .1)
 
-same-length : tie.Need-same-length
-same-length c = search needs
-
 returns-2 : tie.Need-returns-2
 returns-2 c =
     let at-wide = c .before .before .before .before .before .before .before .before .before .before in
@@ -100,17 +91,6 @@ returns-2 c =
 
 pub unrank-spec : {M : Type 1} → statement M
 unrank-spec =
-    tie.close
-    (tie.spec
-    transition-count-requires
-    shared-slice-read-wide
-    wide-requires
-    choose-state-requires
-    sub-list-tree
-    part-list-tree-start
-    part-list-tree-end
-    list-tree-requires
-    returns
-    copy-requires
-    same-length
-    returns-2)
+    tie.close (tie.spec transition-count-requires shared-slice-read-wide (λ c κs. search needs)
+    choose-state-requires sub-list-tree part-list-tree-start (λ c. search needs) list-tree-requires returns
+    copy-requires (λ c. search needs) returns-2)

@@ -37,9 +37,6 @@ calls t = (
   put-number.Post,
 )
 
-digit-requires : (t : ℕ) → lts.Need-digit-requires (calls t) (at-measure t) put-number.Post
-digit-requires t c κs = search needs
-
 put-byte-requires : (t : ℕ) → lts.Need-put-byte-requires (calls t) (at-measure t) put-number.Post
 put-byte-requires t c κs =
     let start = c .before .before .before in
@@ -58,9 +55,6 @@ put-number-requires t c κs =
     let one-more = decimal-more-length (start .args .n) (omega arith) in
     (omega arith, record { size = start .pre .1 .size; fits = omega arith })
 
-digit-requires-2 : (t : ℕ) → lts.Need-digit-requires-2 (calls t) (at-measure t) put-number.Post
-digit-requires-2 t c κs = search needs
-
 put-byte-requires-2 : (t : ℕ) → lts.Need-put-byte-requires-2 (calls t) (at-measure t) put-number.Post
 put-byte-requires-2 t c κs =
     let start = c .before .before .before .before .before in
@@ -76,11 +70,6 @@ returns-2 t c =
 
 pub +put-number-spec : {M : Type 1} → statement M
 +put-number-spec =
-    close μ-put-number λ t. lts.spec (calls t) (at-measure t) put-number.Post
-    (digit-requires t)
-    (put-byte-requires t)
-    (returns t)
-    (put-number-requires t)
-    (digit-requires-2 t)
-    (put-byte-requires-2 t)
+    close μ-put-number λ t. lts.spec (calls t) (at-measure t) put-number.Post (λ c κs. search needs)
+    (put-byte-requires t) (returns t) (put-number-requires t) (λ c κs. search needs) (put-byte-requires-2 t)
     (returns-2 t)

@@ -6,24 +6,6 @@ use borrow.Author.Needs.{needs}
 use Rattle.report.proofs.end.Statement.{statement}
 use Rattle.report.proofs.end.Tie as tie
 
-slice-aggregate-put-word : tie.Need-slice-aggregate-put-word
-slice-aggregate-put-word c = search needs
-
-put-word-requires : tie.Need-put-word-requires
-put-word-requires c κs = search needs
-
-put-field-requires : tie.Need-put-field-requires
-put-field-requires c κs = search needs
-
-put-field-requires-2 : tie.Need-put-field-requires-2
-put-field-requires-2 c κs = search needs
-
-put-field-requires-3 : tie.Need-put-field-requires-3
-put-field-requires-3 c κs = search needs
-
-put-byte-requires : tie.Need-put-byte-requires
-put-byte-requires c κs = search needs
-
 returns : tie.Need-returns
 unfolding endText
 returns c =
@@ -40,12 +22,5 @@ returns c =
 
 pub end-spec : {M : Type 1} → statement M
 end-spec =
-    tie.close
-    (tie.spec
-    slice-aggregate-put-word
-    put-word-requires
-    put-field-requires
-    put-field-requires-2
-    put-field-requires-3
-    put-byte-requires
-    returns)
+    tie.close (tie.spec (λ c. search needs) (λ c κs. search needs) (λ c κs. search needs) (λ c κs. search needs)
+    (λ c κs. search needs) (λ c κs. search needs) returns)

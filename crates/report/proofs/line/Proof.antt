@@ -38,5 +38,4 @@ returns c =
 
 pub line-spec : {M : Type 1} → statement M
 line-spec =
-    tie.close
-    (tie.spec put-number-requires put-byte-requires put-outcome-requires put-byte-requires-2 returns)
+    tie.close (tie.spec put-number-requires put-byte-requires put-outcome-requires put-byte-requires-2 returns)

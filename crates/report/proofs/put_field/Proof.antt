@@ -7,9 +7,6 @@ use borrow.Author.Needs.{needs}
 use Rattle.report.proofs.put_field.Statement.{statement}
 use Rattle.report.proofs.put_field.Tie as tie
 
-put-byte-requires : tie.Need-put-byte-requires
-put-byte-requires c κs = search needs
-
 put-number-requires : tie.Need-put-number-requires
 put-number-requires c κs =
     let short = decimal-fits (c .before .before .before .fits .n) in search needs
@@ -22,4 +19,4 @@ returns c =
     (put-then (space .put-byte .ensures) (c .put-number .ensures), omega arith)
 
 pub put-field-spec : {M : Type 1} → statement M
-put-field-spec = tie.close (tie.spec put-byte-requires put-number-requires returns)
+put-field-spec = tie.close (tie.spec (λ c κs. search needs) put-number-requires returns)

@@ -6,32 +6,8 @@ use borrow.Author.Needs.{needs}
 use Rattle.report.proofs.put_outcome.Statement.{statement}
 use Rattle.report.proofs.put_outcome.Tie as tie
 
-enum-known-outcome : tie.Need-enum-known-outcome
-enum-known-outcome c = search needs
-
-put-answer-requires : tie.Need-put-answer-requires
-put-answer-requires c κs = search needs
-
-enum-known-outcome-2 : tie.Need-enum-known-outcome-2
-enum-known-outcome-2 c = search needs
-
-slice-aggregate-put-word : tie.Need-slice-aggregate-put-word
-slice-aggregate-put-word c = search needs
-
-put-word-requires : tie.Need-put-word-requires
-put-word-requires c κs = search needs
-
-put-field-requires : tie.Need-put-field-requires
-put-field-requires c κs = search needs
-
 enum-told : tie.Need-enum-told
 enum-told c = search needs
-
-slice-aggregate-put-word-2 : tie.Need-slice-aggregate-put-word-2
-slice-aggregate-put-word-2 c = search needs
-
-put-word-requires-2 : tie.Need-put-word-requires-2
-put-word-requires-2 c κs = search needs
 
 returns : tie.Need-returns
 unfolding outcomeText
@@ -48,17 +24,6 @@ returns-3 c = (rw (c .before .before .before .enum-told .given .1) (c .put-word2
 
 pub put-outcome-spec : {M : Type 1} → statement M
 put-outcome-spec =
-    tie.close
-    (tie.spec
-    enum-known-outcome
-    put-answer-requires
-    enum-known-outcome-2
-    slice-aggregate-put-word
-    put-word-requires
-    put-field-requires
-    enum-told
-    slice-aggregate-put-word-2
-    put-word-requires-2
-    returns
-    returns-2
-    returns-3)
+    tie.close (tie.spec (λ c. search needs) (λ c κs. search needs) (λ c. search needs) (λ c. search needs)
+    (λ c κs. search needs) (λ c κs. search needs) enum-told (λ c. search needs) (λ c κs. search needs) returns
+    returns-2 returns-3)

@@ -115,15 +115,6 @@ run-children-element-copy-out-rows t c =
     let e = one-more (start .pre .1 .1 .1 .1 .1 .1 .0) (at-if1 .if1 .left) in
     root-row (first-ahead v (a .arity - (a .k + 1)) e)
 
-run-children-mul-rows : (t : ℕ) → run-children-lts.Need-mul-rows (run-children-calls t) (run-children-at t) run-children.Post
-run-children-mul-rows t c = search needs
-
-run-children-index-1-rows : (t : ℕ) → run-children-lts.Need-index-1-rows (run-children-calls t) (run-children-at t) run-children.Post
-run-children-index-1-rows t c = search needs
-
-run-children-index-2-rows : (t : ℕ) → run-children-lts.Need-index-2-rows (run-children-calls t) (run-children-at t) run-children.Post
-run-children-index-2-rows t c = search needs
-
 run-children-mul-run-children : (t : ℕ) → run-children-lts.Need-mul-run-children (run-children-calls t) (run-children-at t) run-children.Post
 run-children-mul-run-children t c =
     let at-run-tree = c .before in
@@ -163,9 +154,6 @@ run-children-part-run-children-start t c =
     let ran = at-run-tree .run-tree .ensures .0 in
     first-within v i e m ran
 
-run-children-part-run-children-end : (t : ℕ) → run-children-lts.Need-part-run-children-end (run-children-calls t) (run-children-at t) run-children.Post
-run-children-part-run-children-end t c = search needs
-
 run-children-add-run-children : (t : ℕ) → run-children-lts.Need-add-run-children (run-children-calls t) (run-children-at t) run-children.Post
 run-children-add-run-children t c =
     let at-run-tree = c .before .before .before .before in
@@ -178,9 +166,6 @@ run-children-add-run-children t c =
     let m = at-run-tree .run-tree .result in
     let ran = at-run-tree .run-tree .ensures .0 in
     omega (arith, first-within v i e m ran, v .room)
-
-run-children-add-run-children-2 : (t : ℕ) → run-children-lts.Need-add-run-children-2 (run-children-calls t) (run-children-at t) run-children.Post
-run-children-add-run-children-2 t c = search needs
 
 run-children-run-children-requires : (t : ℕ) → run-children-lts.Need-run-children-requires (run-children-calls t) (run-children-at t) run-children.Post
 run-children-run-children-requires t c κs =
@@ -255,9 +240,6 @@ run-tree-children-at-requires : (t : ℕ) → run-tree-lts.Need-children-at-requ
 run-tree-children-at-requires t c κs =
     root-size (c .before .before .pre .1 .1 .0)
 
-run-tree-wide-requires : (t : ℕ) → run-tree-lts.Need-wide-requires (run-tree-calls t) (run-tree-at t) run-tree.Post
-run-tree-wide-requires t c κs = search needs
-
 run-tree-sub-run-children : (t : ℕ) → run-tree-lts.Need-sub-run-children (run-tree-calls t) (run-tree-at t) run-tree.Post
 run-tree-sub-run-children t c =
     root-size (c .before .before .before .before .pre .1 .1 .0)
@@ -265,12 +247,6 @@ run-tree-sub-run-children t c =
 run-tree-part-run-children-start : (t : ℕ) → run-tree-lts.Need-part-run-children-start (run-tree-calls t) (run-tree-at t) run-tree.Post
 run-tree-part-run-children-start t c =
     root-size (c .before .before .before .before .pre .1 .1 .0)
-
-run-tree-part-run-children-end : (t : ℕ) → run-tree-lts.Need-part-run-children-end (run-tree-calls t) (run-tree-at t) run-tree.Post
-run-tree-part-run-children-end t c = search needs
-
-run-tree-add-run-children : (t : ℕ) → run-tree-lts.Need-add-run-children (run-tree-calls t) (run-tree-at t) run-tree.Post
-run-tree-add-run-children t c = search needs
 
 run-tree-run-children-requires : (t : ℕ) → run-tree-lts.Need-run-children-requires (run-tree-calls t) (run-tree-at t) run-tree.Post
 run-tree-run-children-requires t c κs =
@@ -292,9 +268,6 @@ run-tree-label-at-requires : (t : ℕ) → run-tree-lts.Need-label-at-requires (
 run-tree-label-at-requires t c κs =
     root-size (c .before .before .before .before .before .before .before .before .pre .1 .1 .0)
 
-run-tree-mul-run-node : (t : ℕ) → run-tree-lts.Need-mul-run-node (run-tree-calls t) (run-tree-at t) run-tree.Post
-run-tree-mul-run-node t c = search needs
-
 run-tree-element-copy-out-run-node : (t : ℕ) → run-tree-lts.Need-element-copy-out-run-node (run-tree-calls t) (run-tree-at t) run-tree.Post
 run-tree-element-copy-out-run-node t c =
     root-row (c .before .before .before .before .before .before .before .before .before .pre .1 .1 .0)
@@ -306,9 +279,6 @@ run-tree-run-node-requires t c κs =
       start .pre .1 .0,
       omega (arith, root-arity (start .pre .1 .1 .0), at-wide .wide .ensures, at-wide .before .children-at .ensures),
     )
-
-run-tree-state-byte-requires : (t : ℕ) → run-tree-lts.Need-state-byte-requires (run-tree-calls t) (run-tree-at t) run-tree.Post
-run-tree-state-byte-requires t c κs = search needs
 
 run-tree-element-write-states : (t : ℕ) → run-tree-lts.Need-element-write-states (run-tree-calls t) (run-tree-at t) run-tree.Post
 run-tree-element-write-states t c =
@@ -345,39 +315,11 @@ run-tree-returns t c =
     )
 
 pub +run-children+run-tree-spec : {M : Type 1} → statement M
-+run-children+run-tree-spec = close μ-run-children μ-run-tree (λ t. run-children-lts.spec (run-children-calls t)
-    (run-children-at t)
-    run-children.Post
-    (run-children-returns t)
-    (run-children-run-tree-requires t)
-    (run-children-element-copy-out-rows t)
-    (run-children-mul-rows t)
-    (run-children-index-1-rows t)
-    (run-children-index-2-rows t)
-    (run-children-mul-run-children t)
-    (run-children-sub-run-children t)
-    (run-children-part-run-children-start t)
-    (run-children-part-run-children-end t)
-    (run-children-add-run-children t)
-    (run-children-add-run-children-2 t)
-    (run-children-run-children-requires t)
-    (run-children-add-result t)
-    (run-children-returns-2 t))
-    λ t. run-tree-lts.spec (run-tree-calls t)
-    (run-tree-at t)
-    run-tree.Post
-    (run-tree-children-at-requires t)
-    (run-tree-wide-requires t)
-    (run-tree-sub-run-children t)
-    (run-tree-part-run-children-start t)
-    (run-tree-part-run-children-end t)
-    (run-tree-add-run-children t)
-    (run-tree-run-children-requires t)
-    (run-tree-label-at-requires t)
-    (run-tree-mul-run-node t)
-    (run-tree-element-copy-out-run-node t)
-    (run-tree-run-node-requires t)
-    (run-tree-state-byte-requires t)
-    (run-tree-element-write-states t)
-    (run-tree-add-result t)
-    (run-tree-returns t)
++run-children+run-tree-spec =
+    close μ-run-children μ-run-tree
+    (λ t. run-children-lts.spec (run-children-calls t) (run-children-at t) run-children.Post (run-children-returns t) (run-children-run-tree-requires t) (run-children-element-copy-out-rows t) (λ c. search needs) (λ c. search needs) (λ c. search needs) (run-children-mul-run-children t) (run-children-sub-run-children t) (run-children-part-run-children-start t) (λ c. search needs) (run-children-add-run-children t) (λ c. search needs) (run-children-run-children-requires t) (run-children-add-result t) (run-children-returns-2 t))
+    λ t. run-tree-lts.spec (run-tree-calls t) (run-tree-at t) run-tree.Post (run-tree-children-at-requires t)
+    (λ c κs. search needs) (run-tree-sub-run-children t) (run-tree-part-run-children-start t)
+    (λ c. search needs) (λ c. search needs) (run-tree-run-children-requires t) (run-tree-label-at-requires t)
+    (λ c. search needs) (run-tree-element-copy-out-run-node t) (run-tree-run-node-requires t)
+    (λ c κs. search needs) (run-tree-element-write-states t) (run-tree-add-result t) (run-tree-returns t)

@@ -4,18 +4,9 @@ use borrow.Author.Needs.{needs}
 use Rattle.scalebench.proofs.add.Statement.{statement}
 use Rattle.scalebench.proofs.add.Tie as tie
 
-change-requires : tie.Need-change-requires
-change-requires c κs = search needs
-
-same-length : tie.Need-same-length
-same-length c = search needs
-
-same-length-2 : tie.Need-same-length-2
-same-length-2 c = search needs
-
 returns : tie.Need-returns
 unfolding addResult
 returns c = c .before .before .before .before .change .ensures
 
 pub add-spec : {M : Type 1} → statement M
-add-spec = tie.close (tie.spec change-requires same-length same-length-2 returns)
+add-spec = tie.close (tie.spec (λ c κs. search needs) (λ c. search needs) (λ c. search needs) returns)

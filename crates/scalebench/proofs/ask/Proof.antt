@@ -7,9 +7,6 @@ use borrow.Author.Needs.{needs}
 use Rattle.scalebench.proofs.ask.Statement.{statement}
 use Rattle.scalebench.proofs.ask.Tie as tie
 
-ask-refusal-requires : tie.Need-ask-refusal-requires
-ask-refusal-requires c κs = search needs
-
 returns : tie.Need-returns
 returns c =
     let start = c .before .before .before .before in
@@ -38,4 +35,4 @@ returns-2 c =
     (at-if1 .if1 .left) (c .asked .ensures)
 
 pub ask-spec : {M : Type 1} → statement M
-ask-spec = tie.close (tie.spec ask-refusal-requires returns node-states-requires asked-requires returns-2)
+ask-spec = tie.close (tie.spec (λ c κs. search needs) returns node-states-requires asked-requires returns-2)

@@ -4,17 +4,11 @@ use borrow.Author.Needs.{needs}
 use Rattle.scalebench.proofs.ask_refusal.Statement.{statement}
 use Rattle.scalebench.proofs.ask_refusal.Tie as tie
 
-refusal-requires : tie.Need-refusal-requires
-refusal-requires c κs = search needs
-
 returns : tie.Need-returns
 returns c =
     let start = c .before .before .before .before in
     listing-refused (start .args .tree .now) (start .args .table .now) (c .before .refusal .ensures) (c .if1
     .taken)
-
-refusal-requires-2 : tie.Need-refusal-requires-2
-refusal-requires-2 c κs = search needs
 
 returns-2 : tie.Need-returns-2
 returns-2 c =
@@ -24,4 +18,4 @@ returns-2 c =
     .if1 .left) (c .refusal2 .ensures)
 
 pub ask-refusal-spec : {M : Type 1} → statement M
-ask-refusal-spec = tie.close (tie.spec refusal-requires returns refusal-requires-2 returns-2)
+ask-refusal-spec = tie.close (tie.spec (λ c κs. search needs) returns (λ c κs. search needs) returns-2)

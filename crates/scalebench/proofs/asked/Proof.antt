@@ -8,21 +8,12 @@ use borrow.Author.Needs.{needs}
 use Rattle.scalebench.proofs.asked.Statement.{statement}
 use Rattle.scalebench.proofs.asked.Tie as tie
 
-element-copy-out-q : tie.Need-element-copy-out-q
-element-copy-out-q c = search needs
-
-stop-place-requires : tie.Need-stop-place-requires
-stop-place-requires c κs = search needs
-
 returns : tie.Need-returns
 returns c =
     let start = c .before .before .before .before .before in
     let none = sym (root-byte (start .pre .1 .1)) ∙ c .before .if1 .taken in
     asked-stopped (decode (start .args .table .now)) (readTree (start .args .tree .now)) none
     (c .stop-place .ensures _ (start .pre .1 .1) none)
-
-accepts-state-requires : tie.Need-accepts-state-requires
-accepts-state-requires c κs = search needs
 
 returns-2 : tie.Need-returns-2
 returns-2 c =
@@ -40,4 +31,6 @@ returns-3 c =
     (sym (c .before .accepts-state .ensures tree root) ∙ c .if2 .left)
 
 pub asked-spec : {M : Type 1} → statement M
-asked-spec = tie.close (tie.spec element-copy-out-q stop-place-requires returns accepts-state-requires returns-2 returns-3)
+asked-spec =
+    tie.close (tie.spec (λ c. search needs) (λ c κs. search needs) returns (λ c κs. search needs) returns-2
+    returns-3)

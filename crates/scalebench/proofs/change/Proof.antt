@@ -10,15 +10,6 @@ use borrow.Author.Needs.{needs}
 use Rattle.scalebench.proofs.change.Statement.{statement}
 use Rattle.scalebench.proofs.change.Tie as tie
 
-input-refusal-requires : tie.Need-input-refusal-requires
-input-refusal-requires c κs = search needs
-
-same-length : tie.Need-same-length
-same-length c = search needs
-
-same-length-2 : tie.Need-same-length-2
-same-length-2 c = search needs
-
 returns : tie.Need-returns
 returns c =
     let start = c .before .before .before .before .before .before .before in
@@ -38,9 +29,6 @@ node-states-requires c κs =
     (sym (at-if1 .before .input-refusal .ensures) ∙ at-if1 .if1 .left) in
     (passed .0, passed-table b (passed .1))
 
-array-read-accepts-state : tie.Need-array-read-accepts-state
-array-read-accepts-state c = search needs
-
 accepts-state-requires : tie.Need-accepts-state-requires
 accepts-state-requires c κs =
     let at-if1 = c .before .before .before in
@@ -50,15 +38,6 @@ accepts-state-requires c κs =
     let passed = input-passed (a .tree .now) b (a .scratch .now)
     (sym (at-if1 .before .input-refusal .ensures) ∙ at-if1 .if1 .left) in
     passed-table b (passed .1)
-
-presence-refusal-requires : tie.Need-presence-refusal-requires
-presence-refusal-requires c κs = search needs
-
-same-length-3 : tie.Need-same-length-3
-same-length-3 c = search needs
-
-same-length-4 : tie.Need-same-length-4
-same-length-4 c = search needs
 
 returns-2 : tie.Need-returns-2
 returns-2 c =
@@ -91,12 +70,6 @@ change-requires c κs =
     let given = change-given change (a .tree .now) (a .table .now) (a .scratch .now) early (c .before .before .before .if2 .left) in
     (given .0, (at-states .node-states .ensures, (given .1, given .2)))
 
-same-length-5 : tie.Need-same-length-5
-same-length-5 c = search needs
-
-same-length-6 : tie.Need-same-length-6
-same-length-6 c = search needs
-
 returns-3 : tie.Need-returns-3
 returns-3 c =
     let at-change = c .before .before .before .before in
@@ -116,20 +89,6 @@ returns-3 c =
 
 pub change-spec : {M : Type 1} → statement M
 change-spec =
-    tie.close
-    (tie.spec
-    input-refusal-requires
-    same-length
-    same-length-2
-    returns
-    node-states-requires
-    array-read-accepts-state
-    accepts-state-requires
-    presence-refusal-requires
-    same-length-3
-    same-length-4
-    returns-2
-    change-requires
-    same-length-5
-    same-length-6
-    returns-3)
+    tie.close (tie.spec (λ c κs. search needs) (λ c. search needs) (λ c. search needs) returns
+    node-states-requires (λ c. search needs) accepts-state-requires (λ c κs. search needs) (λ c. search needs)
+    (λ c. search needs) returns-2 change-requires (λ c. search needs) (λ c. search needs) returns-3)

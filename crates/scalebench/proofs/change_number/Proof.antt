@@ -4,18 +4,6 @@ use borrow.Author.Needs.{needs}
 use Rattle.scalebench.proofs.change_number.Statement.{statement}
 use Rattle.scalebench.proofs.change_number.Tie as tie
 
-change-requires : tie.Need-change-requires
-change-requires c κs = search needs
-
-answer-number-requires : tie.Need-answer-number-requires
-answer-number-requires c κs = search needs
-
-same-length : tie.Need-same-length
-same-length c = search needs
-
-same-length-2 : tie.Need-same-length-2
-same-length-2 c = search needs
-
 returns : tie.Need-returns
 returns c =
     let at-change = c .before .before .before .before .before in
@@ -24,4 +12,5 @@ returns c =
 
 pub change-number-spec : {M : Type 1} → statement M
 change-number-spec =
-    tie.close (tie.spec change-requires answer-number-requires same-length same-length-2 returns)
+    tie.close (tie.spec (λ c κs. search needs) (λ c κs. search needs) (λ c. search needs) (λ c. search needs)
+    returns)

@@ -4,9 +4,6 @@ use borrow.Author.Needs.{needs}
 use Rattle.scalebench.proofs.input_refusal.Statement.{statement}
 use Rattle.scalebench.proofs.input_refusal.Tie as tie
 
-refusal-requires : tie.Need-refusal-requires
-refusal-requires c κs = search needs
-
 returns : tie.Need-returns
 returns c =
     let start = c .before .before .before .before .before in
@@ -29,9 +26,6 @@ returns-3 c =
     input-6 (start .args .tree .now) (start .args .table .now) (start .args .scratch .now)
     (at-refusal .refusal .ensures) (at-if1 .if1 .left) (c .before .if2 .left) (c .if3 .taken)
 
-content-refusal-requires : tie.Need-content-refusal-requires
-content-refusal-requires c κs = search needs
-
 returns-4 : tie.Need-returns-4
 returns-4 c =
     let at-if1 = c .before .before .before in
@@ -43,5 +37,4 @@ returns-4 c =
 
 pub input-refusal-spec : {M : Type 1} → statement M
 input-refusal-spec =
-    tie.close
-    (tie.spec refusal-requires returns returns-2 returns-3 content-refusal-requires returns-4)
+    tie.close (tie.spec (λ c κs. search needs) returns returns-2 returns-3 (λ c κs. search needs) returns-4)

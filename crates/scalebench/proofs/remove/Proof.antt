@@ -4,18 +4,9 @@ use borrow.Author.Needs.{needs}
 use Rattle.scalebench.proofs.remove.Statement.{statement}
 use Rattle.scalebench.proofs.remove.Tie as tie
 
-change-requires : tie.Need-change-requires
-change-requires c κs = search needs
-
-same-length : tie.Need-same-length
-same-length c = search needs
-
-same-length-2 : tie.Need-same-length-2
-same-length-2 c = search needs
-
 returns : tie.Need-returns
 unfolding removeResult
 returns c = c .before .before .before .before .change .ensures
 
 pub remove-spec : {M : Type 1} → statement M
-remove-spec = tie.close (tie.spec change-requires same-length same-length-2 returns)
+remove-spec = tie.close (tie.spec (λ c κs. search needs) (λ c. search needs) (λ c. search needs) returns)

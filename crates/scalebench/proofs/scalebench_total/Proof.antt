@@ -5,15 +5,6 @@ use borrow.Author.Needs.{needs}
 use Rattle.scalebench.proofs.scalebench_total.Statement.{statement}
 use Rattle.scalebench.proofs.scalebench_total.Tie as tie
 
-total-requires : tie.Need-total-requires
-total-requires c κs = search needs
-
-number-after-requires : tie.Need-number-after-requires
-number-after-requires c κs = search needs
-
-answer-number-requires : tie.Need-answer-number-requires
-answer-number-requires c κs = search needs
-
 returns : tie.Need-returns
 returns c =
     let answer = c .before .before .before .total .ensures in (
@@ -23,4 +14,4 @@ returns c =
 
 pub scalebench-total-spec : {M : Type 1} → statement M
 scalebench-total-spec =
-    tie.close (tie.spec total-requires number-after-requires answer-number-requires returns)
+    tie.close (tie.spec (λ c κs. search needs) (λ c κs. search needs) (λ c κs. search needs) returns)

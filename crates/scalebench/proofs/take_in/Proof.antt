@@ -7,9 +7,6 @@ use borrow.Author.Needs.{needs}
 use Rattle.scalebench.proofs.take_in.Statement.{statement}
 use Rattle.scalebench.proofs.take_in.Tie as tie
 
-refusal-requires : tie.Need-refusal-requires
-refusal-requires c κs = search needs
-
 returns : tie.Need-returns
 returns c =
     take-refused ((c .before .before .before .args .table .now)) (c .before .refusal .ensures) (c .if1 .taken)
@@ -22,24 +19,11 @@ shared-slice-read-wide16 : tie.Need-shared-slice-read-wide16
 shared-slice-read-wide16 c =
     omega (arith, passed-table ((c .before .before .before .before .before .args .table .now)) (sym (c .before .before .before .refusal .ensures) ∙ c .before .before .if1 .left) .size)
 
-wide16-requires : tie.Need-wide16-requires
-wide16-requires c κs = search needs
-
-cast-t8 : tie.Need-cast-t8
-cast-t8 c = search needs
-
 returns-2 : tie.Need-returns-2
 returns-2 c =
     take-answered ((c .before .before .before .before .before .before .args .table .now)) (c .before .before .before .before .refusal .ensures) (c .before .before .before .if1 .left) (c .wide16 .ensures) (c .before .before .transition-count .ensures .0)
 
 pub take-in-spec : {M : Type 1} → statement M
 take-in-spec =
-    tie.close
-    (tie.spec
-    refusal-requires
-    returns
-    transition-count-requires
-    shared-slice-read-wide16
-    wide16-requires
-    cast-t8
-    returns-2)
+    tie.close (tie.spec (λ c κs. search needs) returns transition-count-requires shared-slice-read-wide16
+    (λ c κs. search needs) (λ c. search needs) returns-2)

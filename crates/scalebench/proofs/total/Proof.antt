@@ -5,19 +5,10 @@ use borrow.Author.Needs.{needs}
 use Rattle.scalebench.proofs.total.Statement.{statement}
 use Rattle.scalebench.proofs.total.Tie as tie
 
-refusal-requires : tie.Need-refusal-requires
-refusal-requires c κs = search needs
-
 returns : tie.Need-returns
 returns c =
     let start = c .before .before .before in
     total-refused (start .args .table .now) (c .before .refusal .ensures) (c .if1 .taken)
-
-total-requires : tie.Need-total-requires
-total-requires c κs = search needs
-
-enum-known-value : tie.Need-enum-known-value
-enum-known-value c = search needs
 
 enum-told : tie.Need-enum-told
 enum-told c = search needs
@@ -40,12 +31,5 @@ returns-3 c =
 
 pub total-spec : {M : Type 1} → statement M
 total-spec =
-    tie.close
-    (tie.spec
-    refusal-requires
-    returns
-    total-requires
-    enum-known-value
-    enum-told
-    returns-2
-    returns-3)
+    tie.close (tie.spec (λ c κs. search needs) returns (λ c κs. search needs) (λ c. search needs) enum-told
+    returns-2 returns-3)

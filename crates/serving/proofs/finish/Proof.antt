@@ -5,24 +5,6 @@ use borrow.Author.Needs.{needs}
 use Rattle.serving.proofs.finish.Statement.{statement}
 use Rattle.serving.proofs.finish.Tie as tie
 
-take-in-requires : tie.Need-take-in-requires
-take-in-requires c κs = search needs
-
-enum-known-states : tie.Need-enum-known-states
-enum-known-states c = search needs
-
-cast-end : tie.Need-cast-end
-cast-end c = search needs
-
-cast-end-2 : tie.Need-cast-end-2
-cast-end-2 c = search needs
-
-end-requires : tie.Need-end-requires
-end-requires c κs = search needs
-
-end-requires-2 : tie.Need-end-requires-2
-end-requires-2 c κs = search needs
-
 returns : tie.Need-returns
 returns c =
     printed-closing _ _ _ _ _ _ (sym (c .before .before .before .states .given .1) ∙ c .before .before .before .before .before .take-in .ensures) refl (c .end .ensures)
@@ -33,13 +15,5 @@ returns-2 c =
 
 pub finish-spec : {M : Type 1} → statement M
 finish-spec =
-    tie.close
-    (tie.spec
-    take-in-requires
-    enum-known-states
-    cast-end
-    cast-end-2
-    end-requires
-    end-requires-2
-    returns
-    returns-2)
+    tie.close (tie.spec (λ c κs. search needs) (λ c. search needs) (λ c. search needs) (λ c. search needs)
+    (λ c κs. search needs) (λ c κs. search needs) returns returns-2)

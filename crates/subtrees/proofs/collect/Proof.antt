@@ -21,18 +21,6 @@ loop-holds c =
     let start = c .before in
     collecting-start (passed (start .args .tree .now) (start .pre .0)) (start .args .reached .now) (start .pre .1 .1) refl
 
-sub-i : tie.Need-sub-i Inv-loop μ-loop
-sub-i c = search needs
-
-label-at-requires : tie.Need-label-at-requires Inv-loop μ-loop
-label-at-requires c κs = search needs
-
-children-at-requires : tie.Need-children-at-requires Inv-loop μ-loop
-children-at-requires c κs = search needs
-
-wide-requires : tie.Need-wide-requires Inv-loop μ-loop
-wide-requires c κs = search needs
-
 popped-requires : tie.Need-popped-requires Inv-loop μ-loop
 popped-requires c κs =
     let at-loop = c .before .before .before .before .before in
@@ -75,9 +63,6 @@ add-top c =
     let more = at-wide .before .before .before .loop-test .taken in
     omega (arith, pop-room ok (at-loop .loop .inv) more, at-wide .wide .ensures)
 
-sub-top : tie.Need-sub-top Inv-loop μ-loop
-sub-top c = search needs
-
 array-write-stack : tie.Need-array-write-stack Inv-loop μ-loop
 array-write-stack c =
     let at-wide = c .before .before .before .before .before .before .before .before in
@@ -87,9 +72,6 @@ array-write-stack c =
     let more = at-wide .before .before .before .loop-test .taken in
     let inv = at-loop .loop .inv in
     omega (arith, pop-room ok inv more, inv .below, at-wide .wide .ensures)
-
-loop-less : tie.Need-loop-less Inv-loop μ-loop
-loop-less c = search needs
 
 loop-again : tie.Need-loop-again Inv-loop μ-loop
 loop-again c =
@@ -115,21 +97,6 @@ returns c =
 
 pub collect-spec : {M : Type 1} → statement M
 collect-spec =
-    tie.close
-    (tie.spec
-    Inv-loop
-    μ-loop
-    loop-holds
-    sub-i
-    label-at-requires
-    children-at-requires
-    wide-requires
-    popped-requires
-    element-copy-out-enter
-    enter-requires
-    add-top
-    sub-top
-    array-write-stack
-    loop-less
-    loop-again
-    returns)
+    tie.close (tie.spec Inv-loop μ-loop loop-holds (λ c. search needs) (λ c κs. search needs)
+    (λ c κs. search needs) (λ c κs. search needs) popped-requires element-copy-out-enter enter-requires add-top
+    (λ c. search needs) array-write-stack (λ c. search needs) loop-again returns)

@@ -8,15 +8,6 @@ use borrow.Author.Needs.{needs}
 use Rattle.subtrees.proofs.enter.Statement.{statement}
 use Rattle.subtrees.proofs.enter.Tie as tie
 
-search-requires : tie.Need-search-requires
-search-requires c κs = search needs
-
-add-old : tie.Need-add-old
-add-old c = search needs
-
-cast-old : tie.Need-cast-old
-cast-old c = search needs
-
 returns : tie.Need-returns
 returns c =
     let sought-at = c .before in
@@ -29,30 +20,6 @@ returns c =
         λ A ts e st. enter-old st (start .args .label) (start .pre .1 .1 .1) eight (sought .ensures) (c .if1 .taken),
       ),
     )
-
-mul-labels : tie.Need-mul-labels
-mul-labels c = search needs
-
-element-write-labels : tie.Need-element-write-labels
-element-write-labels c = search needs
-
-element-write-arities : tie.Need-element-write-arities
-element-write-arities c = search needs
-
-store-children-requires : tie.Need-store-children-requires
-store-children-requires c κs = search needs
-
-element-write-states : tie.Need-element-write-states
-element-write-states c = search needs
-
-add-new : tie.Need-add-new
-add-new c = search needs
-
-cast-new : tie.Need-cast-new
-cast-new c = search needs
-
-add-t18 : tie.Need-add-t18
-add-t18 c = search needs
 
 returns-2 : tie.Need-returns-2
 returns-2 c =
@@ -72,18 +39,6 @@ returns-2 c =
 
 pub enter-spec : {M : Type 1} → statement M
 enter-spec =
-    tie.close
-    (tie.spec
-    search-requires
-    add-old
-    cast-old
-    returns
-    mul-labels
-    element-write-labels
-    element-write-arities
-    store-children-requires
-    element-write-states
-    add-new
-    cast-new
-    add-t18
-    returns-2)
+    tie.close (tie.spec (λ c κs. search needs) (λ c. search needs) (λ c. search needs) returns
+    (λ c. search needs) (λ c. search needs) (λ c. search needs) (λ c κs. search needs) (λ c. search needs)
+    (λ c. search needs) (λ c. search needs) (λ c. search needs) returns-2)

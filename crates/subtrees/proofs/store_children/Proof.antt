@@ -12,27 +12,6 @@ Inv-loop children₀ j numbers k₀ children k = StoredTo children₀ j numbers 
 abbrev μ-loop : tie.MeasureT-loop
 μ-loop children₀ j numbers k₀ children k = 8 - k
 
-loop-holds : tie.Need-loop-holds Inv-loop μ-loop
-loop-holds c = search needs
-
-array-read-children : tie.Need-array-read-children Inv-loop μ-loop
-array-read-children c = search needs
-
-mul-children : tie.Need-mul-children Inv-loop μ-loop
-mul-children c = search needs
-
-add-children : tie.Need-add-children Inv-loop μ-loop
-add-children c = search needs
-
-element-write-children : tie.Need-element-write-children Inv-loop μ-loop
-element-write-children c = search needs
-
-add-k : tie.Need-add-k Inv-loop μ-loop
-add-k c = search needs
-
-loop-less : tie.Need-loop-less Inv-loop μ-loop
-loop-less c = search needs
-
 loop-again : tie.Need-loop-again Inv-loop μ-loop
 loop-again c = stored-next (c .before .loop .inv) (omega arith) (omega arith)
 
@@ -41,16 +20,5 @@ returns c = stored-end (c .before .loop .inv) (omega arith)
 
 pub store-children-spec : {M : Type 1} → statement M
 store-children-spec =
-    tie.close
-    (tie.spec
-    Inv-loop
-    μ-loop
-    loop-holds
-    array-read-children
-    mul-children
-    add-children
-    element-write-children
-    add-k
-    loop-less
-    loop-again
-    returns)
+    tie.close (tie.spec Inv-loop μ-loop (λ c. search needs) (λ c. search needs) (λ c. search needs)
+    (λ c. search needs) (λ c. search needs) (λ c. search needs) (λ c. search needs) loop-again returns)

@@ -7,14 +7,8 @@ use Rattle.text.proofs.close_line.Tie as tie
 returns : tie.Need-returns
 returns c = search line-cut
 
-shared-slice-read-if2 : tie.Need-shared-slice-read-if2
-shared-slice-read-if2 c = search needs
-
 returns-2 : tie.Need-returns-2
 returns-2 c = search line-unclosed
-
-stepped-requires : tie.Need-stepped-requires
-stepped-requires c κs = search needs
 
 returns-3 : tie.Need-returns-3
 returns-3 c = search line-more
@@ -24,5 +18,4 @@ returns-4 c = search line-closed
 
 pub close-line-spec : {M : Type 1} → statement M
 close-line-spec =
-    tie.close
-    (tie.spec returns shared-slice-read-if2 returns-2 stepped-requires returns-3 returns-4)
+    tie.close (tie.spec returns (λ c. search needs) returns-2 (λ c κs. search needs) returns-3 returns-4)

@@ -6,15 +6,9 @@ use borrow.Author.Needs.{needs}
 use Rattle.text.proofs.put.Statement.{statement}
 use Rattle.text.proofs.put.Tie as tie
 
-element-write-listing : tie.Need-element-write-listing
-element-write-listing c = search needs
-
-returns : tie.Need-returns
-returns c = search needs
-
 returns-2 : tie.Need-returns-2
 returns-2 c =
     sym (set-out (c .before .args .listing .now) (c .before .args .i) (c .before .args .value) (omega arith))
 
 pub put-spec : {M : Type 1} → statement M
-put-spec = tie.close (tie.spec element-write-listing returns returns-2)
+put-spec = tie.close (tie.spec (λ c. search needs) (λ c. search needs) returns-2)

@@ -8,18 +8,6 @@ use Rattle.format.proofs.Labels.{label-stored}
 use Rattle.text.proofs.put_label.Statement.{statement}
 use Rattle.text.proofs.put_label.Tie as tie
 
-label-high-requires : tie.Need-label-high-requires
-label-high-requires c κs = search needs
-
-put-requires : tie.Need-put-requires
-put-requires c κs = search needs
-
-add-put : tie.Need-add-put
-add-put c = search needs
-
-label-low-requires : tie.Need-label-low-requires
-label-low-requires c κs = search needs
-
 put-requires-2 : tie.Need-put-requires-2
 put-requires-2 c κs =
     let stored = c .before .before in
@@ -36,5 +24,5 @@ returns c =
 
 pub put-label-spec : {M : Type 1} → statement M
 put-label-spec =
-    tie.close
-    (tie.spec label-high-requires put-requires add-put label-low-requires put-requires-2 returns)
+    tie.close (tie.spec (λ c κs. search needs) (λ c κs. search needs) (λ c. search needs) (λ c κs. search needs)
+    put-requires-2 returns)

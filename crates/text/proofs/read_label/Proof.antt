@@ -19,17 +19,8 @@ abbrev μ-loop : tie.MeasureT-loop
 returns : tie.Need-returns Inv-loop μ-loop
 returns c = search label-absent
 
-shared-slice-read-is-digit : tie.Need-shared-slice-read-is-digit Inv-loop μ-loop
-shared-slice-read-is-digit c = search needs
-
-is-digit-requires : tie.Need-is-digit-requires Inv-loop μ-loop
-is-digit-requires c κs = search needs
-
 returns-2 : tie.Need-returns-2 Inv-loop μ-loop
 returns-2 c = search label-other
-
-shared-slice-read-digit-value : tie.Need-shared-slice-read-digit-value Inv-loop μ-loop
-shared-slice-read-digit-value c = search needs
 
 digit-value-requires : tie.Need-digit-value-requires Inv-loop μ-loop
 digit-value-requires c κs = digit-low _ _ (c .before .before .is-digit .ensures) (c .before .if2 .left)
@@ -37,20 +28,11 @@ digit-value-requires c κs = digit-low _ _ (c .before .before .is-digit .ensures
 loop-holds : tie.Need-loop-holds Inv-loop μ-loop
 loop-holds c = search label-first
 
-shared-slice-read-extends : tie.Need-shared-slice-read-extends Inv-loop μ-loop
-shared-slice-read-extends c = search needs
-
-extends-requires : tie.Need-extends-requires Inv-loop μ-loop
-extends-requires c κs = search needs
-
 returns-3 : tie.Need-returns-3 Inv-loop μ-loop
 returns-3 c = search label-stopped
 
 mul-value : tie.Need-mul-value Inv-loop μ-loop
 mul-value c = search tenfold-fits
-
-shared-slice-read-digit-value-2 : tie.Need-shared-slice-read-digit-value-2 Inv-loop μ-loop
-shared-slice-read-digit-value-2 c = search needs
 
 digit-value-requires-2 : tie.Need-digit-value-requires-2 Inv-loop μ-loop
 digit-value-requires-2 c κs =
@@ -63,12 +45,6 @@ digit-value-requires-2 c κs =
 
 add-value : tie.Need-add-value Inv-loop μ-loop
 add-value c = search label-fits
-
-add-i : tie.Need-add-i Inv-loop μ-loop
-add-i c = search needs
-
-loop-less : tie.Need-loop-less Inv-loop μ-loop
-loop-less c = search needs
 
 loop-again : tie.Need-loop-again Inv-loop μ-loop
 loop-again c =
@@ -83,25 +59,7 @@ returns-4 c = search label-last
 
 pub read-label-spec : {M : Type 1} → statement M
 read-label-spec =
-    tie.close
-    (tie.spec
-    Inv-loop
-    μ-loop
-    returns
-    shared-slice-read-is-digit
-    is-digit-requires
-    returns-2
-    shared-slice-read-digit-value
-    digit-value-requires
-    loop-holds
-    shared-slice-read-extends
-    extends-requires
-    returns-3
-    mul-value
-    shared-slice-read-digit-value-2
-    digit-value-requires-2
-    add-value
-    add-i
-    loop-less
-    loop-again
-    returns-4)
+    tie.close (tie.spec Inv-loop μ-loop returns (λ c. search needs) (λ c κs. search needs) returns-2
+    (λ c. search needs) digit-value-requires loop-holds (λ c. search needs) (λ c κs. search needs) returns-3
+    mul-value (λ c. search needs) digit-value-requires-2 add-value (λ c. search needs) (λ c. search needs)
+    loop-again returns-4)

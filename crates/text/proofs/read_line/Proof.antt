@@ -9,20 +9,8 @@ use borrow.Author.Needs.{needs}
 use Rattle.text.proofs.read_line.Statement.{statement}
 use Rattle.text.proofs.read_line.Tie as tie
 
-clear-requires : tie.Need-clear-requires
-clear-requires c κs = search needs
-
 returns : tie.Need-returns
 returns c = parsed-long _ _ (omega arith) (c .clear .ensures)
-
-slice-aggregate-read-form : tie.Need-slice-aggregate-read-form
-slice-aggregate-read-form c = search needs
-
-read-form-requires : tie.Need-read-form-requires
-read-form-requires c κs = search needs
-
-enum-known-len : tie.Need-enum-known-len
-enum-known-len c = search needs
 
 returns-2 : tie.Need-returns-2
 returns-2 c =
@@ -32,12 +20,6 @@ returns-2 c =
     parsed-whole toAdd _ _ _ (after-read-form .read-form .ensures) (after-if1 .if1 .left) _ (after-len .len .given
     .1)
 
-enum-known-at : tie.Need-enum-known-at
-enum-known-at c = search needs
-
-slice-aggregate-read-form-2 : tie.Need-slice-aggregate-read-form-2
-slice-aggregate-read-form-2 c = search needs
-
 read-form-requires-2 : tie.Need-read-form-requires-2
 read-form-requires-2 c κs =
     let after-at = c .before .before .before in
@@ -45,9 +27,6 @@ read-form-requires-2 c κs =
     let after-if1 = after-read-form .before .before .before in
     let size = broken-size toAdd _ _ _ (after-read-form .read-form .ensures) _ (after-at .at .given .1) in
     (after-if1 .if1 .left, (omega arith, size))
-
-enum-known-len-2 : tie.Need-enum-known-len-2
-enum-known-len-2 c = search needs
 
 returns-3 : tie.Need-returns-3
 returns-3 c =
@@ -57,12 +36,6 @@ returns-3 c =
     parsed-whole toDrop _ _ _ (after-read-form2 .read-form2 .ensures) (after-if1 .if1 .left) _ (after-len2 .len2
     .given .1)
 
-enum-known-at-2 : tie.Need-enum-known-at-2
-enum-known-at-2 c = search needs
-
-slice-aggregate-read-form-3 : tie.Need-slice-aggregate-read-form-3
-slice-aggregate-read-form-3 c = search needs
-
 read-form-requires-3 : tie.Need-read-form-requires-3
 read-form-requires-3 c κs =
     let after-at2 = c .before .before .before in
@@ -70,9 +43,6 @@ read-form-requires-3 c κs =
     let after-if1 = after-read-form2 .before .before .before .before .before .before .before .before .before in
     let size = broken-size toDrop _ _ _ (after-read-form2 .read-form2 .ensures) _ (after-at2 .at2 .given .1) in
     (after-if1 .if1 .left, (omega arith, size))
-
-enum-known-len-3 : tie.Need-enum-known-len-3
-enum-known-len-3 c = search needs
 
 returns-4 : tie.Need-returns-4
 returns-4 c =
@@ -83,20 +53,11 @@ returns-4 c =
     parsed-whole toAsk _ _ _ (after-read-form3 .read-form3 .ensures) (after-if1 .if1 .left) _ (after-len3 .len3
     .given .1)
 
-enum-known-at-3 : tie.Need-enum-known-at-3
-enum-known-at-3 c = search needs
-
 clear-requires-2 : tie.Need-clear-requires-2
 clear-requires-2 c κs =
     let after-at3 = c .before .before in
     let after-read-form3 = after-at3 .before .before in
     broken-size toAsk _ _ _ (after-read-form3 .read-form3 .ensures) _ (after-at3 .at3 .given .1)
-
-read-total-requires : tie.Need-read-total-requires
-read-total-requires c κs = search needs
-
-enum-known-at-4 : tie.Need-enum-known-at-4
-enum-known-at-4 c = search needs
 
 enum-told : tie.Need-enum-told
 enum-told c = search needs
@@ -107,15 +68,6 @@ returns-5 c =
     let after-clear2 = after-read-total .before in
     let told = c .enum-told .given in
     parsed-total _ _ _ (after-read-total .read-total .ensures) (after-clear2 .clear2 .ensures) (told .0 .0) (told .1)
-
-further-requires : tie.Need-further-requires
-further-requires c κs = search needs
-
-further-requires-2 : tie.Need-further-requires-2
-further-requires-2 c κs = search needs
-
-further-requires-3 : tie.Need-further-requires-3
-further-requires-3 c κs = search needs
 
 returns-6 : tie.Need-returns-6
 returns-6 c =
@@ -142,31 +94,9 @@ returns-6 c =
 
 pub read-line-spec : {M : Type 1} → statement M
 read-line-spec =
-    tie.close
-    (tie.spec
-    clear-requires
-    returns
-    slice-aggregate-read-form
-    read-form-requires
-    enum-known-len
-    returns-2
-    enum-known-at
-    slice-aggregate-read-form-2
-    read-form-requires-2
-    enum-known-len-2
-    returns-3
-    enum-known-at-2
-    slice-aggregate-read-form-3
-    read-form-requires-3
-    enum-known-len-3
-    returns-4
-    enum-known-at-3
-    clear-requires-2
-    read-total-requires
-    enum-known-at-4
-    enum-told
-    returns-5
-    further-requires
-    further-requires-2
-    further-requires-3
+    tie.close (tie.spec (λ c κs. search needs) returns (λ c. search needs) (λ c κs. search needs)
+    (λ c. search needs) returns-2 (λ c. search needs) (λ c. search needs) read-form-requires-2
+    (λ c. search needs) returns-3 (λ c. search needs) (λ c. search needs) read-form-requires-3
+    (λ c. search needs) returns-4 (λ c. search needs) clear-requires-2 (λ c κs. search needs)
+    (λ c. search needs) enum-told returns-5 (λ c κs. search needs) (λ c κs. search needs) (λ c κs. search needs)
     returns-6)

@@ -5,15 +5,6 @@ use Rattle.text.proofs.TotalReader.{total-more, total-short, total-whol
 use Rattle.text.proofs.read_total.Statement.{statement}
 use Rattle.text.proofs.read_total.Tie as tie
 
-agreeing-requires : tie.Need-agreeing-requires
-agreeing-requires c κs = search needs
-
-start-requires : tie.Need-start-requires
-start-requires c κs = search needs
-
-stepped-requires : tie.Need-stepped-requires
-stepped-requires c κs = search needs
-
 returns : tie.Need-returns
 returns c = search total-short
 
@@ -25,5 +16,5 @@ returns-3 c = search total-whole
 
 pub read-total-spec : {M : Type 1} → statement M
 read-total-spec =
-    tie.close
-    (tie.spec agreeing-requires start-requires stepped-requires returns returns-2 returns-3)
+    tie.close (tie.spec (λ c κs. search needs) (λ c κs. search needs) (λ c κs. search needs) returns returns-2
+    returns-3)

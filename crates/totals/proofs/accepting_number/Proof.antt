@@ -7,12 +7,6 @@ use borrow.Author.Needs.{needs}
 use Rattle.totals.proofs.accepting_number.Statement.{statement}
 use Rattle.totals.proofs.accepting_number.Tie as tie
 
-shared-slice-read-if1 : tie.Need-shared-slice-read-if1
-shared-slice-read-if1 c = search needs
-
-number-of-requires : tie.Need-number-of-requires
-number-of-requires c κs = search needs
-
 returns : tie.Need-returns
 returns c = rw (eq-eqb _ _ (c .before .if1 .taken)) (c .number-of .ensures)
 
@@ -20,5 +14,4 @@ returns-2 : tie.Need-returns-2
 returns-2 c = rw (ne-eqb _ _ (c .if1 .left)) (total-is refl (omega arith))
 
 pub accepting-number-spec : {M : Type 1} → statement M
-accepting-number-spec =
-    tie.close (tie.spec shared-slice-read-if1 number-of-requires returns returns-2)
+accepting-number-spec = tie.close (tie.spec (λ c. search needs) (λ c κs. search needs) returns returns-2)

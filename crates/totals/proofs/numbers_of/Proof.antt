@@ -13,25 +13,10 @@ Inv-loop transitions count n links numbers₀ left₀ numbers left = length numb
 abbrev μ-loop : tie.MeasureT-loop
 μ-loop transitions count n links numbers₀ left₀ numbers left = left
 
-link-requires : tie.Need-link-requires Inv-loop μ-loop
-link-requires c κs = search needs
-
-loop-holds : tie.Need-loop-holds Inv-loop μ-loop
-loop-holds c = search needs
-
-sub-left : tie.Need-sub-left Inv-loop μ-loop
-sub-left c = search needs
-
 settle-all-requires : tie.Need-settle-all-requires Inv-loop μ-loop
 settle-all-requires c κs =
     let p = c .before .before .before .before .before .before .pre in
     (p .0 .runs, (p .1 .1 .0, (p .1 .1 .1, c .before .before .before .loop .inv)))
-
-round-requires : tie.Need-round-requires Inv-loop μ-loop
-round-requires c κs = search needs
-
-same-requires : tie.Need-same-requires Inv-loop μ-loop
-same-requires c κs = search needs
 
 returns : tie.Need-returns Inv-loop μ-loop
 returns c =
@@ -42,32 +27,11 @@ returns c =
     λ cl ac. lawful-numbers cl (a .transitions .now) (a .n) (a .count) (p .0) (p .1 .1 .1) (p .1 .0) ac
     (c .before .before .before .before .round .ensures) (sym (c .before .same .ensures) ∙ c .if1 .taken)
 
-loop-less : tie.Need-loop-less Inv-loop μ-loop
-loop-less c = search needs
-
-loop-again : tie.Need-loop-again Inv-loop μ-loop
-loop-again c = search needs
-
-rounds-requires : tie.Need-rounds-requires Inv-loop μ-loop
-rounds-requires c κs = search needs
-
 returns-2 : tie.Need-returns-2 Inv-loop μ-loop
 returns-2 c = λ cl ac. c .rounds .ensures cl
 
 pub numbers-of-spec : {M : Type 1} → statement M
 numbers-of-spec =
-    tie.close
-    (tie.spec
-    Inv-loop
-    μ-loop
-    link-requires
-    loop-holds
-    sub-left
-    settle-all-requires
-    round-requires
-    same-requires
-    returns
-    loop-less
-    loop-again
-    rounds-requires
-    returns-2)
+    tie.close (tie.spec Inv-loop μ-loop (λ c κs. search needs) (λ c. search needs) (λ c. search needs)
+    settle-all-requires (λ c κs. search needs) (λ c κs. search needs) returns (λ c. search needs)
+    (λ c. search needs) (λ c κs. search needs) returns-2)

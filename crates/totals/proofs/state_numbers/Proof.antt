@@ -16,9 +16,6 @@ shared-slice-read-wide c =
     let start = c .before .before .before in
     omega (arith, passed-length (start .args .table .now) (start .pre))
 
-wide-requires : tie.Need-wide-requires
-wide-requires c κs = search needs
-
 sub-numbers-of : tie.Need-sub-numbers-of
 sub-numbers-of c =
     let start = c .before .before .before .before in
@@ -28,9 +25,6 @@ part-numbers-of-start : tie.Need-part-numbers-of-start
 part-numbers-of-start c =
     let start = c .before .before .before .before in
     let h = passed-length (start .args .table .now) (start .pre) in search needs
-
-part-numbers-of-end : tie.Need-part-numbers-of-end
-part-numbers-of-end c = search needs
 
 numbers-of-requires : tie.Need-numbers-of-requires
 numbers-of-requires c κs =
@@ -50,13 +44,5 @@ returns c =
 
 pub state-numbers-spec : {M : Type 1} → statement M
 state-numbers-spec =
-    tie.close
-    (tie.spec
-    transition-count-requires
-    shared-slice-read-wide
-    wide-requires
-    sub-numbers-of
-    part-numbers-of-start
-    part-numbers-of-end
-    numbers-of-requires
-    returns)
+    tie.close (tie.spec transition-count-requires shared-slice-read-wide (λ c κs. search needs) sub-numbers-of
+    part-numbers-of-start (λ c. search needs) numbers-of-requires returns)

@@ -19,18 +19,6 @@ abbrev μ-loop : tie.MeasureT-loop
 loop-holds : tie.Need-loop-holds Inv-loop μ-loop
 loop-holds c = (omega arith, accepted-start)
 
-add-q : tie.Need-add-q Inv-loop μ-loop
-add-q c = search needs
-
-accepting-number-requires : tie.Need-accepting-number-requires Inv-loop μ-loop
-accepting-number-requires c κs = search needs
-
-plus-requires : tie.Need-plus-requires Inv-loop μ-loop
-plus-requires c κs = search needs
-
-loop-less : tie.Need-loop-less Inv-loop μ-loop
-loop-less c = search needs
-
 loop-again : tie.Need-loop-again Inv-loop μ-loop
 loop-again c =
     let a = c .before .before .before .before .before .args in
@@ -46,14 +34,5 @@ returns c = accepted-end {n = c .before .before .before .args .n} (c .before .lo
 
 pub sum-accepting-spec : {M : Type 1} → statement M
 sum-accepting-spec =
-    tie.close
-    (tie.spec
-    Inv-loop
-    μ-loop
-    loop-holds
-    add-q
-    accepting-number-requires
-    plus-requires
-    loop-less
-    loop-again
-    returns)
+    tie.close (tie.spec Inv-loop μ-loop loop-holds (λ c. search needs) (λ c κs. search needs)
+    (λ c κs. search needs) (λ c. search needs) loop-again returns)

@@ -11,9 +11,6 @@ shared-slice-read-wide c =
     let start = c .before .before in
     omega (arith, passed-length (start .args .table .now) (start .pre .0))
 
-wide-requires : tie.Need-wide-requires
-wide-requires c κs = search needs
-
 sum-accepting-requires : tie.Need-sum-accepting-requires
 sum-accepting-requires c κs =
     let start = c .before .before .before in
@@ -27,4 +24,5 @@ returns c =
     (c .sum-accepting .ensures)
 
 pub total-of-spec : {M : Type 1} → statement M
-total-of-spec = tie.close (tie.spec shared-slice-read-wide wide-requires sum-accepting-requires returns)
+total-of-spec =
+    tie.close (tie.spec shared-slice-read-wide (λ c κs. search needs) sum-accepting-requires returns)

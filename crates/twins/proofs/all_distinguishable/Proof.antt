@@ -5,12 +5,6 @@ use borrow.Author.Needs.{needs}
 use Rattle.twins.proofs.all_distinguishable.Statement.{statement}
 use Rattle.twins.proofs.all_distinguishable.Tie as tie
 
-state-prints-requires : tie.Need-state-prints-requires
-state-prints-requires c κs = search needs
-
-none-twins-requires : tie.Need-none-twins-requires
-none-twins-requires c κs = search needs
-
 returns : tie.Need-returns
 returns c =
     let at-prints = c .before .before in
@@ -20,4 +14,4 @@ returns c =
     (at-prints .state-prints .ensures) (start .pre .1 .1 .1)
 
 pub all-distinguishable-spec : {M : Type 1} → statement M
-all-distinguishable-spec = tie.close (tie.spec state-prints-requires none-twins-requires returns)
+all-distinguishable-spec = tie.close (tie.spec (λ c κs. search needs) (λ c κs. search needs) returns)

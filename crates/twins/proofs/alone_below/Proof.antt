@@ -30,12 +30,6 @@ returns c =
     every-broken (c .before .before .before .loop .inv) (omega arith)
     (ap not (sym (c .before .are-twins .ensures) ∙ c .if1 .taken))
 
-add-p : tie.Need-add-p Inv-loop μ-loop
-add-p c = search needs
-
-loop-less : tie.Need-loop-less Inv-loop μ-loop
-loop-less c = search needs
-
 loop-again : tie.Need-loop-again Inv-loop μ-loop
 loop-again c =
     every-next (c .before .before .before .loop .inv) (omega arith)
@@ -46,14 +40,5 @@ returns-2 c = every-end (c .before .loop .inv) (omega arith)
 
 pub alone-below-spec : {M : Type 1} → statement M
 alone-below-spec =
-    tie.close
-    (tie.spec
-    Inv-loop
-    μ-loop
-    loop-holds
-    are-twins-requires
-    returns
-    add-p
-    loop-less
-    loop-again
-    returns-2)
+    tie.close (tie.spec Inv-loop μ-loop loop-holds are-twins-requires returns (λ c. search needs)
+    (λ c. search needs) loop-again returns-2)

@@ -22,9 +22,6 @@ abbrev μ-loop : tie.MeasureT-loop
 loop-holds : tie.Need-loop-holds Inv-loop μ-loop
 loop-holds c = (omega arith, every-start (c .before .args .n) (omega arith))
 
-add-loop : tie.Need-add-loop Inv-loop μ-loop
-add-loop c = search needs
-
 alone-below-requires : tie.Need-alone-below-requires Inv-loop μ-loop
 alone-below-requires c κs =
     let start = c .before .before .before in (
@@ -37,12 +34,6 @@ unfolding noneTwins
 returns c =
     every-broken (c .before .before .before .loop .inv .1) (omega arith)
     (sym (c .before .alone-below .ensures) ∙ not-true _ (c .if1 .taken))
-
-add-q : tie.Need-add-q Inv-loop μ-loop
-add-q c = search needs
-
-loop-less : tie.Need-loop-less Inv-loop μ-loop
-loop-less c = search needs
 
 loop-again : tie.Need-loop-again Inv-loop μ-loop
 loop-again c = (
@@ -57,15 +48,5 @@ returns-2 c = every-end (c .before .loop .inv .1) (omega arith)
 
 pub none-twins-spec : {M : Type 1} → statement M
 none-twins-spec =
-    tie.close
-    (tie.spec
-    Inv-loop
-    μ-loop
-    loop-holds
-    add-loop
-    alone-below-requires
-    returns
-    add-q
-    loop-less
-    loop-again
-    returns-2)
+    tie.close (tie.spec Inv-loop μ-loop loop-holds (λ c. search needs) alone-below-requires returns
+    (λ c. search needs) (λ c. search needs) loop-again returns-2)

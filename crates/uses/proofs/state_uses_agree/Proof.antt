@@ -8,15 +8,6 @@ use borrow.Author.Needs.{needs}
 use Rattle.uses.proofs.state_uses_agree.Statement.{statement}
 use Rattle.uses.proofs.state_uses_agree.Tie as tie
 
-wide-requires : tie.Need-wide-requires
-wide-requires c κs = search needs
-
-sub-p : tie.Need-sub-p
-sub-p c = search needs
-
-element-copy-out-p : tie.Need-element-copy-out-p
-element-copy-out-p c = search needs
-
 uses-agree-requires : tie.Need-uses-agree-requires
 uses-agree-requires c κs =
     let p = c .before .before .before .pre in
@@ -42,4 +33,5 @@ returns c =
 
 pub state-uses-agree-spec : {M : Type 1} → statement M
 state-uses-agree-spec =
-    tie.close (tie.spec wide-requires sub-p element-copy-out-p uses-agree-requires returns)
+    tie.close (tie.spec (λ c κs. search needs) (λ c. search needs) (λ c. search needs) uses-agree-requires
+    returns)

@@ -8,27 +8,6 @@ use borrow.Author.Needs.{needs}
 use Rattle.uses.proofs.subtree_uses_agree.Statement.{statement}
 use Rattle.uses.proofs.subtree_uses_agree.Tie as tie
 
-wide-requires : tie.Need-wide-requires
-wide-requires c κs = search needs
-
-sub-p : tie.Need-sub-p
-sub-p c = search needs
-
-element-copy-out-p : tie.Need-element-copy-out-p
-element-copy-out-p c = search needs
-
-wide-requires-2 : tie.Need-wide-requires-2
-wide-requires-2 c κs = search needs
-
-sub-q : tie.Need-sub-q
-sub-q c = search needs
-
-element-copy-out-q : tie.Need-element-copy-out-q
-element-copy-out-q c = search needs
-
-uses-agree-requires : tie.Need-uses-agree-requires
-uses-agree-requires c κs = search needs
-
 returns : tie.Need-returns
 returns c =
     let p = c .before .before .before .before .before .before .pre .1 .1 .1 in
@@ -42,13 +21,5 @@ returns c =
 
 pub subtree-uses-agree-spec : {M : Type 1} → statement M
 subtree-uses-agree-spec =
-    tie.close
-    (tie.spec
-    wide-requires
-    sub-p
-    element-copy-out-p
-    wide-requires-2
-    sub-q
-    element-copy-out-q
-    uses-agree-requires
-    returns)
+    tie.close (tie.spec (λ c κs. search needs) (λ c. search needs) (λ c. search needs) (λ c κs. search needs)
+    (λ c. search needs) (λ c. search needs) (λ c κs. search needs) returns)

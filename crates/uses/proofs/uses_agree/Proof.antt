@@ -10,18 +10,12 @@ returns : tie.Need-returns
 returns c =
     λ A t ts F holds frames. uses-same A t F (c .before .before .args .p) (c .before .before .args .q) (c .if1 .taken)
 
-hint-agrees-requires : tie.Need-hint-agrees-requires
-hint-agrees-requires c κs = search needs
-
 returns-2 : tie.Need-returns-2
 returns-2 c =
     let start = c .before .before .before .before .pre .0 in
     let a = c .before .before .before .before .args in
     λ A t ts F holds frames. sym (c .before .hint-agrees .ensures .refused (not-true _ (c .if2 .taken))) ∙ uses-exact
     (start .searchable) (start .over) holds (a .j) (a .v) F frames (a .p) (a .q)
-
-hint-agrees-requires-2 : tie.Need-hint-agrees-requires-2
-hint-agrees-requires-2 c κs = search needs
 
 returns-3 : tie.Need-returns-3
 returns-3 c =
@@ -30,18 +24,12 @@ returns-3 c =
     λ A t ts F holds frames. sym (c .before .hint-agrees2 .ensures .refused (not-true _ (c .if3 .taken))) ∙ uses-exact
     (start .searchable) (start .over) holds (a .j) (a .v) F frames (a .p) (a .q)
 
-walk-agrees-requires : tie.Need-walk-agrees-requires
-walk-agrees-requires c κs = search needs
-
 returns-4 : tie.Need-returns-4
 returns-4 c =
     let start = c .before .before .before .before .before .before .before .before .pre .0 in
     let a = c .before .before .before .before .before .before .before .before .args in
     λ A t ts F holds frames. sym (c .before .walk-agrees .ensures (c .if4 .taken)) ∙ uses-exact
     (start .searchable) (start .over) holds (a .j) (a .v) F frames (a .p) (a .q)
-
-transitions-agree-requires : tie.Need-transitions-agree-requires
-transitions-agree-requires c κs = search needs
 
 returns-5 : tie.Need-returns-5
 returns-5 c =
@@ -52,14 +40,5 @@ returns-5 c =
 
 pub uses-agree-spec : {M : Type 1} → statement M
 uses-agree-spec =
-    tie.close
-    (tie.spec
-    returns
-    hint-agrees-requires
-    returns-2
-    hint-agrees-requires-2
-    returns-3
-    walk-agrees-requires
-    returns-4
-    transitions-agree-requires
-    returns-5)
+    tie.close (tie.spec returns (λ c κs. search needs) returns-2 (λ c κs. search needs) returns-3
+    (λ c κs. search needs) returns-4 (λ c κs. search needs) returns-5)

@@ -14,18 +14,6 @@ use borrow.Author.Needs.{needs}
 use Rattle.alike.proofs.classed.named_like_state.Statement.{statement}
 use Rattle.alike.proofs.classed.named_like_state.Tie as tie
 
-wide-requires : tie.Need-wide-requires
-wide-requires c κs = search needs
-
-sub-same-class : tie.Need-sub-same-class
-sub-same-class c = search needs
-
-element-copy-out-same-class : tie.Need-element-copy-out-same-class
-element-copy-out-same-class c = search needs
-
-same-class-requires : tie.Need-same-class-requires
-same-class-requires c κs = search needs
-
 returns : tie.Need-returns
 returns c =
     let a = c .before .before .before .before .before .args in
@@ -61,12 +49,5 @@ returns-2 c =
 
 pub named-like-state-spec : {M : Type 1} → statement M
 named-like-state-spec =
-    tie.close
-    (tie.spec
-    wide-requires
-    sub-same-class
-    element-copy-out-same-class
-    same-class-requires
-    returns
-    frames-agree-requires
-    returns-2)
+    tie.close (tie.spec (λ c κs. search needs) (λ c. search needs) (λ c. search needs) (λ c κs. search needs)
+    returns frames-agree-requires returns-2)

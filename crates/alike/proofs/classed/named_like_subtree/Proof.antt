@@ -12,27 +12,6 @@ use borrow.Author.Needs.{needs}
 use Rattle.alike.proofs.classed.named_like_subtree.Statement.{statement}
 use Rattle.alike.proofs.classed.named_like_subtree.Tie as tie
 
-wide-requires : tie.Need-wide-requires
-wide-requires c κs = search needs
-
-wide-requires-2 : tie.Need-wide-requires-2
-wide-requires-2 c κs = search needs
-
-sub-same-class : tie.Need-sub-same-class
-sub-same-class c = search needs
-
-element-copy-out-same-class : tie.Need-element-copy-out-same-class
-element-copy-out-same-class c = search needs
-
-sub-same-class-2 : tie.Need-sub-same-class-2
-sub-same-class-2 c = search needs
-
-element-copy-out-same-class-2 : tie.Need-element-copy-out-same-class-2
-element-copy-out-same-class-2 c = search needs
-
-same-class-requires : tie.Need-same-class-requires
-same-class-requires c κs = search needs
-
 returns : tie.Need-returns
 returns c =
     let a = c .before .before .before .before .before .before .before .args in
@@ -103,17 +82,6 @@ returns-3 c =
 
 pub named-like-subtree-spec : {M : Type 1} → statement M
 named-like-subtree-spec =
-    tie.close
-    (tie.spec
-    wide-requires
-    wide-requires-2
-    sub-same-class
-    element-copy-out-same-class
-    sub-same-class-2
-    element-copy-out-same-class-2
-    same-class-requires
-    returns
-    frames-agree-requires
-    returns-2
-    frames-agree-requires-2
-    returns-3)
+    tie.close (tie.spec (λ c κs. search needs) (λ c κs. search needs) (λ c. search needs) (λ c. search needs)
+    (λ c. search needs) (λ c. search needs) (λ c κs. search needs) returns frames-agree-requires returns-2
+    frames-agree-requires-2 returns-3)

@@ -10,12 +10,6 @@ use borrow.Author.Needs.{needs}
 use Rattle.alike.proofs.frames.frame_node.Statement.{statement}
 use Rattle.alike.proofs.frames.frame_node.Tie as tie
 
-element-copy-out-arity : tie.Need-element-copy-out-arity
-element-copy-out-arity c = search needs
-
-wide-requires : tie.Need-wide-requires
-wide-requires c κs = search needs
-
 children-of-requires : tie.Need-children-of-requires
 children-of-requires c κs =
     (omega (arith, c .before .before .before .pre .1 .0 .few), omega (arith, c .wide .ensures, c .before .before .before .pre .1 .0 .narrow (c .before .before .before .args .i) (omega arith)))
@@ -23,12 +17,6 @@ children-of-requires c κs =
 array-write-numbers : tie.Need-array-write-numbers
 array-write-numbers c =
     omega (arith, c .children-of .ensures .size, c .before .before .before .before .pre .1 .0 .narrow (c .before .before .before .before .args .i) (omega arith))
-
-mul-node-name : tie.Need-mul-node-name
-mul-node-name c = search needs
-
-element-copy-out-node-name : tie.Need-element-copy-out-node-name
-element-copy-out-node-name c = search needs
 
 node-name-requires : tie.Need-node-name-requires
 node-name-requires c κs =
@@ -51,13 +39,5 @@ returns c =
 
 pub frame-node-spec : {M : Type 1} → statement M
 frame-node-spec =
-    tie.close
-    (tie.spec
-    element-copy-out-arity
-    wide-requires
-    children-of-requires
-    array-write-numbers
-    mul-node-name
-    element-copy-out-node-name
-    node-name-requires
-    returns)
+    tie.close (tie.spec (λ c. search needs) (λ c κs. search needs) children-of-requires array-write-numbers
+    (λ c. search needs) (λ c. search needs) node-name-requires returns)

@@ -6,12 +6,6 @@ use borrow.Author.Needs.{needs}
 use Rattle.alike.proofs.frames.frame_step.Statement.{statement}
 use Rattle.alike.proofs.frames.frame_step.Tie as tie
 
-element-copy-out-wide : tie.Need-element-copy-out-wide
-element-copy-out-wide c = search needs
-
-wide-requires : tie.Need-wide-requires
-wide-requires c κs = search needs
-
 children-of-requires : tie.Need-children-of-requires
 children-of-requires c κs =
     (omega (arith, c .before .before .before .pre .1 .0 .few), omega (arith, c .wide .ensures, c .before .before .before .pre .1 .0 .narrow (c .before .before .before .args .i) (omega arith)))
@@ -23,12 +17,6 @@ states-of-requires c κs =
 array-write-qs : tie.Need-array-write-qs
 array-write-qs c =
     omega (arith, c .states-of .ensures .size, c .before .before .before .before .before .pre .1 .0 .narrow (c .before .before .before .before .before .args .i) (omega arith))
-
-mul-step-node : tie.Need-mul-step-node
-mul-step-node c = search needs
-
-element-copy-out-step-node : tie.Need-element-copy-out-step-node
-element-copy-out-step-node c = search needs
 
 step-node-requires : tie.Need-step-node-requires
 step-node-requires c κs =
@@ -43,14 +31,5 @@ returns c =
 
 pub frame-step-spec : {M : Type 1} → statement M
 frame-step-spec =
-    tie.close
-    (tie.spec
-    element-copy-out-wide
-    wide-requires
-    children-of-requires
-    states-of-requires
-    array-write-qs
-    mul-step-node
-    element-copy-out-step-node
-    step-node-requires
-    returns)
+    tie.close (tie.spec (λ c. search needs) (λ c κs. search needs) children-of-requires states-of-requires
+    array-write-qs (λ c. search needs) (λ c. search needs) step-node-requires returns)

@@ -40,12 +40,6 @@ returns c =
     λ A t ts N j e holds known above sub. every-broken (c .before .before .before .loop .inv .1 A t ts N j e holds known above sub) (omega arith)
     (sym (c .before .parent-agrees .ensures A t ts N j e holds known above sub) ∙ not-true _ (c .if1 .taken))
 
-add-i : tie.Need-add-i Inv-loop μ-loop
-add-i c = search needs
-
-loop-less : tie.Need-loop-less Inv-loop μ-loop
-loop-less c = search needs
-
 loop-again : tie.Need-loop-again Inv-loop μ-loop
 loop-again c =
     let now = c .before .before .before .loop in (
@@ -61,14 +55,5 @@ returns-2 c =
 
 pub frames-agree-spec : {M : Type 1} → statement M
 frames-agree-spec =
-    tie.close
-    (tie.spec
-    Inv-loop
-    μ-loop
-    loop-holds
-    parent-agrees-requires
-    returns
-    add-i
-    loop-less
-    loop-again
-    returns-2)
+    tie.close (tie.spec Inv-loop μ-loop loop-holds parent-agrees-requires returns (λ c. search needs)
+    (λ c. search needs) loop-again returns-2)

@@ -19,12 +19,6 @@ Inv-loop transitions count m labels arities children states names i a state x ar
 abbrev μ-loop : tie.MeasureT-loop
 μ-loop transitions count m labels arities children states names i a state x arity k₀ k = arity - k
 
-element-copy-out-wide : tie.Need-element-copy-out-wide Inv-loop μ-loop
-element-copy-out-wide c = search needs
-
-wide-requires : tie.Need-wide-requires Inv-loop μ-loop
-wide-requires c κs = search needs
-
 loop-holds : tie.Need-loop-holds Inv-loop μ-loop
 loop-holds c =
     (c .wide .ensures, λ A t ts N j e holds known above sub. every-start (getD (c .before .before .before .args .arities .now) (c .before .before .before .args .i) 0) (omega arith))
@@ -37,12 +31,6 @@ returns : tie.Need-returns Inv-loop μ-loop
 returns c =
     λ A t ts N j e holds known above sub. every-broken (c .before .before .before .loop .inv .1 A t ts N j e holds known above sub) (omega (arith, c .before .before .before .loop .inv .0))
     (sym (c .before .place-agrees .ensures A t ts N j e holds known above sub) ∙ not-true _ (c .if1 .taken))
-
-add-k : tie.Need-add-k Inv-loop μ-loop
-add-k c = search needs
-
-loop-less : tie.Need-loop-less Inv-loop μ-loop
-loop-less c = search needs
 
 loop-again : tie.Need-loop-again Inv-loop μ-loop
 loop-again c = (
@@ -57,16 +45,5 @@ returns-2 c =
 
 pub parent-agrees-spec : {M : Type 1} → statement M
 parent-agrees-spec =
-    tie.close
-    (tie.spec
-    Inv-loop
-    μ-loop
-    element-copy-out-wide
-    wide-requires
-    loop-holds
-    place-agrees-requires
-    returns
-    add-k
-    loop-less
-    loop-again
-    returns-2)
+    tie.close (tie.spec Inv-loop μ-loop (λ c. search needs) (λ c κs. search needs) loop-holds
+    place-agrees-requires returns (λ c. search needs) (λ c. search needs) loop-again returns-2)

@@ -6,9 +6,6 @@ use borrow.Author.Needs.{needs}
 use Rattle.alike.proofs.frames.place_agrees.Statement.{statement}
 use Rattle.alike.proofs.frames.place_agrees.Tie as tie
 
-mul-wide : tie.Need-mul-wide
-mul-wide c = search needs
-
 add-wide : tie.Need-add-wide
 add-wide c =
     omega (arith, c .before .pre .1 .0 .few, c .before .pre .1 .0 .narrow (c .before .args .i) (omega arith))
@@ -17,9 +14,6 @@ element-copy-out-wide : tie.Need-element-copy-out-wide
 element-copy-out-wide c =
     omega (arith, c .before .pre .1 .0 .few, c .before .pre .1 .0 .narrow (c .before .args .i) (omega arith))
 
-wide-requires : tie.Need-wide-requires
-wide-requires c κs = search needs
-
 returns : tie.Need-returns
 returns c =
     let a = c .before .before .before .before .args in
@@ -27,9 +21,6 @@ returns c =
 
 frame-name-requires : tie.Need-frame-name-requires
 frame-name-requires c κs = c .before .before .before .before .pre
-
-element-copy-out-result : tie.Need-element-copy-out-result
-element-copy-out-result c = search needs
 
 returns-2 : tie.Need-returns-2
 returns-2 c =
@@ -40,13 +31,5 @@ returns-2 c =
 
 pub place-agrees-spec : {M : Type 1} → statement M
 place-agrees-spec =
-    tie.close
-    (tie.spec
-    mul-wide
-    add-wide
-    element-copy-out-wide
-    wide-requires
-    returns
-    frame-name-requires
-    element-copy-out-result
-    returns-2)
+    tie.close (tie.spec (λ c. search needs) add-wide element-copy-out-wide (λ c κs. search needs) returns
+    frame-name-requires (λ c. search needs) returns-2)

@@ -10,20 +10,11 @@ use borrow.Author.Needs.{needs}
 use Rattle.alike.proofs.nodes.node_name.Statement.{statement}
 use Rattle.alike.proofs.nodes.node_name.Tie as tie
 
-search-requires : tie.Need-search-requires
-search-requires c κs = search needs
-
-element-copy-out-result : tie.Need-element-copy-out-result
-element-copy-out-result c = search needs
-
 returns : tie.Need-returns
 returns c =
     let start = c .before .before .before .before in
     let eight : length (start .args .numbers) ≡ maxArity = omega (arith, start .good) in
     λ A t ts N j k e holds known h l. name-found holds known eight (start .pre .1 .1) (c .before .before .search .ensures) k h l (c .before .if1 .taken)
-
-wide-requires : tie.Need-wide-requires
-wide-requires c κs = search needs
 
 states-of-requires : tie.Need-states-of-requires
 states-of-requires c κs =
@@ -44,12 +35,5 @@ returns-2 c =
 
 pub node-name-spec : {M : Type 1} → statement M
 node-name-spec =
-    tie.close
-    (tie.spec
-    search-requires
-    element-copy-out-result
-    returns
-    wide-requires
-    states-of-requires
-    step-node-requires
-    returns-2)
+    tie.close (tie.spec (λ c κs. search needs) (λ c. search needs) returns (λ c κs. search needs)
+    states-of-requires step-node-requires returns-2)

@@ -19,12 +19,6 @@ abbrev μ-loop : tie.MeasureT-loop
 loop-holds : tie.Need-loop-holds Inv-loop μ-loop
 loop-holds c = (omega arith, filled-start)
 
-array-read-wide : tie.Need-array-read-wide Inv-loop μ-loop
-array-read-wide c = search needs
-
-wide-requires : tie.Need-wide-requires Inv-loop μ-loop
-wide-requires c κs = search needs
-
 sub-qs : tie.Need-sub-qs Inv-loop μ-loop
 sub-qs c =
     omega (arith, c .wide .ensures, c .before .before .before .pre .some (c .before .before .loop .k) (omega arith))
@@ -32,15 +26,6 @@ sub-qs c =
 element-copy-out-qs : tie.Need-element-copy-out-qs Inv-loop μ-loop
 element-copy-out-qs c =
     omega (arith, c .wide .ensures, c .before .before .before .pre .known (c .before .before .loop .k) (omega arith))
-
-array-write-qs : tie.Need-array-write-qs Inv-loop μ-loop
-array-write-qs c = search needs
-
-add-k : tie.Need-add-k Inv-loop μ-loop
-add-k c = search needs
-
-loop-less : tie.Need-loop-less Inv-loop μ-loop
-loop-less c = search needs
 
 loop-again : tie.Need-loop-again Inv-loop μ-loop
 loop-again c =
@@ -51,17 +36,5 @@ returns c = filled-end (c .before .loop .inv .1) (c .before .loop .inv .0) (omeg
 
 pub states-of-spec : {M : Type 1} → statement M
 states-of-spec =
-    tie.close
-    (tie.spec
-    Inv-loop
-    μ-loop
-    loop-holds
-    array-read-wide
-    wide-requires
-    sub-qs
-    element-copy-out-qs
-    array-write-qs
-    add-k
-    loop-less
-    loop-again
-    returns)
+    tie.close (tie.spec Inv-loop μ-loop loop-holds (λ c. search needs) (λ c κs. search needs) sub-qs
+    element-copy-out-qs (λ c. search needs) (λ c. search needs) (λ c. search needs) loop-again returns)

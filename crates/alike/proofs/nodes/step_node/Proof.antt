@@ -8,19 +8,13 @@ use borrow.Author.Needs.{needs}
 use Rattle.alike.proofs.nodes.step_node.Statement.{statement}
 use Rattle.alike.proofs.nodes.step_node.Tie as tie
 
-some-zero-requires : tie.Need-some-zero-requires
-some-zero-requires c κs = search needs
-
 returns : tie.Need-returns
 returns c =
     λ A e. step-lost A (c .before .before .before .args .label) (take (c .before .before .before .args .arity) (c .before .before .before .args .qs)) (sym (c .if1 .taken) ∙ c .before .some-zero .ensures)
-
-output-requires : tie.Need-output-requires
-output-requires c κs = search needs
 
 returns-2 : tie.Need-returns-2
 returns-2 c =
     λ A e. step-found A (c .before .before .before .before .args .label) (take (c .before .before .before .before .args .arity) (c .before .before .before .before .args .qs)) (sym (c .before .if1 .left) ∙ c .before .before .some-zero .ensures) (c .output .ensures ∙ ap (lookup (c .before .before .before .before .args .label) (take (c .before .before .before .before .args .arity) (c .before .before .before .before .args .qs))) (sym e))
 
 pub step-node-spec : {M : Type 1} → statement M
-step-node-spec = tie.close (tie.spec some-zero-requires returns output-requires returns-2)
+step-node-spec = tie.close (tie.spec (λ c κs. search needs) returns (λ c κs. search needs) returns-2)

@@ -8,12 +8,6 @@ use Rattle.alike.proofs.NodeNames.{children-more}
 use Rattle.alike.proofs.slots.frame_slot.Statement.{statement}
 use Rattle.alike.proofs.slots.frame_slot.Tie as tie
 
-element-copy-out-wide : tie.Need-element-copy-out-wide
-element-copy-out-wide c = search needs
-
-wide-requires : tie.Need-wide-requires
-wide-requires c κs = search needs
-
 children-of-requires : tie.Need-children-of-requires
 children-of-requires c κs =
     let start = c .before .before in
@@ -32,24 +26,9 @@ array-write-qs : tie.Need-array-write-qs
 array-write-qs c = let start = c .before .before .before .before in
     omega (arith, c .states-of .ensures .size, start .pre .0 .narrow (start .args .i) (omega arith))
 
-mul-meta-of : tie.Need-mul-meta-of
-mul-meta-of c = search needs
-
-element-copy-out-meta-of : tie.Need-element-copy-out-meta-of
-element-copy-out-meta-of c = search needs
-
 meta-of-requires : tie.Need-meta-of-requires
 meta-of-requires c κs = let start = c .before .before .before .before .before in
     omega (arith, c .before .before .before .wide .ensures, start .pre .0 .narrow (start .args .i) (omega arith))
-
-pack-requires : tie.Need-pack-requires
-pack-requires c κs = search needs
-
-element-copy-out-wide-2 : tie.Need-element-copy-out-wide-2
-element-copy-out-wide-2 c = search needs
-
-wide-requires-2 : tie.Need-wide-requires-2
-wide-requires-2 c κs = search needs
 
 returns : tie.Need-returns
 returns c =
@@ -64,17 +43,6 @@ returns c =
 
 pub frame-slot-spec : {M : Type 1} → statement M
 frame-slot-spec =
-    tie.close
-    (tie.spec
-    element-copy-out-wide
-    wide-requires
-    children-of-requires
-    states-of-requires
-    array-write-qs
-    mul-meta-of
-    element-copy-out-meta-of
-    meta-of-requires
-    pack-requires
-    element-copy-out-wide-2
-    wide-requires-2
-    returns)
+    tie.close (tie.spec (λ c. search needs) (λ c κs. search needs) children-of-requires states-of-requires
+    array-write-qs (λ c. search needs) (λ c. search needs) meta-of-requires (λ c κs. search needs)
+    (λ c. search needs) (λ c κs. search needs) returns)

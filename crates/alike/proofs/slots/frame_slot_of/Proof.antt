@@ -12,26 +12,11 @@ Inv-loop m labels arities children states names j from to i₀ i = from ≤ i
 abbrev μ-loop : tie.MeasureT-loop
 μ-loop m labels arities children states names j from to i₀ i = to - i
 
-loop-holds : tie.Need-loop-holds Inv-loop μ-loop
-loop-holds c = omega arith
-
 parent-slot-requires : tie.Need-parent-slot-requires Inv-loop μ-loop
 parent-slot-requires c κs = (c .before .before .pre .0, omega arith)
 
 returns : tie.Need-returns Inv-loop μ-loop
 returns c = c .before .before .parent-slot .ensures
-
-add-i : tie.Need-add-i Inv-loop μ-loop
-add-i c = search needs
-
-loop-less : tie.Need-loop-less Inv-loop μ-loop
-loop-less c = search needs
-
-loop-again : tie.Need-loop-again Inv-loop μ-loop
-loop-again c = omega arith
-
-no-slot-requires : tie.Need-no-slot-requires Inv-loop μ-loop
-no-slot-requires c κs = search needs
 
 returns-2 : tie.Need-returns-2 Inv-loop μ-loop
 returns-2 c = let a = c .before .before .before .args in
@@ -40,15 +25,5 @@ returns-2 c = let a = c .before .before .before .args in
 
 pub frame-slot-of-spec : {M : Type 1} → statement M
 frame-slot-of-spec =
-    tie.close
-    (tie.spec
-    Inv-loop
-    μ-loop
-    loop-holds
-    parent-slot-requires
-    returns
-    add-i
-    loop-less
-    loop-again
-    no-slot-requires
-    returns-2)
+    tie.close (tie.spec Inv-loop μ-loop (λ c. omega arith) parent-slot-requires returns (λ c. search needs)
+    (λ c. search needs) (λ c. omega arith) (λ c κs. search needs) returns-2)

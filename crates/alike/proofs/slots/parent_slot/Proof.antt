@@ -15,28 +15,13 @@ Inv-loop m labels arities children states names i j arity k₀ k = arity ≡ get
 abbrev μ-loop : tie.MeasureT-loop
 μ-loop m labels arities children states names i j arity k₀ k = arity - k
 
-element-copy-out-if1 : tie.Need-element-copy-out-if1 Inv-loop μ-loop
-element-copy-out-if1 c = search needs
-
-no-slot-requires : tie.Need-no-slot-requires Inv-loop μ-loop
-no-slot-requires c κs = search needs
-
 returns : tie.Need-returns Inv-loop μ-loop
 returns c = let a = c .before .before .before .args in
     slot-none (a .m) (a .j) (a .labels .now) (a .arities .now) (a .children .now) (a .states .now) (a .names .now)
     (c .no-slot .result) (c .no-slot .ensures .0) (c .no-slot .ensures .1)
 
-element-copy-out-wide : tie.Need-element-copy-out-wide Inv-loop μ-loop
-element-copy-out-wide c = search needs
-
-wide-requires : tie.Need-wide-requires Inv-loop μ-loop
-wide-requires c κs = search needs
-
 loop-holds : tie.Need-loop-holds Inv-loop μ-loop
 loop-holds c = c .wide .ensures
-
-mul-wide : tie.Need-mul-wide Inv-loop μ-loop
-mul-wide c = search needs
 
 add-wide : tie.Need-add-wide Inv-loop μ-loop
 add-wide c = let start = c .before .before .before .before .before .before in
@@ -45,9 +30,6 @@ add-wide c = let start = c .before .before .before .before .before .before in
 element-copy-out-wide-2 : tie.Need-element-copy-out-wide-2 Inv-loop μ-loop
 element-copy-out-wide-2 c = let start = c .before .before .before .before .before .before in
     omega (arith, c .before .loop .inv, start .pre .0 .few, start .pre .0 .narrow (start .args .i) (omega arith))
-
-wide-requires-2 : tie.Need-wide-requires-2 Inv-loop μ-loop
-wide-requires-2 c κs = search needs
 
 frame-slot-requires : tie.Need-frame-slot-requires Inv-loop μ-loop
 frame-slot-requires c κs = let start = c .before .before .before .before .before .before .before .before .before in
@@ -59,17 +41,8 @@ returns-2 c = let a = c .before .before .before .before .before .before .before 
     (a .names .now) (c .frame-slot .result))
     (sym (c .before .before .wide2 .ensures) ∙ c .before .if2 .taken) (c .frame-slot .ensures)
 
-add-k : tie.Need-add-k Inv-loop μ-loop
-add-k c = search needs
-
-loop-less : tie.Need-loop-less Inv-loop μ-loop
-loop-less c = search needs
-
 loop-again : tie.Need-loop-again Inv-loop μ-loop
 loop-again c = c .before .before .before .before .loop .inv
-
-no-slot-requires-2 : tie.Need-no-slot-requires-2 Inv-loop μ-loop
-no-slot-requires-2 c κs = search needs
 
 returns-3 : tie.Need-returns-3 Inv-loop μ-loop
 returns-3 c = let a = c .before .before .before .before .before .before .before .args in
@@ -78,24 +51,7 @@ returns-3 c = let a = c .before .before .before .before .before .before .before 
 
 pub parent-slot-spec : {M : Type 1} → statement M
 parent-slot-spec =
-    tie.close
-    (tie.spec
-    Inv-loop
-    μ-loop
-    element-copy-out-if1
-    no-slot-requires
-    returns
-    element-copy-out-wide
-    wide-requires
-    loop-holds
-    mul-wide
-    add-wide
-    element-copy-out-wide-2
-    wide-requires-2
-    frame-slot-requires
-    returns-2
-    add-k
-    loop-less
-    loop-again
-    no-slot-requires-2
-    returns-3)
+    tie.close (tie.spec Inv-loop μ-loop (λ c. search needs) (λ c κs. search needs) returns (λ c. search needs)
+    (λ c κs. search needs) loop-holds (λ c. search needs) add-wide element-copy-out-wide-2
+    (λ c κs. search needs) frame-slot-requires returns-2 (λ c. search needs) (λ c. search needs) loop-again
+    (λ c κs. search needs) returns-3)

@@ -5,20 +5,11 @@ use borrow.Author.Needs.{needs}
 use Rattle.change.proofs.classes.class_of.Statement.{statement}
 use Rattle.change.proofs.classes.class_of.Tie as tie
 
-own-class-requires : tie.Need-own-class-requires
-own-class-requires c κs = search needs
-
 returns : tie.Need-returns
 returns c =
     let start = c .before .before .before in
     class-own (start .args .table .now) (start .args .n) (start .args .states .now) (start .args .own)
     (start .args .inserting) (start .args .p) (c .before .if1 .taken) (c .own-class .ensures)
-
-state-of-requires : tie.Need-state-of-requires
-state-of-requires c κs = search needs
-
-wide-requires : tie.Need-wide-requires
-wide-requires c κs = search needs
 
 returns-2 : tie.Need-returns-2
 returns-2 c =
@@ -28,9 +19,6 @@ returns-2 c =
     class-none (start .args .table .now) (start .args .n) (start .args .states .now) (start .args .own)
     (start .args .inserting) (start .args .p) (at-if1 .if1 .left) (c .before .wide .ensures ∙ at-state-of
     .state-of .ensures) (c .if2 .taken)
-
-shared-slice-read-result : tie.Need-shared-slice-read-result
-shared-slice-read-result c = search needs
 
 returns-3 : tie.Need-returns-3
 returns-3 c =
@@ -44,12 +32,5 @@ returns-3 c =
 
 pub class-of-spec : {M : Type 1} → statement M
 class-of-spec =
-    tie.close
-    (tie.spec
-    own-class-requires
-    returns
-    state-of-requires
-    wide-requires
-    returns-2
-    shared-slice-read-result
-    returns-3)
+    tie.close (tie.spec (λ c κs. search needs) returns (λ c κs. search needs) (λ c κs. search needs) returns-2
+    (λ c. search needs) returns-3)

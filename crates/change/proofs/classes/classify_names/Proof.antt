@@ -17,23 +17,8 @@ abbrev μ-loop : tie.MeasureT-loop
 loop-holds : tie.Need-loop-holds Inv-loop μ-loop
 loop-holds c = (omega arith, omega arith, classed-start (c .before .pre .1 .1 .1))
 
-add-loop : tie.Need-add-loop Inv-loop μ-loop
-add-loop c = search needs
-
-add-class-of : tie.Need-add-class-of Inv-loop μ-loop
-add-class-of c = search needs
-
-class-of-requires : tie.Need-class-of-requires Inv-loop μ-loop
-class-of-requires c κs = search needs
-
 element-write-classes : tie.Need-element-write-classes Inv-loop μ-loop
 element-write-classes c = omega (arith, c .before .before .loop .inv .2 .size)
-
-add-p : tie.Need-add-p Inv-loop μ-loop
-add-p c = search needs
-
-loop-less : tie.Need-loop-less Inv-loop μ-loop
-loop-less c = omega arith
 
 loop-again : tie.Need-loop-again Inv-loop μ-loop
 loop-again c =
@@ -49,16 +34,5 @@ returns c = classed-end (c .before .loop .inv .2) (omega arith)
 
 pub classify-names-spec : {M : Type 1} → statement M
 classify-names-spec =
-    tie.close
-    (tie.spec
-    Inv-loop
-    μ-loop
-    loop-holds
-    add-loop
-    add-class-of
-    class-of-requires
-    element-write-classes
-    add-p
-    loop-less
-    loop-again
-    returns)
+    tie.close (tie.spec Inv-loop μ-loop loop-holds (λ c. search needs) (λ c. search needs)
+    (λ c κs. search needs) element-write-classes (λ c. search needs) (λ c. omega arith) loop-again returns)

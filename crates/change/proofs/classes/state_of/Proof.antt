@@ -6,20 +6,8 @@ use borrow.Author.Needs.{needs}
 use Rattle.change.proofs.classes.state_of.Statement.{statement}
 use Rattle.change.proofs.classes.state_of.Tie as tie
 
-cast-result : tie.Need-cast-result
-cast-result c = search needs
-
 returns : tie.Need-returns
 returns c = state-low (c .before .args .n) (c .before .args .states .now) (c .before .args .p) (omega arith)
-
-sub-result : tie.Need-sub-result
-sub-result c = search needs
-
-sub-result-2 : tie.Need-sub-result-2
-sub-result-2 c = search needs
-
-element-copy-out-result : tie.Need-element-copy-out-result
-element-copy-out-result c = search needs
 
 returns-2 : tie.Need-returns-2
 returns-2 c =
@@ -28,5 +16,5 @@ returns-2 c =
 
 pub state-of-spec : {M : Type 1} → statement M
 state-of-spec =
-    tie.close
-    (tie.spec cast-result returns sub-result sub-result-2 element-copy-out-result returns-2)
+    tie.close (tie.spec (λ c. search needs) returns (λ c. search needs) (λ c. search needs) (λ c. search needs)
+    returns-2)

@@ -8,9 +8,6 @@ use borrow.Author.Needs.{needs}
 use Rattle.change.proofs.fallback.renumber_table.Statement.{statement}
 use Rattle.change.proofs.fallback.renumber_table.Tie as tie
 
-write-scratch-requires : tie.Need-write-scratch-requires
-write-scratch-requires c κs = search needs
-
 add-write : tie.Need-add-write
 add-write c =
     let start = c .before .before .before .before .before .before .before .before .before in
@@ -41,12 +38,6 @@ write-requires c κs =
       given-size (start .pre .0 .4 .named .given),
     )
 
-same-length : tie.Need-same-length
-same-length c = search needs
-
-same-length-2 : tie.Need-same-length-2
-same-length-2 c = search needs
-
 returns : tie.Need-returns
 returns c =
     let at-write = c .before .before in
@@ -57,5 +48,5 @@ returns c =
 
 pub renumber-table-spec : {M : Type 1} → statement M
 renumber-table-spec =
-    tie.close
-    (tie.spec write-scratch-requires add-write write-requires same-length same-length-2 returns)
+    tie.close (tie.spec (λ c κs. search needs) add-write write-requires (λ c. search needs) (λ c. search needs)
+    returns)

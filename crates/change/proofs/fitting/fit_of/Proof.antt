@@ -11,17 +11,11 @@ use borrow.Author.Needs.{needs}
 use Rattle.change.proofs.fitting.fit_of.Statement.{statement}
 use Rattle.change.proofs.fitting.fit_of.Tie as tie
 
-fits-small-requires : tie.Need-fits-small-requires
-fits-small-requires c κs = search needs
-
 returns : tie.Need-returns
 returns c = λ inserting t firsts nexts N K.
     let B = changedAutomaton inserting t (decode (c .before .before .before .args .table .now)) in
     let e = c .before .fits-small .ensures (c .if1 .taken) inserting t firsts nexts N K in
     record { table = sym (within-more B smallTransitions maxTransitions (omega arith) e); few = λ _. e }
-
-fits-requires : tie.Need-fits-requires
-fits-requires c κs = search needs
 
 returns-2 : tie.Need-returns-2
 returns-2 c = λ inserting t firsts nexts N K. record {
@@ -30,4 +24,4 @@ returns-2 c = λ inserting t firsts nexts N K. record {
 }
 
 pub fit-of-spec : {M : Type 1} → statement M
-fit-of-spec = tie.close (tie.spec fits-small-requires returns fits-requires returns-2)
+fit-of-spec = tie.close (tie.spec (λ c κs. search needs) returns (λ c κs. search needs) returns-2)

@@ -16,9 +16,6 @@ sub-table-fits c = omega (arith, given-size (c .before .pre .0 .1))
 part-table-fits-start : tie.Need-part-table-fits-start
 part-table-fits-start c = omega (arith, given-size (c .before .pre .0 .1))
 
-part-table-fits-end : tie.Need-part-table-fits-end
-part-table-fits-end c = search needs
-
 table-fits-requires : tie.Need-table-fits-requires
 table-fits-requires c κs =
     let start = c .before .before in
@@ -34,5 +31,4 @@ returns c =
 
 pub fits-spec : {M : Type 1} → statement M
 fits-spec =
-    tie.close
-    (tie.spec sub-table-fits part-table-fits-start part-table-fits-end table-fits-requires returns)
+    tie.close (tie.spec sub-table-fits part-table-fits-start (λ c. search needs) table-fits-requires returns)

@@ -7,9 +7,6 @@ use borrow.Author.Needs.{needs}
 use Rattle.change.proofs.rebuilding.attempt.Statement.{statement}
 use Rattle.change.proofs.rebuilding.attempt.Tie as tie
 
-make-all-requires : tie.Need-make-all-requires
-make-all-requires c κs = search needs
-
 sub-givers-of : tie.Need-sub-givers-of
 sub-givers-of c =
     let start = c .before .before .before .before .before .before .before .before .before .before .before .before
@@ -21,9 +18,6 @@ part-givers-of-start c =
     let start = c .before .before .before .before .before .before .before .before .before .before .before .before
     .before .before .before .before .before .before .before in
     omega (arith, given-size (start .pre .0 .4 .named .given))
-
-part-givers-of-end : tie.Need-part-givers-of-end
-part-givers-of-end c = search needs
 
 givers-of-requires : tie.Need-givers-of-requires
 givers-of-requires c κs =
@@ -61,27 +55,6 @@ rebuild-requires c κs =
       ),
     )
 
-same-length : tie.Need-same-length
-same-length c = search needs
-
-same-length-2 : tie.Need-same-length-2
-same-length-2 c = search needs
-
-same-length-3 : tie.Need-same-length-3
-same-length-3 c = search needs
-
-same-length-4 : tie.Need-same-length-4
-same-length-4 c = search needs
-
-same-length-5 : tie.Need-same-length-5
-same-length-5 c = search needs
-
-same-length-6 : tie.Need-same-length-6
-same-length-6 c = search needs
-
-same-length-7 : tie.Need-same-length-7
-same-length-7 c = search needs
-
 returns : tie.Need-returns
 returns c =
     let at-rebuild = c .before .before .before .before .before .before .before .before .before .before .before
@@ -98,19 +71,6 @@ returns c =
 
 pub attempt-spec : {M : Type 1} → statement M
 attempt-spec =
-    tie.close
-    (tie.spec
-    make-all-requires
-    sub-givers-of
-    part-givers-of-start
-    part-givers-of-end
-    givers-of-requires
-    rebuild-requires
-    same-length
-    same-length-2
-    same-length-3
-    same-length-4
-    same-length-5
-    same-length-6
-    same-length-7
-    returns)
+    tie.close (tie.spec (λ c κs. search needs) sub-givers-of part-givers-of-start (λ c. search needs)
+    givers-of-requires rebuild-requires (λ c. search needs) (λ c. search needs) (λ c. search needs)
+    (λ c. search needs) (λ c. search needs) (λ c. search needs) (λ c. search needs) returns)

@@ -22,9 +22,6 @@ part-make-start c =
     let some = c .before .before .before .before .pre .0 in
     omega (arith, given-size (some .4 .named .given))
 
-part-make-end : tie.Need-part-make-end
-part-make-end c = search needs
-
 make-requires : tie.Need-make-requires
 make-requires c κs =
     let start = c .before .before .before .before .before .before .before .before in
@@ -44,15 +41,6 @@ make-requires c κs =
       ),
     )
 
-same-length : tie.Need-same-length
-same-length c = search needs
-
-same-length-2 : tie.Need-same-length-2
-same-length-2 c = search needs
-
-same-length-3 : tie.Need-same-length-3
-same-length-3 c = search needs
-
 returns : tie.Need-returns
 returns c =
     let start = c .before .before .before .before .before .before .before .before .before .before .before .before
@@ -70,13 +58,5 @@ returns c =
 
 pub make-all-spec : {M : Type 1} → statement M
 make-all-spec =
-    tie.close
-    (tie.spec
-    sub-make
-    part-make-start
-    part-make-end
-    make-requires
-    same-length
-    same-length-2
-    same-length-3
-    returns)
+    tie.close (tie.spec sub-make part-make-start (λ c. search needs) make-requires (λ c. search needs)
+    (λ c. search needs) (λ c. search needs) returns)

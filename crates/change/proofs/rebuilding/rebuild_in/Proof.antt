@@ -6,30 +6,6 @@ use borrow.Author.Needs.{needs}
 use Rattle.change.proofs.rebuilding.rebuild_in.Statement.{statement}
 use Rattle.change.proofs.rebuilding.rebuild_in.Tie as tie
 
-attempt-requires : tie.Need-attempt-requires
-attempt-requires c κs = search needs
-
-same-length : tie.Need-same-length
-same-length c = search needs
-
-same-length-2 : tie.Need-same-length-2
-same-length-2 c = search needs
-
-same-length-3 : tie.Need-same-length-3
-same-length-3 c = search needs
-
-same-length-4 : tie.Need-same-length-4
-same-length-4 c = search needs
-
-same-length-5 : tie.Need-same-length-5
-same-length-5 c = search needs
-
-same-length-6 : tie.Need-same-length-6
-same-length-6 c = search needs
-
-same-length-7 : tie.Need-same-length-7
-same-length-7 c = search needs
-
 returns : tie.Need-returns
 returns c =
     let first = c .before .before .before .before .before .before .before .before .before .before .before .before
@@ -64,24 +40,6 @@ same-length-8 c =
     .before .before .before .before in
     omega (arith, at-first .attempt .kept, at-second .attempt2 .kept)
 
-same-length-9 : tie.Need-same-length-9
-same-length-9 c = search needs
-
-same-length-10 : tie.Need-same-length-10
-same-length-10 c = search needs
-
-same-length-11 : tie.Need-same-length-11
-same-length-11 c = search needs
-
-same-length-12 : tie.Need-same-length-12
-same-length-12 c = search needs
-
-same-length-13 : tie.Need-same-length-13
-same-length-13 c = search needs
-
-same-length-14 : tie.Need-same-length-14
-same-length-14 c = search needs
-
 returns-2 : tie.Need-returns-2
 returns-2 c =
     let at-second = c .before .before .before .before .before .before .before .before .before .before .before .before
@@ -96,23 +54,7 @@ returns-2 c =
 
 pub rebuild-in-spec : {M : Type 1} → statement M
 rebuild-in-spec =
-    tie.close
-    (tie.spec
-    attempt-requires
-    same-length
-    same-length-2
-    same-length-3
-    same-length-4
-    same-length-5
-    same-length-6
-    same-length-7
-    returns
-    attempt-requires-2
-    same-length-8
-    same-length-9
-    same-length-10
-    same-length-11
-    same-length-12
-    same-length-13
-    same-length-14
-    returns-2)
+    tie.close (tie.spec (λ c κs. search needs) (λ c. search needs) (λ c. search needs) (λ c. search needs)
+    (λ c. search needs) (λ c. search needs) (λ c. search needs) (λ c. search needs) returns attempt-requires-2
+    same-length-8 (λ c. search needs) (λ c. search needs) (λ c. search needs) (λ c. search needs)
+    (λ c. search needs) (λ c. search needs) returns-2)

@@ -8,9 +8,6 @@ rebuild-small-requires c κs =
     let pre = c .before .before .before .pre in
     (pre .1 .0 (c .before .if1 .taken), pre .1 .1)
 
-same-length : tie.Need-same-length
-same-length c = search needs
-
 returns : tie.Need-returns
 returns c = c .before .before .rebuild-small .ensures
 
@@ -19,13 +16,10 @@ rebuild-large-requires c κs =
     let pre = c .before .before .before .pre in
     (pre .0, pre .1 .1)
 
-same-length-2 : tie.Need-same-length-2
-same-length-2 c = search needs
-
 returns-2 : tie.Need-returns-2
 returns-2 c = c .before .before .rebuild-large .ensures
 
 pub rebuild-table-spec : {M : Type 1} → statement M
 rebuild-table-spec =
-    tie.close
-    (tie.spec rebuild-small-requires same-length returns rebuild-large-requires same-length-2 returns-2)
+    tie.close (tie.spec rebuild-small-requires (λ c. search needs) returns rebuild-large-requires
+    (λ c. search needs) returns-2)

@@ -9,9 +9,6 @@ rebuild-table-requires c κs =
     let pre = c .before .before .before .pre in
     (pre .0, (pre .1 .0, pre .1 .1 .1))
 
-same-length : tie.Need-same-length
-same-length c = search needs
-
 returns : tie.Need-returns
 returns c = rw (c .if1 .taken) at (c .before .before .before .rebuild-table .ensures .0)
 
@@ -22,12 +19,6 @@ renumber-table-requires c κs =
     let pre = at-rebuild .before .before .before .before .pre in
     (some-same (at-rebuild .rebuild-table .ensures .1 (at-if1 .if1 .left)) (pre .0), pre .1 .1 .0)
 
-same-length-2 : tie.Need-same-length-2
-same-length-2 c = search needs
-
-same-length-3 : tie.Need-same-length-3
-same-length-3 c = search needs
-
 returns-2 : tie.Need-returns-2
 returns-2 c =
     let at-renumber = c .before .before .before .before in
@@ -37,12 +28,5 @@ returns-2 c =
 
 pub replace-spec : {M : Type 1} → statement M
 replace-spec =
-    tie.close
-    (tie.spec
-    rebuild-table-requires
-    same-length
-    returns
-    renumber-table-requires
-    same-length-2
-    same-length-3
-    returns-2)
+    tie.close (tie.spec rebuild-table-requires (λ c. search needs) returns renumber-table-requires
+    (λ c. search needs) (λ c. search needs) returns-2)

@@ -4,14 +4,8 @@ use borrow.Author.Needs.{needs}
 use Rattle.fields.proofs.transition.put_arg.Statement.{statement}
 use Rattle.fields.proofs.transition.put_arg.Tie as tie
 
-add-entry : tie.Need-add-entry
-add-entry c = search needs
-
-element-write-entry : tie.Need-element-write-entry
-element-write-entry c = search needs
-
 returns : tie.Need-returns
 returns c = arg-put (c .args .entry .now) (c .args .q) (c .pre .0) (c .args .k) (c .pre .1)
 
 pub put-arg-spec : {M : Type 1} → statement M
-put-arg-spec = tie.close (tie.spec add-entry element-write-entry returns)
+put-arg-spec = tie.close (tie.spec (λ c. search needs) (λ c. search needs) returns)

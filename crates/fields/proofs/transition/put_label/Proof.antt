@@ -4,18 +4,6 @@ use borrow.Author.Needs.{needs}
 use Rattle.fields.proofs.transition.put_label.Statement.{statement}
 use Rattle.fields.proofs.transition.put_label.Tie as tie
 
-label-high-requires : tie.Need-label-high-requires
-label-high-requires c κs = search needs
-
-element-write-entry : tie.Need-element-write-entry
-element-write-entry c = search needs
-
-label-low-requires : tie.Need-label-low-requires
-label-low-requires c κs = search needs
-
-element-write-entry-2 : tie.Need-element-write-entry-2
-element-write-entry-2 c = search needs
-
 returns : tie.Need-returns
 returns c =
     let start = c .before .before in
@@ -27,10 +15,5 @@ returns c =
 
 pub put-label-spec : {M : Type 1} → statement M
 put-label-spec =
-    tie.close
-    (tie.spec
-    label-high-requires
-    element-write-entry
-    label-low-requires
-    element-write-entry-2
+    tie.close (tie.spec (λ c κs. search needs) (λ c. search needs) (λ c κs. search needs) (λ c. search needs)
     returns)

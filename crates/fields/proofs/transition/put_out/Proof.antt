@@ -4,11 +4,8 @@ use borrow.Author.Needs.{needs}
 use Rattle.fields.proofs.transition.put_out.Statement.{statement}
 use Rattle.fields.proofs.transition.put_out.Tie as tie
 
-element-write-entry : tie.Need-element-write-entry
-element-write-entry c = search needs
-
 returns : tie.Need-returns
 returns c = out-put (c .args .entry .now) (c .args .q) (c .pre)
 
 pub put-out-spec : {M : Type 1} → statement M
-put-out-spec = tie.close (tie.spec element-write-entry returns)
+put-out-spec = tie.close (tie.spec (λ c. search needs) returns)

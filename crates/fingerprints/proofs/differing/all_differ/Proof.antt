@@ -23,9 +23,6 @@ abbrev μ-loop : tie.MeasureT-loop
 loop-holds : tie.Need-loop-holds Inv-loop μ-loop
 loop-holds c = (omega arith, every-start (c .args .n) (omega arith), taken-start (c .args .prints .now))
 
-add-loop : tie.Need-add-loop Inv-loop μ-loop
-add-loop c = search needs
-
 differs-by-bucket-requires : tie.Need-differs-by-bucket-requires Inv-loop μ-loop
 differs-by-bucket-requires c κs =
     let inv = c .before .before .loop .inv in
@@ -37,24 +34,6 @@ returns c =
     let at-loop = c .before .before .before .before in
     every-broken (at-loop .loop .inv .1) (omega arith) (sym (c .before .differs-by-bucket .ensures) ∙ not-true _
     (c .if1 .taken))
-
-mul-bucket : tie.Need-mul-bucket Inv-loop μ-loop
-mul-bucket c = search needs
-
-element-copy-out-bucket : tie.Need-element-copy-out-bucket Inv-loop μ-loop
-element-copy-out-bucket c = search needs
-
-bucket-requires : tie.Need-bucket-requires Inv-loop μ-loop
-bucket-requires c κs = search needs
-
-array-write-taken : tie.Need-array-write-taken Inv-loop μ-loop
-array-write-taken c = search needs
-
-add-q : tie.Need-add-q Inv-loop μ-loop
-add-q c = search needs
-
-loop-less : tie.Need-loop-less Inv-loop μ-loop
-loop-less c = search needs
 
 loop-again : tie.Need-loop-again Inv-loop μ-loop
 loop-again c =
@@ -72,19 +51,6 @@ returns-2 c = every-end (c .before .loop .inv .1) (omega arith)
 
 pub all-differ-spec : {M : Type 1} → statement M
 all-differ-spec =
-    tie.close
-    (tie.spec
-    Inv-loop
-    μ-loop
-    loop-holds
-    add-loop
-    differs-by-bucket-requires
-    returns
-    mul-bucket
-    element-copy-out-bucket
-    bucket-requires
-    array-write-taken
-    add-q
-    loop-less
-    loop-again
-    returns-2)
+    tie.close (tie.spec Inv-loop μ-loop loop-holds (λ c. search needs) differs-by-bucket-requires returns
+    (λ c. search needs) (λ c. search needs) (λ c κs. search needs) (λ c. search needs) (λ c. search needs)
+    (λ c. search needs) loop-again returns-2)

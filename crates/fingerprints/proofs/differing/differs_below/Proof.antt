@@ -15,29 +15,8 @@ Inv-loop prints q print alone₀ p₀ alone p =
 abbrev μ-loop : tie.MeasureT-loop
 μ-loop prints q print alone₀ p₀ alone p = q - p
 
-mul-print : tie.Need-mul-print Inv-loop μ-loop
-mul-print c = search needs
-
-element-copy-out-print : tie.Need-element-copy-out-print Inv-loop μ-loop
-element-copy-out-print c = search needs
-
 loop-holds : tie.Need-loop-holds Inv-loop μ-loop
 loop-holds c = (refl, clean-start (c .before .args .q - 1) (omega (arith, c .before .pre .0)))
-
-mul-differ : tie.Need-mul-differ Inv-loop μ-loop
-mul-differ c = search needs
-
-element-copy-out-differ : tie.Need-element-copy-out-differ Inv-loop μ-loop
-element-copy-out-differ c = search needs
-
-differ-requires : tie.Need-differ-requires Inv-loop μ-loop
-differ-requires c κs = search needs
-
-add-p : tie.Need-add-p Inv-loop μ-loop
-add-p c = search needs
-
-loop-less : tie.Need-loop-less Inv-loop μ-loop
-loop-less c = search needs
 
 loop-again : tie.Need-loop-again Inv-loop μ-loop
 loop-again c =
@@ -49,17 +28,5 @@ returns c = clean-end (c .before .loop .inv .1) (omega arith)
 
 pub differs-below-spec : {M : Type 1} → statement M
 differs-below-spec =
-    tie.close
-    (tie.spec
-    Inv-loop
-    μ-loop
-    mul-print
-    element-copy-out-print
-    loop-holds
-    mul-differ
-    element-copy-out-differ
-    differ-requires
-    add-p
-    loop-less
-    loop-again
-    returns)
+    tie.close (tie.spec Inv-loop μ-loop (λ c. search needs) (λ c. search needs) loop-holds (λ c. search needs)
+    (λ c. search needs) (λ c κs. search needs) (λ c. search needs) (λ c. search needs) loop-again returns)

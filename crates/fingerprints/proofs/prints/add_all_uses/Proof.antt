@@ -23,24 +23,6 @@ loop-holds c = (
   filling-start (c .before .pre .1 .1) (gains-start (c .before .args .transitions .now) (c .before .args .count)),
 )
 
-mul-out-of : tie.Need-mul-out-of Inv-loop μ-loop
-mul-out-of c = search needs
-
-out-of-requires : tie.Need-out-of-requires Inv-loop μ-loop
-out-of-requires c κs = search needs
-
-mul-add-uses : tie.Need-mul-add-uses Inv-loop μ-loop
-mul-add-uses c = search needs
-
-add-uses-requires : tie.Need-add-uses-requires Inv-loop μ-loop
-add-uses-requires c κs = search needs
-
-add-i : tie.Need-add-i Inv-loop μ-loop
-add-i c = search needs
-
-loop-less : tie.Need-loop-less Inv-loop μ-loop
-loop-less c = search needs
-
 loop-again : tie.Need-loop-again Inv-loop μ-loop
 loop-again c =
     let at-out-of = c .before .before in
@@ -59,16 +41,5 @@ returns c =
 
 pub add-all-uses-spec : {M : Type 1} → statement M
 add-all-uses-spec =
-    tie.close
-    (tie.spec
-    Inv-loop
-    μ-loop
-    loop-holds
-    mul-out-of
-    out-of-requires
-    mul-add-uses
-    add-uses-requires
-    add-i
-    loop-less
-    loop-again
-    returns)
+    tie.close (tie.spec Inv-loop μ-loop loop-holds (λ c. search needs) (λ c κs. search needs)
+    (λ c. search needs) (λ c κs. search needs) (λ c. search needs) (λ c. search needs) loop-again returns)

@@ -21,27 +21,6 @@ Inv-loop transitions count n i x prints₀ arity s all k₀ prints k =
 abbrev μ-loop : tie.MeasureT-loop
 μ-loop transitions count n i x prints₀ arity s all k₀ prints k = arity - k
 
-mul-arity-of : tie.Need-mul-arity-of Inv-loop μ-loop
-mul-arity-of c = search needs
-
-arity-of-requires : tie.Need-arity-of-requires Inv-loop μ-loop
-arity-of-requires c κs = search needs
-
-mul-label-of : tie.Need-mul-label-of Inv-loop μ-loop
-mul-label-of c = search needs
-
-label-of-requires : tie.Need-label-of-requires Inv-loop μ-loop
-label-of-requires c κs = search needs
-
-widened-requires : tie.Need-widened-requires Inv-loop μ-loop
-widened-requires c κs = search needs
-
-salt-requires : tie.Need-salt-requires Inv-loop μ-loop
-salt-requires c κs = search needs
-
-mul-xor-args : tie.Need-mul-xor-args Inv-loop μ-loop
-mul-xor-args c = search needs
-
 xor-args-requires : tie.Need-xor-args-requires Inv-loop μ-loop
 xor-args-requires c κs =
     let start = c .before .before .before .before .before in
@@ -59,9 +38,6 @@ loop-holds c =
           .args .i) (start .args .x) q),
     )
 
-mul-arg-of : tie.Need-mul-arg-of Inv-loop μ-loop
-mul-arg-of c = search needs
-
 arg-of-requires : tie.Need-arg-of-requires Inv-loop μ-loop
 arg-of-requires c κs =
     let start = c .before .before .before .before .before .before .before .before in
@@ -74,20 +50,11 @@ scaled-requires c κs =
     let r = readable (start .pre .0 .runs) (start .args .i) (start .pre .1 .1 .0) in
     (c .arg-of .ensures .1, omega (arith, r .narrow, c .before .before .loop .inv .1))
 
-value-requires : tie.Need-value-requires Inv-loop μ-loop
-value-requires c κs = search needs
-
 add-requires : tie.Need-add-requires Inv-loop μ-loop
 add-requires c κs = (
   c .before .before .before .before .before .loop .inv .3 .prints,
   omega (arith, c .before .before .before .arg-of .ensures .1),
 )
-
-add-k : tie.Need-add-k Inv-loop μ-loop
-add-k c = search needs
-
-loop-less : tie.Need-loop-less Inv-loop μ-loop
-loop-less c = search needs
 
 loop-again : tie.Need-loop-again Inv-loop μ-loop
 loop-again c =
@@ -111,25 +78,7 @@ returns c =
 
 pub add-uses-spec : {M : Type 1} → statement M
 add-uses-spec =
-    tie.close
-    (tie.spec
-    Inv-loop
-    μ-loop
-    mul-arity-of
-    arity-of-requires
-    mul-label-of
-    label-of-requires
-    widened-requires
-    salt-requires
-    mul-xor-args
-    xor-args-requires
-    loop-holds
-    mul-arg-of
-    arg-of-requires
-    scaled-requires
-    value-requires
-    add-requires
-    add-k
-    loop-less
-    loop-again
-    returns)
+    tie.close (tie.spec Inv-loop μ-loop (λ c. search needs) (λ c κs. search needs) (λ c. search needs)
+    (λ c κs. search needs) (λ c κs. search needs) (λ c κs. search needs) (λ c. search needs) xor-args-requires
+    loop-holds (λ c. search needs) arg-of-requires scaled-requires (λ c κs. search needs) add-requires
+    (λ c. search needs) (λ c. search needs) loop-again returns)

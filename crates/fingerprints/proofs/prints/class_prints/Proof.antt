@@ -15,24 +15,6 @@ abbrev μ-loop : tie.MeasureT-loop
 loop-holds : tie.Need-loop-holds Inv-loop μ-loop
 loop-holds c = (omega arith, omega arith, class-start (c .before .args .classes .now))
 
-add-loop : tie.Need-add-loop Inv-loop μ-loop
-add-loop c = search needs
-
-class-print-requires : tie.Need-class-print-requires Inv-loop μ-loop
-class-print-requires c κs = search needs
-
-mul-prints : tie.Need-mul-prints Inv-loop μ-loop
-mul-prints c = search needs
-
-array-write-prints : tie.Need-array-write-prints Inv-loop μ-loop
-array-write-prints c = search needs
-
-add-q : tie.Need-add-q Inv-loop μ-loop
-add-q c = search needs
-
-loop-less : tie.Need-loop-less Inv-loop μ-loop
-loop-less c = search needs
-
 loop-again : tie.Need-loop-again Inv-loop μ-loop
 loop-again c =
     let at-loop = c .before .before in
@@ -51,16 +33,5 @@ returns c = class-end (c .before .loop .inv .2) (omega arith)
 
 pub class-prints-spec : {M : Type 1} → statement M
 class-prints-spec =
-    tie.close
-    (tie.spec
-    Inv-loop
-    μ-loop
-    loop-holds
-    add-loop
-    class-print-requires
-    mul-prints
-    array-write-prints
-    add-q
-    loop-less
-    loop-again
-    returns)
+    tie.close (tie.spec Inv-loop μ-loop loop-holds (λ c. search needs) (λ c κs. search needs)
+    (λ c. search needs) (λ c. search needs) (λ c. search needs) (λ c. search needs) loop-again returns)

@@ -4,12 +4,6 @@ use borrow.Author.Needs.{needs}
 use Rattle.fingerprints.proofs.prints.state_prints.Statement.{statement}
 use Rattle.fingerprints.proofs.prints.state_prints.Tie as tie
 
-class-prints-requires : tie.Need-class-prints-requires
-class-prints-requires c κs = search needs
-
-add-all-uses-requires : tie.Need-add-all-uses-requires
-add-all-uses-requires c κs = search needs
-
 returns : tie.Need-returns
 returns c =
     let at-class-prints = c .before .before in
@@ -18,4 +12,4 @@ returns c =
     (at-class-prints .class-prints .ensures) (c .add-all-uses .ensures)
 
 pub state-prints-spec : {M : Type 1} → statement M
-state-prints-spec = tie.close (tie.spec class-prints-requires add-all-uses-requires returns)
+state-prints-spec = tie.close (tie.spec (λ c κs. search needs) (λ c κs. search needs) returns)

@@ -6,12 +6,6 @@ use borrow.Author.Needs.{needs}
 use Rattle.fingerprints.proofs.values.scaled.Statement.{statement}
 use Rattle.fingerprints.proofs.values.scaled.Tie as tie
 
-mul-result : tie.Need-mul-result
-mul-result c = search needs
-
-sub-result : tie.Need-sub-result
-sub-result c = search needs
-
 mul-result-2 : tie.Need-mul-result-2
 mul-result-2 c =
     let h : c .args .q ≤ 255 = omega (arith, c .pre .0) in
@@ -19,8 +13,5 @@ mul-result-2 c =
     let p = mul-le-mul h l in
     omega arith
 
-returns : tie.Need-returns
-returns c = search needs
-
 pub scaled-spec : {M : Type 1} → statement M
-scaled-spec = tie.close (tie.spec mul-result sub-result mul-result-2 returns)
+scaled-spec = tie.close (tie.spec (λ c. search needs) (λ c. search needs) mul-result-2 (λ c. search needs))

@@ -15,9 +15,6 @@ mul-g c =
     let p = mul-le-mul h l in
     omega arith
 
-sub-result : tie.Need-sub-result
-sub-result c = search needs
-
 add-result : tie.Need-add-result
 add-result c =
     let h : c .args .y % 4294967296 ≤ 4294967295 = omega arith in
@@ -30,4 +27,4 @@ unfolding mixed
 returns c = refl
 
 pub value-spec : {M : Type 1} → statement M
-value-spec = tie.close (tie.spec mul-g sub-result add-result returns)
+value-spec = tie.close (tie.spec mul-g (λ c. search needs) add-result returns)

@@ -18,25 +18,10 @@ Inv-loop transitions at y arity all₀ k₀ all k =
 abbrev μ-loop : tie.MeasureT-loop
 μ-loop transitions at y arity all₀ k₀ all k = arity - k
 
-arity-of-requires : tie.Need-arity-of-requires Inv-loop μ-loop
-arity-of-requires c κs = search needs
-
 loop-holds : tie.Need-loop-holds Inv-loop μ-loop
 loop-holds c =
     let start = c .before .before in
     (omega arith, c .arity-of .ensures, xored-start (start .args .transitions .now) (start .args .at) (start .args .y))
-
-arg-of-requires : tie.Need-arg-of-requires Inv-loop μ-loop
-arg-of-requires c κs = search needs
-
-scaled-requires : tie.Need-scaled-requires Inv-loop μ-loop
-scaled-requires c κs = search needs
-
-add-k : tie.Need-add-k Inv-loop μ-loop
-add-k c = search needs
-
-loop-less : tie.Need-loop-less Inv-loop μ-loop
-loop-less c = search needs
 
 loop-again : tie.Need-loop-again Inv-loop μ-loop
 loop-again c =
@@ -60,15 +45,5 @@ returns c =
 
 pub xor-args-spec : {M : Type 1} → statement M
 xor-args-spec =
-    tie.close
-    (tie.spec
-    Inv-loop
-    μ-loop
-    arity-of-requires
-    loop-holds
-    arg-of-requires
-    scaled-requires
-    add-k
-    loop-less
-    loop-again
-    returns)
+    tie.close (tie.spec Inv-loop μ-loop (λ c κs. search needs) loop-holds (λ c κs. search needs)
+    (λ c κs. search needs) (λ c. search needs) (λ c. search needs) loop-again returns)

@@ -26,12 +26,6 @@ loop-holds c =
     names-start (c .before .args .numbers .now) (c .before .args .transitions .now) (c .before .args .a) (c .before
     .args .b) (c .before .args .n)
 
-arg-of-requires : tie.Need-arg-of-requires Inv-loop μ-loop
-arg-of-requires c κs = search needs
-
-arg-of-requires-2 : tie.Need-arg-of-requires-2 Inv-loop μ-loop
-arg-of-requires-2 c κs = search needs
-
 element-copy-out-x : tie.Need-element-copy-out-x Inv-loop μ-loop
 element-copy-out-x c =
     let start = c .before .before .before .before .before in
@@ -51,12 +45,6 @@ returns c =
     ap₂ ltb x y ∙ lex-decided (c .before .before .before .before .before .before .loop .inv) (omega arith) (λ e. c
     .if1 .taken (x ∙ e ∙ sym y))
 
-add-k : tie.Need-add-k Inv-loop μ-loop
-add-k c = search needs
-
-loop-less : tie.Need-loop-less Inv-loop μ-loop
-loop-less c = search needs
-
 loop-again : tie.Need-loop-again Inv-loop μ-loop
 loop-again c =
     let start = c .before .before .before .before .before .before .before .before in
@@ -70,17 +58,5 @@ returns-2 c = lex-end (c .before .loop .inv) (omega arith)
 
 pub args-precede-spec : {M : Type 1} → statement M
 args-precede-spec =
-    tie.close
-    (tie.spec
-    Inv-loop
-    μ-loop
-    loop-holds
-    arg-of-requires
-    arg-of-requires-2
-    element-copy-out-x
-    element-copy-out-y
-    returns
-    add-k
-    loop-less
-    loop-again
-    returns-2)
+    tie.close (tie.spec Inv-loop μ-loop loop-holds (λ c κs. search needs) (λ c κs. search needs)
+    element-copy-out-x element-copy-out-y returns (λ c. search needs) (λ c. search needs) loop-again returns-2)

@@ -20,15 +20,6 @@ abbrev μ-loop : tie.MeasureT-loop
 loop-holds : tie.Need-loop-holds Inv-loop μ-loop
 loop-holds c = (omega arith, omega arith, λ o of. best-start)
 
-add-i : tie.Need-add-i Inv-loop μ-loop
-add-i c = search needs
-
-improves-on-requires : tie.Need-improves-on-requires Inv-loop μ-loop
-improves-on-requires c κs = search needs
-
-loop-less : tie.Need-loop-less Inv-loop μ-loop
-loop-less c = search needs
-
 loop-again : tie.Need-loop-again Inv-loop μ-loop
 loop-again c =
     let at-loop = c .before .before .before in (
@@ -37,9 +28,6 @@ loop-again c =
       λ o of. best-keep (at-loop .loop .inv .2 o of) (omega arith)
           (sym (not-true _ (c .if1 .taken)) ∙ c .before .improves-on .ensures o of),
     )
-
-loop-less-2 : tie.Need-loop-less-2 Inv-loop μ-loop
-loop-less-2 c = search needs
 
 loop-again-2 : tie.Need-loop-again-2 Inv-loop μ-loop
 loop-again-2 c =
@@ -55,15 +43,5 @@ returns c = (c .before .loop .inv .0, λ o of. best-end (c .before .loop .inv .2
 
 pub first-ready-spec : {M : Type 1} → statement M
 first-ready-spec =
-    tie.close
-    (tie.spec
-    Inv-loop
-    μ-loop
-    loop-holds
-    add-i
-    improves-on-requires
-    loop-less
-    loop-again
-    loop-less-2
-    loop-again-2
-    returns)
+    tie.close (tie.spec Inv-loop μ-loop loop-holds (λ c. search needs) (λ c κs. search needs)
+    (λ c. search needs) loop-again (λ c. search needs) loop-again-2 returns)

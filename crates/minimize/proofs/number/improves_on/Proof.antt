@@ -10,9 +10,6 @@ use Rattle.minimize.proofs.Ready.{ready-by}
 use Rattle.minimize.proofs.number.improves_on.Statement.{statement}
 use Rattle.minimize.proofs.number.improves_on.Tie as tie
 
-mul-ready : tie.Need-mul-ready
-mul-ready c = search needs
-
 ready-requires : tie.Need-ready-requires
 ready-requires c κs = readable (c .before .pre .0) (c .before .args .i) (omega arith)
 
@@ -29,12 +26,6 @@ returns-2 c =
     λ o of. improves-first o (start .args .transitions .now) (start .args .count) (start .args .best) (start .args .i) (sym
     (ready-by of (nthTransition (start .args .transitions .now) (start .args .i))) ∙ sym (c .before .before .ready .ensures)
     ∙ not-false _ (c .before .if1 .left)) (omega arith)
-
-mul-precedes-by : tie.Need-mul-precedes-by
-mul-precedes-by c = search needs
-
-mul-precedes-by-2 : tie.Need-mul-precedes-by-2
-mul-precedes-by-2 c = search needs
 
 precedes-by-requires : tie.Need-precedes-by-requires
 precedes-by-requires c κs =
@@ -54,13 +45,5 @@ returns-3 c =
 
 pub improves-on-spec : {M : Type 1} → statement M
 improves-on-spec =
-    tie.close
-    (tie.spec
-    mul-ready
-    ready-requires
-    returns
-    returns-2
-    mul-precedes-by
-    mul-precedes-by-2
-    precedes-by-requires
-    returns-3)
+    tie.close (tie.spec (λ c. search needs) ready-requires returns returns-2 (λ c. search needs)
+    (λ c. search needs) precedes-by-requires returns-3)

@@ -14,9 +14,6 @@ Inv-loop run count order₀ numbers₀ k₀ best₀ order numbers k best =
 abbrev μ-loop : tie.MeasureT-loop
 μ-loop run count order₀ numbers₀ k₀ best₀ order numbers k best = 256 - k
 
-first-ready-requires : tie.Need-first-ready-requires Inv-loop μ-loop
-first-ready-requires c κs = search needs
-
 loop-holds : tie.Need-loop-holds Inv-loop μ-loop
 loop-holds c =
     let start = c .before .before .before in (
@@ -24,15 +21,6 @@ loop-holds c =
       ordering-start (start .args .transitions .now) (start .args .count) (start .pre .1 .1 .0) (start .pre .1 .1 .1
           .0) (start .pre .1 .1 .1 .1) _ (c .first-ready .ensures .1),
     )
-
-mul-out-of : tie.Need-mul-out-of Inv-loop μ-loop
-mul-out-of c = search needs
-
-out-of-requires : tie.Need-out-of-requires Inv-loop μ-loop
-out-of-requires c κs = search needs
-
-cast-order : tie.Need-cast-order Inv-loop μ-loop
-cast-order c = search needs
 
 element-write-order : tie.Need-element-write-order Inv-loop μ-loop
 element-write-order c =
@@ -53,9 +41,6 @@ cast-numbers c =
 element-write-numbers : tie.Need-element-write-numbers Inv-loop μ-loop
 element-write-numbers c = omega (arith, c .before .before .loop .inv .1 .room′)
 
-first-ready-requires-2 : tie.Need-first-ready-requires-2 Inv-loop μ-loop
-first-ready-requires-2 c κs = search needs
-
 loop-less : tie.Need-loop-less Inv-loop μ-loop
 loop-less c = omega (arith, c .before .before .before .before .loop .inv .1 .few)
 
@@ -74,20 +59,6 @@ returns c = ordering-end (c .before .loop .inv .1) (omega arith)
 
 pub number-spec : {M : Type 1} → statement M
 number-spec =
-    tie.close
-    (tie.spec
-    Inv-loop
-    μ-loop
-    first-ready-requires
-    loop-holds
-    mul-out-of
-    out-of-requires
-    cast-order
-    element-write-order
-    add-k
-    cast-numbers
-    element-write-numbers
-    first-ready-requires-2
-    loop-less
-    loop-again
-    returns)
+    tie.close (tie.spec Inv-loop μ-loop (λ c κs. search needs) loop-holds (λ c. search needs)
+    (λ c κs. search needs) (λ c. search needs) element-write-order add-k cast-numbers element-write-numbers
+    (λ c κs. search needs) loop-less loop-again returns)

@@ -4,18 +4,6 @@ use borrow.Author.Needs.{needs}
 use Rattle.minimize.proofs.number.precedes_by.Statement.{statement}
 use Rattle.minimize.proofs.number.precedes_by.Tie as tie
 
-arity-of-requires : tie.Need-arity-of-requires
-arity-of-requires c κs = search needs
-
-arity-of-requires-2 : tie.Need-arity-of-requires-2
-arity-of-requires-2 c κs = search needs
-
-label-of-requires : tie.Need-label-of-requires
-label-of-requires c κs = search needs
-
-label-of-requires-2 : tie.Need-label-of-requires-2
-label-of-requires-2 c κs = search needs
-
 returns : tie.Need-returns
 returns c =
     let start = c .before .before .before .before .before .before in
@@ -31,9 +19,6 @@ returns-2 c =
     .ensures) (c .before .if1 .left) (c .before .before .before .label-of .ensures .0) (c .before .before .label-of2
     .ensures .0) (c .if2 .taken)
 
-args-precede-requires : tie.Need-args-precede-requires
-args-precede-requires c κs = search needs
-
 returns-3 : tie.Need-returns-3
 returns-3 c =
     let start = c .before .before .before .before .before .before .before .before in
@@ -44,13 +29,5 @@ returns-3 c =
 
 pub precedes-by-spec : {M : Type 1} → statement M
 precedes-by-spec =
-    tie.close
-    (tie.spec
-    arity-of-requires
-    arity-of-requires-2
-    label-of-requires
-    label-of-requires-2
-    returns
-    returns-2
-    args-precede-requires
-    returns-3)
+    tie.close (tie.spec (λ c κs. search needs) (λ c κs. search needs) (λ c κs. search needs)
+    (λ c κs. search needs) returns returns-2 (λ c κs. search needs) returns-3)

@@ -9,21 +9,12 @@ use borrow.Author.Needs.{needs}
 use Rattle.minimize.proofs.number.ready.Statement.{statement}
 use Rattle.minimize.proofs.number.ready.Tie as tie
 
-out-of-requires : tie.Need-out-of-requires
-out-of-requires c κs = search needs
-
-element-copy-out-if1 : tie.Need-element-copy-out-if1
-element-copy-out-if1 c = omega arith
-
 returns : tie.Need-returns
 returns c =
     let start = c .before .before .before .before in
     numbered-unready (start .args .numbers .now) (transitionAt (start .args .transitions .now) (start .args .at)) (ap
     (marked (start .args .numbers .now)) (sym (c .before .before .out-of .ensures .0)) ∙ nonzero-true _ (c .if1
     .taken))
-
-args-marked-requires : tie.Need-args-marked-requires
-args-marked-requires c κs = search needs
 
 returns-2 : tie.Need-returns-2
 returns-2 c =
@@ -36,5 +27,4 @@ returns-2 c =
 
 pub ready-spec : {M : Type 1} → statement M
 ready-spec =
-    tie.close
-    (tie.spec out-of-requires element-copy-out-if1 returns args-marked-requires returns-2)
+    tie.close (tie.spec (λ c κs. search needs) (λ c. omega arith) returns (λ c κs. search needs) returns-2)

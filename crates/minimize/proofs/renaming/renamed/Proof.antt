@@ -17,24 +17,6 @@ Inv-loop transitions at names n out entry₀ k₀ entry k =
 abbrev μ-loop : tie.MeasureT-loop
 μ-loop transitions at names n out entry₀ k₀ entry k = n - k
 
-arity-of-requires : tie.Need-arity-of-requires Inv-loop μ-loop
-arity-of-requires c κs = search needs
-
-out-of-requires : tie.Need-out-of-requires Inv-loop μ-loop
-out-of-requires c κs = search needs
-
-blank-entry-requires : tie.Need-blank-entry-requires Inv-loop μ-loop
-blank-entry-requires c κs = search needs
-
-put-arity-requires : tie.Need-put-arity-requires Inv-loop μ-loop
-put-arity-requires c κs = search needs
-
-element-copy-out-put-out : tie.Need-element-copy-out-put-out Inv-loop μ-loop
-element-copy-out-put-out c = search needs
-
-put-out-requires : tie.Need-put-out-requires Inv-loop μ-loop
-put-out-requires c κs = search needs
-
 loop-holds : tie.Need-loop-holds Inv-loop μ-loop
 loop-holds c =
     let made-blank = c .before .before .before .before .before in
@@ -47,20 +29,8 @@ loop-holds c =
           (ap (nameIn (start .args .names .now)) (made-blank .before .out-of .ensures .0)),
     )
 
-arg-of-requires : tie.Need-arg-of-requires Inv-loop μ-loop
-arg-of-requires c κs = search needs
-
-element-copy-out-put-arg : tie.Need-element-copy-out-put-arg Inv-loop μ-loop
-element-copy-out-put-arg c = search needs
-
 put-arg-requires : tie.Need-put-arg-requires Inv-loop μ-loop
 put-arg-requires c κs = (c .before .before .before .before .loop .inv .1 .size, omega arith)
-
-add-k : tie.Need-add-k Inv-loop μ-loop
-add-k c = search needs
-
-loop-less : tie.Need-loop-less Inv-loop μ-loop
-loop-less c = search needs
 
 loop-again : tie.Need-loop-again Inv-loop μ-loop
 loop-again c =
@@ -71,9 +41,6 @@ loop-again c =
           (ap (nameIn (start .args .names .now)) (c .before .before .before .arg-of .ensures .0)) (c .put-arg
           .ensures),
     )
-
-label-of-requires : tie.Need-label-of-requires Inv-loop μ-loop
-label-of-requires c κs = search needs
 
 put-label-requires : tie.Need-put-label-requires Inv-loop μ-loop
 put-label-requires c κs = (c .before .before .before .loop .inv .1 .size, c .label-of .ensures .1)
@@ -87,23 +54,7 @@ returns c =
 
 pub renamed-spec : {M : Type 1} → statement M
 renamed-spec =
-    tie.close
-    (tie.spec
-    Inv-loop
-    μ-loop
-    arity-of-requires
-    out-of-requires
-    blank-entry-requires
-    put-arity-requires
-    element-copy-out-put-out
-    put-out-requires
-    loop-holds
-    arg-of-requires
-    element-copy-out-put-arg
-    put-arg-requires
-    add-k
-    loop-less
-    loop-again
-    label-of-requires
-    put-label-requires
-    returns)
+    tie.close (tie.spec Inv-loop μ-loop (λ c κs. search needs) (λ c κs. search needs) (λ c κs. search needs)
+    (λ c κs. search needs) (λ c. search needs) (λ c κs. search needs) loop-holds (λ c κs. search needs)
+    (λ c. search needs) put-arg-requires (λ c. search needs) (λ c. search needs) loop-again
+    (λ c κs. search needs) put-label-requires returns)

@@ -7,11 +7,8 @@ use Rattle.naming.proofs.classes.class_in.Tie as tie
 returns : tie.Need-returns
 returns c = rw (eq-eqb (c .before .args .q) 0 (c .if1 .taken))
 
-shared-slice-read-result : tie.Need-shared-slice-read-result
-shared-slice-read-result c = search needs
-
 returns-2 : tie.Need-returns-2
 returns-2 c = rw (ne-eqb (c .before .before .args .q) 0 (c .before .if1 .left))
 
 pub class-in-spec : {M : Type 1} → statement M
-class-in-spec = tie.close (tie.spec returns shared-slice-read-result returns-2)
+class-in-spec = tie.close (tie.spec returns (λ c. search needs) returns-2)

@@ -4,26 +4,11 @@ use Rattle.naming.proofs.Classing.{class-other, class-own}
 use Rattle.naming.proofs.classes.class_of.Statement.{statement}
 use Rattle.naming.proofs.classes.class_of.Tie as tie
 
-own-class-requires : tie.Need-own-class-requires
-own-class-requires c κs = search needs
-
 returns : tie.Need-returns
 returns c =
     let start = c .before .before .before in
     class-own (start .args .table .now) (start .args .states .now) (start .args .root) (start .args .inserting) (start
     .args .j) (c .before .if1 .taken) (c .own-class .ensures)
-
-sub-index : tie.Need-sub-index
-sub-index c = search needs
-
-element-copy-out-index : tie.Need-element-copy-out-index
-element-copy-out-index c = search needs
-
-index-requires : tie.Need-index-requires
-index-requires c κs = search needs
-
-class-in-requires : tie.Need-class-in-requires
-class-in-requires c κs = search needs
 
 returns-2 : tie.Need-returns-2
 returns-2 c =
@@ -33,12 +18,5 @@ returns-2 c =
 
 pub class-of-spec : {M : Type 1} → statement M
 class-of-spec =
-    tie.close
-    (tie.spec
-    own-class-requires
-    returns
-    sub-index
-    element-copy-out-index
-    index-requires
-    class-in-requires
-    returns-2)
+    tie.close (tie.spec (λ c κs. search needs) returns (λ c. search needs) (λ c. search needs)
+    (λ c κs. search needs) (λ c κs. search needs) returns-2)

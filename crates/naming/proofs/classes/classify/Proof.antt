@@ -17,22 +17,10 @@ abbrev μ-loop : tie.MeasureT-loop
 loop-holds : tie.Need-loop-holds Inv-loop μ-loop
 loop-holds c = (omega arith, classed-start (c .before .pre .1 .1))
 
-add-class-of : tie.Need-add-class-of Inv-loop μ-loop
-add-class-of c = search needs
-
-class-of-requires : tie.Need-class-of-requires Inv-loop μ-loop
-class-of-requires c κs = search needs
-
 element-write-classes : tie.Need-element-write-classes Inv-loop μ-loop
 element-write-classes c =
     let start = c .before .before .before .before in
     omega (arith, start .pre .1 .0, c .before .before .loop .inv .1 .size, c .before .loop-test .taken)
-
-add-j : tie.Need-add-j Inv-loop μ-loop
-add-j c = search needs
-
-loop-less : tie.Need-loop-less Inv-loop μ-loop
-loop-less c = omega arith
 
 loop-again : tie.Need-loop-again Inv-loop μ-loop
 loop-again c =
@@ -53,15 +41,5 @@ returns c =
 
 pub classify-spec : {M : Type 1} → statement M
 classify-spec =
-    tie.close
-    (tie.spec
-    Inv-loop
-    μ-loop
-    loop-holds
-    add-class-of
-    class-of-requires
-    element-write-classes
-    add-j
-    loop-less
-    loop-again
-    returns)
+    tie.close (tie.spec Inv-loop μ-loop loop-holds (λ c. search needs) (λ c κs. search needs)
+    element-write-classes (λ c. search needs) (λ c. omega arith) loop-again returns)

@@ -17,9 +17,6 @@ abbrev μ-loop : tie.MeasureT-loop
 μ-loop table transitions count n m labels arities children states weights classes lows lasts names
     froms tos j v₀ v = m + 1 - v
 
-add-v : tie.Need-add-v Inv-loop μ-loop
-add-v c = search needs
-
 loop-holds : tie.Need-loop-holds Inv-loop μ-loop
 loop-holds c =
     record { above = omega arith; within = omega arith; each = λ A t ts S N K X. no-subtree-first (omega arith) }
@@ -35,12 +32,6 @@ returns c = (
   λ A t ts S N K X. subtree-found (c .before .before .loop-test
       .taken) (c .before .fits-subtree .ensures A t ts S N K X .yes (c .if1 .taken)),
 )
-
-add-v-2 : tie.Need-add-v-2 Inv-loop μ-loop
-add-v-2 c = search needs
-
-loop-less : tie.Need-loop-less Inv-loop μ-loop
-loop-less c = omega arith
 
 loop-again : tie.Need-loop-again Inv-loop μ-loop
 loop-again c =
@@ -61,15 +52,5 @@ returns-2 c =
 
 pub find-subtree-spec : {M : Type 1} → statement M
 find-subtree-spec =
-    tie.close
-    (tie.spec
-    Inv-loop
-    μ-loop
-    add-v
-    loop-holds
-    fits-subtree-requires
-    returns
-    add-v-2
-    loop-less
-    loop-again
-    returns-2)
+    tie.close (tie.spec Inv-loop μ-loop (λ c. search needs) loop-holds fits-subtree-requires returns
+    (λ c. search needs) (λ c. omega arith) loop-again returns-2)

@@ -7,64 +7,10 @@ use borrow.Author.Needs.{needs}
 use Rattle.naming.proofs.models.fits_subtree.Statement.{statement}
 use Rattle.naming.proofs.models.fits_subtree.Tie as tie
 
-sub-wide : tie.Need-sub-wide
-sub-wide c = search needs
-
-element-copy-out-wide : tie.Need-element-copy-out-wide
-element-copy-out-wide c = search needs
-
-wide-requires : tie.Need-wide-requires
-wide-requires c κs = search needs
-
-add-if1 : tie.Need-add-if1
-add-if1 c = search needs
-
 returns : tie.Need-returns
 returns c =
     let p = c .before .before .before .before .before .pre .1 .1 .1 in
     λ A t ts S N K X. not-own X (p .0) (p .1) (λ e. (c .if1) .taken (c .before .wide .ensures ∙ e))
-
-cast-first : tie.Need-cast-first
-cast-first c = search needs
-
-cast-second : tie.Need-cast-second
-cast-second c = search needs
-
-sub-least : tie.Need-sub-least
-sub-least c = search needs
-
-element-copy-out-least : tie.Need-element-copy-out-least
-element-copy-out-least c = search needs
-
-sub-least-2 : tie.Need-sub-least-2
-sub-least-2 c = search needs
-
-element-copy-out-least-2 : tie.Need-element-copy-out-least-2
-element-copy-out-least-2 c = search needs
-
-least-requires : tie.Need-least-requires
-least-requires c κs = search needs
-
-wide-requires-2 : tie.Need-wide-requires-2
-wide-requires-2 c κs = search needs
-
-sub-greatest : tie.Need-sub-greatest
-sub-greatest c = search needs
-
-element-copy-out-greatest : tie.Need-element-copy-out-greatest
-element-copy-out-greatest c = search needs
-
-sub-greatest-2 : tie.Need-sub-greatest-2
-sub-greatest-2 c = search needs
-
-element-copy-out-greatest-2 : tie.Need-element-copy-out-greatest-2
-element-copy-out-greatest-2 c = search needs
-
-greatest-requires : tie.Need-greatest-requires
-greatest-requires c κs = search needs
-
-wide-requires-3 : tie.Need-wide-requires-3
-wide-requires-3 c κs = search needs
 
 like-subtree-requires : tie.Need-like-subtree-requires
 like-subtree-requires c κs =
@@ -99,26 +45,8 @@ returns-2 c =
 
 pub fits-subtree-spec : {M : Type 1} → statement M
 fits-subtree-spec =
-    tie.close
-    (tie.spec
-    sub-wide
-    element-copy-out-wide
-    wide-requires
-    add-if1
-    returns
-    cast-first
-    cast-second
-    sub-least
-    element-copy-out-least
-    sub-least-2
-    element-copy-out-least-2
-    least-requires
-    wide-requires-2
-    sub-greatest
-    element-copy-out-greatest
-    sub-greatest-2
-    element-copy-out-greatest-2
-    greatest-requires
-    wide-requires-3
-    like-subtree-requires
+    tie.close (tie.spec (λ c. search needs) (λ c. search needs) (λ c κs. search needs) (λ c. search needs)
+    returns (λ c. search needs) (λ c. search needs) (λ c. search needs) (λ c. search needs) (λ c. search needs)
+    (λ c. search needs) (λ c κs. search needs) (λ c κs. search needs) (λ c. search needs) (λ c. search needs)
+    (λ c. search needs) (λ c. search needs) (λ c κs. search needs) (λ c κs. search needs) like-subtree-requires
     returns-2)

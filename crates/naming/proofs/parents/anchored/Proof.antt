@@ -28,9 +28,6 @@ loop-holds c =
           (anchor-child (a .n) (a .arities .now) (a .children .now) (a .names .now) (a .shared .now) (a .j)),
     )
 
-add-i : tie.Need-add-i Inv-loop μ-loop
-add-i c = search needs
-
 anchors-child-requires : tie.Need-anchors-child-requires Inv-loop μ-loop
 anchors-child-requires c κs =
     let start = c .before .before in
@@ -41,9 +38,6 @@ returns c =
     any-found (c .before .before .before .loop .inv .1) (omega (arith, c .before .before .before .loop .inv .0))
     (sym (c .before .anchors-child .ensures) ∙ c
     .if1 .taken)
-
-loop-less : tie.Need-loop-less Inv-loop μ-loop
-loop-less c = omega arith
 
 loop-again : tie.Need-loop-again Inv-loop μ-loop
 loop-again c = (
@@ -58,14 +52,5 @@ returns-2 c = any-end (c .before .loop .inv .1) (omega (arith, c .before .loop .
 
 pub anchored-spec : {M : Type 1} → statement M
 anchored-spec =
-    tie.close
-    (tie.spec
-    Inv-loop
-    μ-loop
-    loop-holds
-    add-i
-    anchors-child-requires
-    returns
-    loop-less
-    loop-again
-    returns-2)
+    tie.close (tie.spec Inv-loop μ-loop loop-holds (λ c. search needs) anchors-child-requires returns
+    (λ c. omega arith) loop-again returns-2)

@@ -8,30 +8,12 @@ use Rattle.naming.specs.Parents.{anchors}
 use Rattle.naming.proofs.parents.anchors_child.Statement.{statement}
 use Rattle.naming.proofs.parents.anchors_child.Tie as tie
 
-sub-wide : tie.Need-sub-wide
-sub-wide c = search needs
-
-element-copy-out-wide : tie.Need-element-copy-out-wide
-element-copy-out-wide c = search needs
-
-wide-requires : tie.Need-wide-requires
-wide-requires c κs = search needs
-
-add-if1 : tie.Need-add-if1
-add-if1 c = search needs
-
 returns : tie.Need-returns
 unfolding anchors
 returns c =
     let start = c .before .before .before in
     rw (ne-eqb ((getD (start .args .names .now) (start .args .i - 1) 0)) (start .args .n + (start .args) .i) (λ e. (c
     .if1) .taken (c .before .wide .ensures ∙ e)))
-
-sub-if2 : tie.Need-sub-if2
-sub-if2 c = search needs
-
-element-copy-out-if2 : tie.Need-element-copy-out-if2
-element-copy-out-if2 c = search needs
 
 returns-2 : tie.Need-returns-2
 unfolding anchors
@@ -43,9 +25,6 @@ returns-2 c =
       ne-eqb ((getD (start .args .shared .now)
           (start .args .i - 1) 0)) 0 (c .if2 .taken),
     )
-
-is-child-requires : tie.Need-is-child-requires
-is-child-requires c κs = search needs
 
 returns-3 : tie.Need-returns-3
 unfolding anchors
@@ -60,15 +39,5 @@ returns-3 c =
 
 pub anchors-child-spec : {M : Type 1} → statement M
 anchors-child-spec =
-    tie.close
-    (tie.spec
-    sub-wide
-    element-copy-out-wide
-    wide-requires
-    add-if1
-    returns
-    sub-if2
-    element-copy-out-if2
-    returns-2
-    is-child-requires
-    returns-3)
+    tie.close (tie.spec (λ c. search needs) (λ c. search needs) (λ c κs. search needs) (λ c. search needs)
+    returns (λ c. search needs) (λ c. search needs) returns-2 (λ c κs. search needs) returns-3)

@@ -18,26 +18,11 @@ Inv-loop m arities children i j arity k₀ k =
 abbrev μ-loop : tie.MeasureT-loop
 μ-loop m arities children i j arity k₀ k = arity - k
 
-sub-wide : tie.Need-sub-wide Inv-loop μ-loop
-sub-wide c = search needs
-
-element-copy-out-wide : tie.Need-element-copy-out-wide Inv-loop μ-loop
-element-copy-out-wide c = search needs
-
-wide-requires : tie.Need-wide-requires Inv-loop μ-loop
-wide-requires c κs = search needs
-
 loop-holds : tie.Need-loop-holds Inv-loop μ-loop
 unfolding isChild
 loop-holds c =
     let start = c .before .before in
     (c .wide .ensures, any-start (getD (start .args .arities .now) (start .args .i - 1) 0) (omega arith))
-
-sub-wide-2 : tie.Need-sub-wide-2 Inv-loop μ-loop
-sub-wide-2 c = search needs
-
-mul-wide : tie.Need-mul-wide Inv-loop μ-loop
-mul-wide c = search needs
 
 add-wide : tie.Need-add-wide Inv-loop μ-loop
 add-wide c =
@@ -56,20 +41,11 @@ element-copy-out-wide-2 c =
     let start = c .before .before .before .before in
     omega (arith, start .pre .0 .few, start .pre .0 .narrow (start .args .i - 1) (omega arith))
 
-wide-requires-2 : tie.Need-wide-requires-2 Inv-loop μ-loop
-wide-requires-2 c κs = search needs
-
 returns : tie.Need-returns Inv-loop μ-loop
 returns c =
     let now = c .before .before .before .before .loop in
     any-found (now .inv .1) (omega (arith, now .inv .0, c .before .before .before .loop-test .taken)) (eq-eqb _ _ (sym
     (c .before .wide2 .ensures) ∙ c .if1 .taken))
-
-add-k : tie.Need-add-k Inv-loop μ-loop
-add-k c = search needs
-
-loop-less : tie.Need-loop-less Inv-loop μ-loop
-loop-less c = omega arith
 
 loop-again : tie.Need-loop-again Inv-loop μ-loop
 loop-again c =
@@ -86,21 +62,6 @@ returns-2 c =
 
 pub is-child-spec : {M : Type 1} → statement M
 is-child-spec =
-    tie.close
-    (tie.spec
-    Inv-loop
-    μ-loop
-    sub-wide
-    element-copy-out-wide
-    wide-requires
-    loop-holds
-    sub-wide-2
-    mul-wide
-    add-wide
-    element-copy-out-wide-2
-    wide-requires-2
-    returns
-    add-k
-    loop-less
-    loop-again
-    returns-2)
+    tie.close (tie.spec Inv-loop μ-loop (λ c. search needs) (λ c. search needs) (λ c κs. search needs)
+    loop-holds (λ c. search needs) (λ c. search needs) add-wide element-copy-out-wide-2 (λ c κs. search needs)
+    returns (λ c. search needs) (λ c. omega arith) loop-again returns-2)

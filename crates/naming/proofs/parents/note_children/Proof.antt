@@ -17,12 +17,6 @@ Inv-loop m arities children froms₀ tos₀ i arity k₀ froms tos k =
 abbrev μ-loop : tie.MeasureT-loop
 μ-loop m arities children froms₀ tos₀ i arity k₀ froms tos k = arity - k
 
-element-copy-out-wide : tie.Need-element-copy-out-wide Inv-loop μ-loop
-element-copy-out-wide c = search needs
-
-wide-requires : tie.Need-wide-requires Inv-loop μ-loop
-wide-requires c κs = search needs
-
 loop-holds : tie.Need-loop-holds Inv-loop μ-loop
 loop-holds c =
     let start = c .before .before in
@@ -38,9 +32,6 @@ loop-holds c =
       },
     )
 
-mul-wide : tie.Need-mul-wide Inv-loop μ-loop
-mul-wide c = search needs
-
 add-wide : tie.Need-add-wide Inv-loop μ-loop
 add-wide c =
     let start = c .before .before .before .before in
@@ -52,9 +43,6 @@ element-copy-out-wide-2 c =
     let start = c .before .before .before .before in
     let p = start .pre in
     omega (arith, p .0 .few, p .0 .narrow (start .args .i) (p .1 .0), c .loop-test .taken, c .before .loop .inv .0)
-
-wide-requires-2 : tie.Need-wide-requires-2 Inv-loop μ-loop
-wide-requires-2 c κs = search needs
 
 note-child-requires : tie.Need-note-child-requires Inv-loop μ-loop
 note-child-requires c κs =
@@ -75,12 +63,6 @@ note-child-requires c κs =
         ),
       ),
     )
-
-add-k : tie.Need-add-k Inv-loop μ-loop
-add-k c = search needs
-
-loop-less : tie.Need-loop-less Inv-loop μ-loop
-loop-less c = search needs
 
 loop-again : tie.Need-loop-again Inv-loop μ-loop
 loop-again c =
@@ -105,19 +87,6 @@ returns c =
 
 pub note-children-spec : {M : Type 1} → statement M
 note-children-spec =
-    tie.close
-    (tie.spec
-    Inv-loop
-    μ-loop
-    element-copy-out-wide
-    wide-requires
-    loop-holds
-    mul-wide
-    add-wide
-    element-copy-out-wide-2
-    wide-requires-2
-    note-child-requires
-    add-k
-    loop-less
-    loop-again
-    returns)
+    tie.close (tie.spec Inv-loop μ-loop (λ c. search needs) (λ c κs. search needs) loop-holds
+    (λ c. search needs) add-wide element-copy-out-wide-2 (λ c κs. search needs) note-child-requires
+    (λ c. search needs) (λ c. search needs) loop-again returns)

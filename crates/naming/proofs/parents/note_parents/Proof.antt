@@ -29,18 +29,6 @@ loop-holds c = (
   },
 )
 
-note-children-requires : tie.Need-note-children-requires Inv-loop μ-loop
-note-children-requires c κs = search needs
-
-add-i : tie.Need-add-i Inv-loop μ-loop
-add-i c = search needs
-
-loop-less : tie.Need-loop-less Inv-loop μ-loop
-loop-less c = search needs
-
-loop-again : tie.Need-loop-again Inv-loop μ-loop
-loop-again c = search needs
-
 returns : tie.Need-returns Inv-loop μ-loop
 returns c =
     let now = c .before .loop in
@@ -48,5 +36,5 @@ returns c =
 
 pub note-parents-spec : {M : Type 1} → statement M
 note-parents-spec =
-    tie.close
-    (tie.spec Inv-loop μ-loop loop-holds note-children-requires add-i loop-less loop-again returns)
+    tie.close (tie.spec Inv-loop μ-loop loop-holds (λ c κs. search needs) (λ c. search needs)
+    (λ c. search needs) (λ c. search needs) returns)

@@ -28,9 +28,6 @@ loop-holds c =
           (raiser-child (a .n) (a .arities .now) (a .children .now) (a .names .now) (a .j)),
     )
 
-add-i : tie.Need-add-i Inv-loop μ-loop
-add-i c = search needs
-
 raises-child-requires : tie.Need-raises-child-requires Inv-loop μ-loop
 raises-child-requires c κs = (c .before .before .pre .0, (omega arith, omega (arith, c .before .before .pre .1 .known)))
 
@@ -39,9 +36,6 @@ returns c =
     any-found (c .before .before .before .loop .inv .1) (omega (arith, c .before .before .before .loop .inv .0))
     (sym (c .before .raises-child .ensures) ∙ c .if1
     .taken)
-
-loop-less : tie.Need-loop-less Inv-loop μ-loop
-loop-less c = omega arith
 
 loop-again : tie.Need-loop-again Inv-loop μ-loop
 loop-again c = (
@@ -56,14 +50,5 @@ returns-2 c = any-end (c .before .loop .inv .1) (omega (arith, c .before .loop .
 
 pub raised-spec : {M : Type 1} → statement M
 raised-spec =
-    tie.close
-    (tie.spec
-    Inv-loop
-    μ-loop
-    loop-holds
-    add-i
-    raises-child-requires
-    returns
-    loop-less
-    loop-again
-    returns-2)
+    tie.close (tie.spec Inv-loop μ-loop loop-holds (λ c. search needs) raises-child-requires returns
+    (λ c. omega arith) loop-again returns-2)

@@ -8,15 +8,6 @@ use Rattle.naming.specs.Parents.{raises}
 use Rattle.naming.proofs.parents.raises_child.Statement.{statement}
 use Rattle.naming.proofs.parents.raises_child.Tie as tie
 
-sub-wide : tie.Need-sub-wide
-sub-wide c = search needs
-
-element-copy-out-wide : tie.Need-element-copy-out-wide
-element-copy-out-wide c = search needs
-
-wide-requires : tie.Need-wide-requires
-wide-requires c κs = search needs
-
 returns : tie.Need-returns
 unfolding raises
 returns c =
@@ -27,9 +18,6 @@ returns c =
           .wide .ensures,
       c .if1 .taken,
     )))
-
-is-child-requires : tie.Need-is-child-requires
-is-child-requires c κs = search needs
 
 returns-2 : tie.Need-returns-2
 unfolding raises
@@ -44,5 +32,5 @@ returns-2 c =
 
 pub raises-child-spec : {M : Type 1} → statement M
 raises-child-spec =
-    tie.close
-    (tie.spec sub-wide element-copy-out-wide wide-requires returns is-child-requires returns-2)
+    tie.close (tie.spec (λ c. search needs) (λ c. search needs) (λ c κs. search needs) returns
+    (λ c κs. search needs) returns-2)

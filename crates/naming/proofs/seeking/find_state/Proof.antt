@@ -15,9 +15,6 @@ use Rattle.naming.proofs.seeking.find_state.Tie as tie
 raised-requires : tie.Need-raised-requires
 raised-requires c κs = (c .before .before .pre .0 .shaped, c .before .before .pre .1 .1 .1)
 
-add-result : tie.Need-add-result
-add-result c = search needs
-
 returns : tie.Need-returns
 returns c =
     λ A t ts S N K O X. state-none (record {
@@ -27,15 +24,6 @@ returns c =
 
 fits-own-state-requires : tie.Need-fits-own-state-requires
 fits-own-state-requires c κs = c .before .before .before .before .pre
-
-sub-wide : tie.Need-sub-wide
-sub-wide c = search needs
-
-element-copy-out-wide : tie.Need-element-copy-out-wide
-element-copy-out-wide c = search needs
-
-wide-requires : tie.Need-wide-requires
-wide-requires c κs = search needs
 
 returns-2 : tie.Need-returns-2
 returns-2 c =
@@ -61,22 +49,8 @@ returns-3 c =
 other-state-requires : tie.Need-other-state-requires
 other-state-requires c κs = c .before .before .before .before .before .before .before .before .pre
 
-returns-4 : tie.Need-returns-4
-returns-4 c = search needs
-
 pub find-state-spec : {M : Type 1} → statement M
 find-state-spec =
-    tie.close
-    (tie.spec
-    raised-requires
-    add-result
-    returns
-    fits-own-state-requires
-    sub-wide
-    element-copy-out-wide
-    wide-requires
-    returns-2
-    fits-state-requires
-    returns-3
-    other-state-requires
-    returns-4)
+    tie.close (tie.spec raised-requires (λ c. search needs) returns fits-own-state-requires (λ c. search needs)
+    (λ c. search needs) (λ c κs. search needs) returns-2 fits-state-requires returns-3 other-state-requires
+    (λ c. search needs))

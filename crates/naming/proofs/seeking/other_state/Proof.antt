@@ -22,10 +22,7 @@ returns c =
 first-state-requires : tie.Need-first-state-requires
 first-state-requires c κs = c .before .before .before .before .before .pre
 
-returns-2 : tie.Need-returns-2
-returns-2 c = search needs
-
 pub other-state-spec : {M : Type 1} → statement M
 other-state-spec =
-    tie.close
-    (tie.spec slot-of-requires state-in-slot-requires returns first-state-requires returns-2)
+    tie.close (tie.spec slot-of-requires state-in-slot-requires returns first-state-requires
+    (λ c. search needs))

@@ -17,9 +17,6 @@ returns c =
     let slot = c .before .before .frame-slot-of .ensures in
     (slot .place, λ A t ts S N holds X some. frame-slotted holds (p .0) X slot some)
 
-cast-use-slot : tie.Need-cast-use-slot
-cast-use-slot c = search needs
-
 use-slot-requires : tie.Need-use-slot-requires
 use-slot-requires c κs =
     let p = c .before .before .before .before .pre in
@@ -32,4 +29,4 @@ returns-2 c =
 
 pub slot-of-spec : {M : Type 1} → statement M
 slot-of-spec =
-    tie.close (tie.spec frame-slot-of-requires returns cast-use-slot use-slot-requires returns-2)
+    tie.close (tie.spec frame-slot-of-requires returns (λ c. search needs) use-slot-requires returns-2)

@@ -112,19 +112,6 @@ returns-2 c =
 
 pub state-in-slot-spec : {M : Type 1} → statement M
 state-in-slot-spec =
-    tie.close
-    (tie.spec
-    Inv-loop
-    μ-loop
-    first-in-slot-requires
-    loop-holds
-    mul-arg-of
-    arg-of-requires
-    fits-state-requires
-    returns
-    add-next-in-slot
-    next-in-slot-requires
-    loop-less
-    loop-again
-    add-result
+    tie.close (tie.spec Inv-loop μ-loop first-in-slot-requires loop-holds mul-arg-of arg-of-requires
+    fits-state-requires returns add-next-in-slot next-in-slot-requires loop-less loop-again add-result
     returns-2)

@@ -31,12 +31,6 @@ returns c =
     λ A t ts S N K O X. state-found (c .before .before .loop-test .taken) (c .before .fits-state .ensures A t ts S N K
     O X .yes (c .if1 .taken))
 
-add-q : tie.Need-add-q Inv-loop μ-loop
-add-q c = search needs
-
-loop-less : tie.Need-loop-less Inv-loop μ-loop
-loop-less c = omega arith
-
 loop-again : tie.Need-loop-again Inv-loop μ-loop
 loop-again c =
     let start = c .before .before .before .before .before .before in
@@ -53,14 +47,5 @@ returns-2 c = λ A t ts S N K O X. state-none (c .before .loop .inv .each A t ts
 
 pub first-state-spec : {M : Type 1} → statement M
 first-state-spec =
-    tie.close
-    (tie.spec
-    Inv-loop
-    μ-loop
-    loop-holds
-    fits-state-requires
-    returns
-    add-q
-    loop-less
-    loop-again
-    returns-2)
+    tie.close (tie.spec Inv-loop μ-loop loop-holds fits-state-requires returns (λ c. search needs)
+    (λ c. omega arith) loop-again returns-2)

@@ -7,15 +7,6 @@ use Rattle.naming.specs.Choice.{StateChosen}
 use Rattle.naming.proofs.states.fits_own_state.Statement.{statement}
 use Rattle.naming.proofs.states.fits_own_state.Tie as tie
 
-sub-wide : tie.Need-sub-wide
-sub-wide c = search needs
-
-element-copy-out-wide : tie.Need-element-copy-out-wide
-element-copy-out-wide c = search needs
-
-wide-requires : tie.Need-wide-requires
-wide-requires c κs = search needs
-
 returns : tie.Need-returns
 returns c = λ A t ts S N K O X. record { yes = λ d. absurd (true≢false (sym d)) }
 
@@ -34,5 +25,5 @@ returns-2 c =
 
 pub fits-own-state-spec : {M : Type 1} → statement M
 fits-own-state-spec =
-    tie.close
-    (tie.spec sub-wide element-copy-out-wide wide-requires returns fits-state-requires returns-2)
+    tie.close (tie.spec (λ c. search needs) (λ c. search needs) (λ c κs. search needs) returns
+    fits-state-requires returns-2)

@@ -24,12 +24,6 @@ class-in-requires c κs =
     let start = c .before .before .before .before in
     (start .pre .0 .table, omega (arith, start .pre .0 .states, start .pre .1 .1 .1 .1))
 
-cast-number : tie.Need-cast-number
-cast-number c = search needs
-
-cast-state : tie.Need-cast-state
-cast-state c = search needs
-
 like-state-requires : tie.Need-like-state-requires
 like-state-requires c κs =
     let start = c .before .before .before .before .before in (
@@ -53,12 +47,5 @@ returns-2 c =
 
 pub fits-state-spec : {M : Type 1} → statement M
 fits-state-spec =
-    tie.close
-    (tie.spec
-    is-free-requires
-    returns
-    class-in-requires
-    cast-number
-    cast-state
-    like-state-requires
-    returns-2)
+    tie.close (tie.spec is-free-requires returns class-in-requires (λ c. search needs) (λ c. search needs)
+    like-state-requires returns-2)

@@ -9,9 +9,6 @@ use Rattle.naming.proofs.states.is_free.Tie as tie
 returns : tie.Need-returns
 returns c = rw (eq-eqb (c .before .args .q) 0 (c .if1 .taken))
 
-element-copy-out-result : tie.Need-element-copy-out-result
-element-copy-out-result c = search needs
-
 returns-2 : tie.Need-returns-2
 returns-2 c =
     let start = c .before .before in
@@ -19,4 +16,4 @@ returns-2 c =
     0))
 
 pub is-free-spec : {M : Type 1} → statement M
-is-free-spec = tie.close (tie.spec returns element-copy-out-result returns-2)
+is-free-spec = tie.close (tie.spec returns (λ c. search needs) returns-2)

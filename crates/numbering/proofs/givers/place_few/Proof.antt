@@ -17,27 +17,6 @@ abbrev μ-loop : tie.MeasureT-loop
     bests fresh news given new q =
     n + 1 - q
 
-end-of-requires : tie.Need-end-of-requires Inv-loop μ-loop
-end-of-requires c κs = search needs
-
-loop-holds : tie.Need-loop-holds Inv-loop μ-loop
-loop-holds c = search needs
-
-mul-widened : tie.Need-mul-widened Inv-loop μ-loop
-mul-widened c = search needs
-
-element-copy-out-widened : tie.Need-element-copy-out-widened Inv-loop μ-loop
-element-copy-out-widened c = search needs
-
-widened-requires : tie.Need-widened-requires Inv-loop μ-loop
-widened-requires c κs = search needs
-
-start-of-requires : tie.Need-start-of-requires Inv-loop μ-loop
-start-of-requires c κs = search needs
-
-end-of-requires-2 : tie.Need-end-of-requires-2 Inv-loop μ-loop
-end-of-requires-2 c κs = search needs
-
 place-given-requires : tie.Need-place-given-requires Inv-loop μ-loop
 place-given-requires c κs =
     let at-end-of2 = c .before .before .before .before .before .before in
@@ -65,38 +44,9 @@ add-q c =
     let start = at-loop-test .before .before .before .before .before .before .before in
     omega (arith, at-loop-test .loop-test .taken, start .pre .1 .1 .1)
 
-loop-less : tie.Need-loop-less Inv-loop μ-loop
-loop-less c = search needs
-
-loop-again : tie.Need-loop-again Inv-loop μ-loop
-loop-again c = search needs
-
-place-others-requires : tie.Need-place-others-requires Inv-loop μ-loop
-place-others-requires c κs = search needs
-
-same-length : tie.Need-same-length Inv-loop μ-loop
-same-length c = search needs
-
-returns : tie.Need-returns Inv-loop μ-loop
-returns c = search needs
-
 pub place-few-spec : {M : Type 1} → statement M
 place-few-spec =
-    tie.close
-    (tie.spec
-    Inv-loop
-    μ-loop
-    end-of-requires
-    loop-holds
-    mul-widened
-    element-copy-out-widened
-    widened-requires
-    start-of-requires
-    end-of-requires-2
-    place-given-requires
-    add-q
-    loop-less
-    loop-again
-    place-others-requires
-    same-length
-    returns)
+    tie.close (tie.spec Inv-loop μ-loop (λ c κs. search needs) (λ c. search needs) (λ c. search needs)
+    (λ c. search needs) (λ c κs. search needs) (λ c κs. search needs) (λ c κs. search needs)
+    place-given-requires add-q (λ c. search needs) (λ c. search needs) (λ c κs. search needs)
+    (λ c. search needs) (λ c. search needs))

@@ -36,21 +36,6 @@ loop-holds c = (
   λ q a b. absurd (omega arith),
 )
 
-mul-out-of : tie.Need-mul-out-of Inv-loop μ-loop
-mul-out-of c = search needs
-
-shared-slice-read-out-of : tie.Need-shared-slice-read-out-of Inv-loop μ-loop
-shared-slice-read-out-of c = search needs
-
-out-of-requires : tie.Need-out-of-requires Inv-loop μ-loop
-out-of-requires c κs = search needs
-
-add-i : tie.Need-add-i Inv-loop μ-loop
-add-i c = search needs
-
-loop-less : tie.Need-loop-less Inv-loop μ-loop
-loop-less c = search needs
-
 loop-again : tie.Need-loop-again Inv-loop μ-loop
 loop-again c =
     let at-loop = c .before .before .before .before in
@@ -86,12 +71,6 @@ seen-up-to-requires c κs =
       ),
     )
 
-add-i-2 : tie.Need-add-i-2 Inv-loop μ-loop
-add-i-2 c = search needs
-
-loop-less-2 : tie.Need-loop-less-2 Inv-loop μ-loop
-loop-less-2 c = search needs
-
 loop-again-2 : tie.Need-loop-again-2 Inv-loop μ-loop
 loop-again-2 c =
     let at-read = c .before .before .before in (
@@ -118,21 +97,6 @@ returns-2 c =
 
 pub ruled-spec : {M : Type 1} → statement M
 ruled-spec =
-    tie.close
-    (tie.spec
-    Inv-loop
-    μ-loop
-    loop-holds
-    mul-out-of
-    shared-slice-read-out-of
-    out-of-requires
-    add-i
-    loop-less
-    loop-again
-    read-requires
-    returns
-    seen-up-to-requires
-    add-i-2
-    loop-less-2
-    loop-again-2
-    returns-2)
+    tie.close (tie.spec Inv-loop μ-loop loop-holds (λ c. search needs) (λ c. search needs)
+    (λ c κs. search needs) (λ c. search needs) (λ c. search needs) loop-again read-requires returns
+    seen-up-to-requires (λ c. search needs) (λ c. search needs) loop-again-2 returns-2)

@@ -5,14 +5,8 @@ use borrow.Author.Needs.{needs}
 use Rattle.numbering.proofs.looking.sound.Statement.{statement}
 use Rattle.numbering.proofs.looking.sound.Tie as tie
 
-rises-requires : tie.Need-rises-requires
-rises-requires c κs = search needs
-
 returns : tie.Need-returns
 returns c = λ e. absurd (false≢true e)
-
-ruled-requires : tie.Need-ruled-requires
-ruled-requires c κs = search needs
 
 returns-2 : tie.Need-returns-2
 returns-2 c =
@@ -23,4 +17,4 @@ returns-2 c =
     }
 
 pub sound-spec : {M : Type 1} → statement M
-sound-spec = tie.close (tie.spec rises-requires returns ruled-requires returns-2)
+sound-spec = tie.close (tie.spec (λ c κs. search needs) returns (λ c κs. search needs) returns-2)

@@ -32,24 +32,6 @@ loop-holds c =
       start .pre .1 .1 .1 .1 .1 .0,
     )
 
-same-length : tie.Need-same-length Inv-loop μ-loop
-same-length c = search needs
-
-same-length-2 : tie.Need-same-length-2 Inv-loop μ-loop
-same-length-2 c = search needs
-
-same-length-3 : tie.Need-same-length-3 Inv-loop μ-loop
-same-length-3 c = search needs
-
-returns : tie.Need-returns Inv-loop μ-loop
-returns c = search needs
-
-only-new-requires : tie.Need-only-new-requires Inv-loop μ-loop
-only-new-requires c κs = search needs
-
-others-requires : tie.Need-others-requires Inv-loop μ-loop
-others-requires c κs = search needs
-
 push-new-requires : tie.Need-push-new-requires Inv-loop μ-loop
 push-new-requires c κs =
     let at-others = c .before .before .before .before .before .before in
@@ -71,12 +53,6 @@ next-name-requires c κs =
     let at-only-new = at-push-new .before .before .before .before .before .before .before .before in
     (at-only-new .only-new .ensures, (at-push-new .push-new .ensures .0, at-push-new .push-new .ensures .1))
 
-same-length-4 : tie.Need-same-length-4 Inv-loop μ-loop
-same-length-4 c = search needs
-
-same-length-5 : tie.Need-same-length-5 Inv-loop μ-loop
-same-length-5 c = search needs
-
 same-length-6 : tie.Need-same-length-6 Inv-loop μ-loop
 same-length-6 c =
     let at-next-name = c .before .before .before .before .before in
@@ -93,24 +69,12 @@ same-length-6 c =
       start .pre .1 .1 .1 .1 .1 .0,
     )
 
-returns-2 : tie.Need-returns-2 Inv-loop μ-loop
-returns-2 c = search needs
-
-less-requires : tie.Need-less-requires Inv-loop μ-loop
-less-requires c κs = search needs
-
 add-turns : tie.Need-add-turns Inv-loop μ-loop
 add-turns c =
     let at-loop-test = c .before .before .before .before .before .before .before .before .before .before .before
     .before .before .before .before .before .before .before .before .before .before .before .before .before .before in
     let start = at-loop-test .before .before .before .before .before .before .before in
     omega (arith, at-loop-test .loop-test .taken, start .fits .count)
-
-element-copy-out-if3 : tie.Need-element-copy-out-if3 Inv-loop μ-loop
-element-copy-out-if3 c = search needs
-
-loop-less : tie.Need-loop-less Inv-loop μ-loop
-loop-less c = search needs
 
 loop-again : tie.Need-loop-again Inv-loop μ-loop
 loop-again c =
@@ -139,9 +103,6 @@ loop-again c =
       at-next-name .next-name .ensures .1,
     )
 
-cast-order : tie.Need-cast-order Inv-loop μ-loop
-cast-order c = search needs
-
 element-write-order : tie.Need-element-write-order Inv-loop μ-loop
 element-write-order c =
     let at-loop = c .before .before .before .before .before .before .before .before .before .before .before .before
@@ -165,9 +126,6 @@ cast-numbers c =
     .before .before in
     let start = at-loop .before .before .before .before .before .before in
     omega (arith, at-loop .loop .inv .2, start .pre .0)
-
-element-write-numbers : tie.Need-element-write-numbers Inv-loop μ-loop
-element-write-numbers c = search needs
 
 place-list-requires : tie.Need-place-list-requires Inv-loop μ-loop
 place-list-requires c κs =
@@ -232,51 +190,11 @@ loop-again-2 c =
       at-next-name .next-name .ensures .1,
     )
 
-same-length-7 : tie.Need-same-length-7 Inv-loop μ-loop
-same-length-7 c = search needs
-
-same-length-8 : tie.Need-same-length-8 Inv-loop μ-loop
-same-length-8 c = search needs
-
-same-length-9 : tie.Need-same-length-9 Inv-loop μ-loop
-same-length-9 c = search needs
-
-returns-3 : tie.Need-returns-3 Inv-loop μ-loop
-returns-3 c = search needs
-
 pub follow-spec : {M : Type 1} → statement M
 follow-spec =
-    tie.close
-    (tie.spec
-    Inv-loop
-    μ-loop
-    loop-holds
-    same-length
-    same-length-2
-    same-length-3
-    returns
-    only-new-requires
-    others-requires
-    push-new-requires
-    next-name-requires
-    same-length-4
-    same-length-5
-    same-length-6
-    returns-2
-    less-requires
-    add-turns
-    element-copy-out-if3
-    loop-less
-    loop-again
-    cast-order
-    element-write-order
-    add-states
-    cast-numbers
-    element-write-numbers
-    place-list-requires
-    loop-less-2
-    loop-again-2
-    same-length-7
-    same-length-8
-    same-length-9
-    returns-3)
+    tie.close (tie.spec Inv-loop μ-loop loop-holds (λ c. search needs) (λ c. search needs) (λ c. search needs)
+    (λ c. search needs) (λ c κs. search needs) (λ c κs. search needs) push-new-requires next-name-requires
+    (λ c. search needs) (λ c. search needs) same-length-6 (λ c. search needs) (λ c κs. search needs) add-turns
+    (λ c. search needs) (λ c. search needs) loop-again (λ c. search needs) element-write-order add-states
+    cast-numbers (λ c. search needs) place-list-requires loop-less-2 loop-again-2 (λ c. search needs)
+    (λ c. search needs) (λ c. search needs) (λ c. search needs))

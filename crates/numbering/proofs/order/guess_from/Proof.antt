@@ -4,15 +4,6 @@ use borrow.Author.Needs.{needs}
 use Rattle.numbering.proofs.order.guess_from.Statement.{statement}
 use Rattle.numbering.proofs.order.guess_from.Tie as tie
 
-end-of-requires : tie.Need-end-of-requires
-end-of-requires c κs = search needs
-
-number-leaves-requires : tie.Need-number-leaves-requires
-number-leaves-requires c κs = search needs
-
-place-first-requires : tie.Need-place-first-requires
-place-first-requires c κs = search needs
-
 follow-requires : tie.Need-follow-requires
 follow-requires c κs =
     let at-place-first = c .before .before .before .before .before .before .before .before .before .before .before in
@@ -38,27 +29,7 @@ follow-requires c κs =
       ),
     )
 
-same-length : tie.Need-same-length
-same-length c = search needs
-
-same-length-2 : tie.Need-same-length-2
-same-length-2 c = search needs
-
-same-length-3 : tie.Need-same-length-3
-same-length-3 c = search needs
-
-returns : tie.Need-returns
-returns c = search needs
-
 pub guess-from-spec : {M : Type 1} → statement M
 guess-from-spec =
-    tie.close
-    (tie.spec
-    end-of-requires
-    number-leaves-requires
-    place-first-requires
-    follow-requires
-    same-length
-    same-length-2
-    same-length-3
-    returns)
+    tie.close (tie.spec (λ c κs. search needs) (λ c κs. search needs) (λ c κs. search needs) follow-requires
+    (λ c. search needs) (λ c. search needs) (λ c. search needs) (λ c. search needs))

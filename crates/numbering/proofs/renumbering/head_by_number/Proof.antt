@@ -7,21 +7,6 @@ use borrow.Author.Needs.{needs}
 use Rattle.numbering.proofs.renumbering.head_by_number.Statement.{statement}
 use Rattle.numbering.proofs.renumbering.head_by_number.Tie as tie
 
-out-of-requires : tie.Need-out-of-requires
-out-of-requires c κs = search needs
-
-name-at-requires : tie.Need-name-at-requires
-name-at-requires c κs = search needs
-
-wide-requires : tie.Need-wide-requires
-wide-requires c κs = search needs
-
-mul-result : tie.Need-mul-result
-mul-result c = search needs
-
-add-result : tie.Need-add-result
-add-result c = search needs
-
 returns : tie.Need-returns
 returns c =
     ap (λ n. byteValues * (c .before .before .before .args .head / byteValues) + n) (c .wide .ensures ∙ c .before
@@ -30,5 +15,5 @@ returns c =
 
 pub head-by-number-spec : {M : Type 1} → statement M
 head-by-number-spec =
-    tie.close
-    (tie.spec out-of-requires name-at-requires wide-requires mul-result add-result returns)
+    tie.close (tie.spec (λ c κs. search needs) (λ c κs. search needs) (λ c κs. search needs) (λ c. search needs)
+    (λ c. search needs) returns)

@@ -18,12 +18,6 @@ abbrev μ-loop : tie.MeasureT-loop
 loop-holds : tie.Need-loop-holds Inv-loop μ-loop
 loop-holds c = (omega arith, numbered-start (c .args .order .now) (c .pre .1 .1))
 
-name-at-requires : tie.Need-name-at-requires Inv-loop μ-loop
-name-at-requires c κs = search needs
-
-wide-requires : tie.Need-wide-requires Inv-loop μ-loop
-wide-requires c κs = search needs
-
 returns : tie.Need-returns Inv-loop μ-loop
 returns c = λ e. absurd (false≢true e)
 
@@ -33,18 +27,9 @@ element-copy-out-if2 c = omega (arith, c .before .before .name-at .ok, c .before
 returns-2 : tie.Need-returns-2 Inv-loop μ-loop
 returns-2 c = λ e. absurd (false≢true e)
 
-add-k : tie.Need-add-k Inv-loop μ-loop
-add-k c = search needs
-
-cast-numbers : tie.Need-cast-numbers Inv-loop μ-loop
-cast-numbers c = search needs
-
 element-write-numbers : tie.Need-element-write-numbers Inv-loop μ-loop
 element-write-numbers c =
     omega (arith, c .before .before .before .before .name-at .ok, c .before .before .before .wide .ensures)
-
-loop-less : tie.Need-loop-less Inv-loop μ-loop
-loop-less c = search needs
 
 loop-again : tie.Need-loop-again Inv-loop μ-loop
 loop-again c = (
@@ -66,19 +51,6 @@ returns-3 c =
 
 pub number-names-spec : {M : Type 1} → statement M
 number-names-spec =
-    tie.close
-    (tie.spec
-    Inv-loop
-    μ-loop
-    loop-holds
-    name-at-requires
-    wide-requires
-    returns
-    element-copy-out-if2
-    returns-2
-    add-k
-    cast-numbers
-    element-write-numbers
-    loop-less
-    loop-again
-    returns-3)
+    tie.close (tie.spec Inv-loop μ-loop loop-holds (λ c κs. search needs) (λ c κs. search needs) returns
+    element-copy-out-if2 returns-2 (λ c. search needs) (λ c. search needs) element-write-numbers
+    (λ c. search needs) loop-again returns-3)

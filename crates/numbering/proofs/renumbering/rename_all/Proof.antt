@@ -7,51 +7,6 @@ use borrow.Author.Needs.{needs}
 use Rattle.numbering.proofs.renumbering.rename_all.Statement.{statement}
 use Rattle.numbering.proofs.renumbering.rename_all.Tie as tie
 
-with-number-requires : tie.Need-with-number-requires
-with-number-requires c κs = search needs
-
-with-number-requires-2 : tie.Need-with-number-requires-2
-with-number-requires-2 c κs = search needs
-
-with-number-requires-3 : tie.Need-with-number-requires-3
-with-number-requires-3 c κs = search needs
-
-with-number-requires-4 : tie.Need-with-number-requires-4
-with-number-requires-4 c κs = search needs
-
-with-number-requires-5 : tie.Need-with-number-requires-5
-with-number-requires-5 c κs = search needs
-
-with-number-requires-6 : tie.Need-with-number-requires-6
-with-number-requires-6 c κs = search needs
-
-with-number-requires-7 : tie.Need-with-number-requires-7
-with-number-requires-7 c κs = search needs
-
-with-number-requires-8 : tie.Need-with-number-requires-8
-with-number-requires-8 c κs = search needs
-
-mul-first : tie.Need-mul-first
-mul-first c = search needs
-
-mul-first-2 : tie.Need-mul-first-2
-mul-first-2 c = search needs
-
-mul-first-3 : tie.Need-mul-first-3
-mul-first-3 c = search needs
-
-mul-last : tie.Need-mul-last
-mul-last c = search needs
-
-mul-last-2 : tie.Need-mul-last-2
-mul-last-2 c = search needs
-
-mul-last-3 : tie.Need-mul-last-3
-mul-last-3 c = search needs
-
-mul-last-4 : tie.Need-mul-last-4
-mul-last-4 c = search needs
-
 returns : tie.Need-returns
 returns c =
     let s = c .before .before .before .before .before .before .before .before .args in
@@ -81,21 +36,7 @@ returns c =
 
 pub rename-all-spec : {M : Type 1} → statement M
 rename-all-spec =
-    tie.close
-    (tie.spec
-    with-number-requires
-    with-number-requires-2
-    with-number-requires-3
-    with-number-requires-4
-    with-number-requires-5
-    with-number-requires-6
-    with-number-requires-7
-    with-number-requires-8
-    mul-first
-    mul-first-2
-    mul-first-3
-    mul-last
-    mul-last-2
-    mul-last-3
-    mul-last-4
-    returns)
+    tie.close (tie.spec (λ c κs. search needs) (λ c κs. search needs) (λ c κs. search needs)
+    (λ c κs. search needs) (λ c κs. search needs) (λ c κs. search needs) (λ c κs. search needs)
+    (λ c κs. search needs) (λ c. search needs) (λ c. search needs) (λ c. search needs) (λ c. search needs)
+    (λ c. search needs) (λ c. search needs) (λ c. search needs) returns)

@@ -17,9 +17,6 @@ Inv-loop args arity numbers whole₀ v₀ k₀ whole v k = ArgsRenamed numbers a
 abbrev μ-loop : tie.MeasureT-loop
 μ-loop args arity numbers whole₀ v₀ k₀ whole v k = arity - k
 
-rename-all-requires : tie.Need-rename-all-requires Inv-loop μ-loop
-rename-all-requires c κs = search needs
-
 -- with eight arguments there is no place left to pad
 returns : tie.Need-returns Inv-loop μ-loop
 returns c =
@@ -49,12 +46,6 @@ mul-whole c =
     let few = c .before .before .before .before .pre in
     omega (arith, digits-room (l .k) (l .v) (omega arith) (l .inv .below))
 
-add-k : tie.Need-add-k Inv-loop μ-loop
-add-k c = search needs
-
-loop-less : tie.Need-loop-less Inv-loop μ-loop
-loop-less c = search needs
-
 loop-again : tie.Need-loop-again Inv-loop μ-loop
 loop-again c =
     renamed-next (c .before .before .loop .inv) (c .before .loop-test .taken) (c .with-number .ensures .0)
@@ -72,17 +63,5 @@ returns-2 c =
 
 pub rename-args-spec : {M : Type 1} → statement M
 rename-args-spec =
-    tie.close
-    (tie.spec
-    Inv-loop
-    μ-loop
-    rename-all-requires
-    returns
-    loop-holds
-    with-number-requires
-    mul-whole
-    add-k
-    loop-less
-    loop-again
-    padded-requires
-    returns-2)
+    tie.close (tie.spec Inv-loop μ-loop (λ c κs. search needs) returns loop-holds with-number-requires mul-whole
+    (λ c. search needs) (λ c. search needs) loop-again padded-requires returns-2)

@@ -17,21 +17,6 @@ abbrev μ-loop : tie.MeasureT-loop
 loop-holds : tie.Need-loop-holds Inv-loop μ-loop
 loop-holds c = renumbered-start (c .before .before .args .numbers .now) (c .before .before .pre .0)
 
-mul-head : tie.Need-mul-head Inv-loop μ-loop
-mul-head c = search needs
-
-slice-read-head : tie.Need-slice-read-head Inv-loop μ-loop
-slice-read-head c = search needs
-
-mul-rename-args : tie.Need-mul-rename-args Inv-loop μ-loop
-mul-rename-args c = search needs
-
-slice-read-rename-args : tie.Need-slice-read-rename-args Inv-loop μ-loop
-slice-read-rename-args c = search needs
-
-arity-of-requires : tie.Need-arity-of-requires Inv-loop μ-loop
-arity-of-requires c κs = search needs
-
 rename-args-requires : tie.Need-rename-args-requires Inv-loop μ-loop
 rename-args-requires c κs =
     let at-loop = c .before .before .before .before in
@@ -39,47 +24,11 @@ rename-args-requires c κs =
     let packs = packs-next (at-loop .loop .inv) (start .pre .0) (omega arith) (start .pre .1 .1) (start .pre .1 .0) in
     omega (arith, packs .narrow, c .arity-of .ensures)
 
-same-length : tie.Need-same-length Inv-loop μ-loop
-same-length c = search needs
-
-same-length-2 : tie.Need-same-length-2 Inv-loop μ-loop
-same-length-2 c = search needs
-
 returns : tie.Need-returns Inv-loop μ-loop
 returns c = (c .before .before .before .before .before .before .before .loop .inv .room, λ e. absurd (false≢true e))
 
-has-number-requires : tie.Need-has-number-requires Inv-loop μ-loop
-has-number-requires c κs = search needs
-
-same-length-3 : tie.Need-same-length-3 Inv-loop μ-loop
-same-length-3 c = search needs
-
-same-length-4 : tie.Need-same-length-4 Inv-loop μ-loop
-same-length-4 c = search needs
-
 returns-2 : tie.Need-returns-2 Inv-loop μ-loop
 returns-2 c = (c .before .before .before .before .before .before .before .before .before .loop .inv .room, λ e. absurd (false≢true e))
-
-head-by-number-requires : tie.Need-head-by-number-requires Inv-loop μ-loop
-head-by-number-requires c κs = search needs
-
-mul-heads : tie.Need-mul-heads Inv-loop μ-loop
-mul-heads c = search needs
-
-slice-write-heads : tie.Need-slice-write-heads Inv-loop μ-loop
-slice-write-heads c = search needs
-
-mul-args : tie.Need-mul-args Inv-loop μ-loop
-mul-args c = search needs
-
-slice-write-args : tie.Need-slice-write-args Inv-loop μ-loop
-slice-write-args c = search needs
-
-add-i : tie.Need-add-i Inv-loop μ-loop
-add-i c = search needs
-
-loop-less : tie.Need-loop-less Inv-loop μ-loop
-loop-less c = search needs
 
 loop-again : tie.Need-loop-again Inv-loop μ-loop
 loop-again c =
@@ -96,12 +45,6 @@ loop-again c =
     })
     (c .head-by-number .ensures) (rw arity at (renamed .1))
 
-same-length-5 : tie.Need-same-length-5 Inv-loop μ-loop
-same-length-5 c = search needs
-
-same-length-6 : tie.Need-same-length-6 Inv-loop μ-loop
-same-length-6 c = search needs
-
 returns-3 : tie.Need-returns-3 Inv-loop μ-loop
 returns-3 c =
     let start = c .before .before .before .before in
@@ -109,32 +52,8 @@ returns-3 c =
 
 pub renumber-spec : {M : Type 1} → statement M
 renumber-spec =
-    tie.close
-    (tie.spec
-    Inv-loop
-    μ-loop
-    loop-holds
-    mul-head
-    slice-read-head
-    mul-rename-args
-    slice-read-rename-args
-    arity-of-requires
-    rename-args-requires
-    same-length
-    same-length-2
-    returns
-    has-number-requires
-    same-length-3
-    same-length-4
-    returns-2
-    head-by-number-requires
-    mul-heads
-    slice-write-heads
-    mul-args
-    slice-write-args
-    add-i
-    loop-less
-    loop-again
-    same-length-5
-    same-length-6
-    returns-3)
+    tie.close (tie.spec Inv-loop μ-loop loop-holds (λ c. search needs) (λ c. search needs) (λ c. search needs)
+    (λ c. search needs) (λ c κs. search needs) rename-args-requires (λ c. search needs) (λ c. search needs)
+    returns (λ c κs. search needs) (λ c. search needs) (λ c. search needs) returns-2 (λ c κs. search needs)
+    (λ c. search needs) (λ c. search needs) (λ c. search needs) (λ c. search needs) (λ c. search needs)
+    (λ c. search needs) loop-again (λ c. search needs) (λ c. search needs) returns-3)

@@ -8,21 +8,6 @@ use borrow.Author.Needs.{needs}
 use Rattle.numbering.proofs.renumbering.with_number.Statement.{statement}
 use Rattle.numbering.proofs.renumbering.with_number.Tie as tie
 
-place-of-requires : tie.Need-place-of-requires
-place-of-requires c κs = search needs
-
-name-at-requires : tie.Need-name-at-requires
-name-at-requires c κs = search needs
-
-wide-requires : tie.Need-wide-requires
-wide-requires c κs = search needs
-
-mul-result : tie.Need-mul-result
-mul-result c = search needs
-
-add-result : tie.Need-add-result
-add-result c = search needs
-
 returns : tie.Need-returns
 returns c =
     let e = c .wide .ensures ∙ c .before .name-at .ensures ∙ ap (λ (q : ℕ). getD (c .before .before .before .args
@@ -34,5 +19,5 @@ returns c =
 
 pub with-number-spec : {M : Type 1} → statement M
 with-number-spec =
-    tie.close
-    (tie.spec place-of-requires name-at-requires wide-requires mul-result add-result returns)
+    tie.close (tie.spec (λ c κs. search needs) (λ c κs. search needs) (λ c κs. search needs) (λ c. search needs)
+    (λ c. search needs) returns)

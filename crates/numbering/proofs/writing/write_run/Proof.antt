@@ -17,38 +17,11 @@ abbrev μ-loop : tie.MeasureT-loop
 loop-holds : tie.Need-loop-holds Inv-loop μ-loop
 loop-holds c = (omega arith, run-start _ _ _ _)
 
-mul-entry-of : tie.Need-mul-entry-of Inv-loop μ-loop
-mul-entry-of c = search needs
-
-shared-slice-read-entry-of : tie.Need-shared-slice-read-entry-of Inv-loop μ-loop
-shared-slice-read-entry-of c = search needs
-
-mul-entry-of-2 : tie.Need-mul-entry-of-2 Inv-loop μ-loop
-mul-entry-of-2 c = search needs
-
-shared-slice-read-entry-of-2 : tie.Need-shared-slice-read-entry-of-2 Inv-loop μ-loop
-shared-slice-read-entry-of-2 c = search needs
-
 entry-of-requires : tie.Need-entry-of-requires Inv-loop μ-loop
 entry-of-requires c κs =
     let at-loop = c .before .before .before in
     let start = at-loop .before .before .before .before in
     start .pre .1 .1 .each (at-loop .loop .i) (omega arith)
-
-mul-write : tie.Need-mul-write Inv-loop μ-loop
-mul-write c = search needs
-
-add-write : tie.Need-add-write Inv-loop μ-loop
-add-write c = search needs
-
-write-requires : tie.Need-write-requires Inv-loop μ-loop
-write-requires c κs = search needs
-
-add-i : tie.Need-add-i Inv-loop μ-loop
-add-i c = search needs
-
-loop-less : tie.Need-loop-less Inv-loop μ-loop
-loop-less c = search needs
 
 loop-again : tie.Need-loop-again Inv-loop μ-loop
 loop-again c =
@@ -59,9 +32,6 @@ loop-again c =
           .before .write .ensures),
     )
 
-same-length : tie.Need-same-length Inv-loop μ-loop
-same-length c = search needs
-
 returns : tie.Need-returns Inv-loop μ-loop
 returns c =
     let start = c .before .before .before .before .before in
@@ -71,21 +41,6 @@ returns c =
 
 pub write-run-spec : {M : Type 1} → statement M
 write-run-spec =
-    tie.close
-    (tie.spec
-    Inv-loop
-    μ-loop
-    loop-holds
-    mul-entry-of
-    shared-slice-read-entry-of
-    mul-entry-of-2
-    shared-slice-read-entry-of-2
-    entry-of-requires
-    mul-write
-    add-write
-    write-requires
-    add-i
-    loop-less
-    loop-again
-    same-length
-    returns)
+    tie.close (tie.spec Inv-loop μ-loop loop-holds (λ c. search needs) (λ c. search needs) (λ c. search needs)
+    (λ c. search needs) entry-of-requires (λ c. search needs) (λ c. search needs) (λ c κs. search needs)
+    (λ c. search needs) (λ c. search needs) loop-again (λ c. search needs) returns)

@@ -8,18 +8,6 @@ use borrow.Author.Needs.{needs}
 use Rattle.numbering.proofs.writing.write_table.Statement.{statement}
 use Rattle.numbering.proofs.writing.write_table.Tie as tie
 
-cast-table : tie.Need-cast-table
-cast-table c = search needs
-
-slice-write-table : tie.Need-slice-write-table
-slice-write-table c = search needs
-
-write-classes-requires : tie.Need-write-classes-requires
-write-classes-requires c κs = search needs
-
-cast-table-2 : tie.Need-cast-table-2
-cast-table-2 c = search needs
-
 slice-write-table-2 : tie.Need-slice-write-table-2
 slice-write-table-2 c =
     let start = c .before .before .before .before .before .before .before .before in
@@ -29,12 +17,6 @@ slice-write-table-2 c =
       (c .before .before .write-classes .ensures .size ∙ length-set
           (start .args .table .now) 0 (start .args .states)),
     )
-
-cast-table-3 : tie.Need-cast-table-3
-cast-table-3 c = search needs
-
-add-table : tie.Need-add-table
-add-table c = search needs
 
 slice-write-table-3 : tie.Need-slice-write-table-3
 slice-write-table-3 c =
@@ -66,18 +48,6 @@ write-run-requires c κs =
         start .pre .1 .1 .1 .1 .1,
       ),
     )
-
-mul-clear-between : tie.Need-mul-clear-between
-mul-clear-between c = search needs
-
-add-clear-between : tie.Need-add-clear-between
-add-clear-between c = search needs
-
-mul-clear-between-2 : tie.Need-mul-clear-between-2
-mul-clear-between-2 c = search needs
-
-add-clear-between-2 : tie.Need-add-clear-between-2
-add-clear-between-2 c = search needs
 
 clear-between-requires : tie.Need-clear-between-requires
 clear-between-requires c κs =
@@ -113,21 +83,7 @@ returns c =
 
 pub write-table-spec : {M : Type 1} → statement M
 write-table-spec =
-    tie.close
-    (tie.spec
-    cast-table
-    slice-write-table
-    write-classes-requires
-    cast-table-2
-    slice-write-table-2
-    cast-table-3
-    add-table
-    slice-write-table-3
-    write-run-requires
-    mul-clear-between
-    add-clear-between
-    mul-clear-between-2
-    add-clear-between-2
-    clear-between-requires
-    same-length
-    returns)
+    tie.close (tie.spec (λ c. search needs) (λ c. search needs) (λ c κs. search needs) (λ c. search needs)
+    slice-write-table-2 (λ c. search needs) (λ c. search needs) slice-write-table-3 write-run-requires
+    (λ c. search needs) (λ c. search needs) (λ c. search needs) (λ c. search needs) clear-between-requires
+    same-length returns)

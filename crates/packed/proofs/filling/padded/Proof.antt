@@ -7,18 +7,9 @@ use Rattle.packed.proofs.filling.padded.Tie as tie
 returns : tie.Need-returns
 returns c = pad-none (c .before .args .arity) (c .before .args .prefix) (c .if1 .taken) (c .before .pre .1)
 
-sub-result : tie.Need-sub-result
-sub-result c = search needs
-
-mul-result : tie.Need-mul-result
-mul-result c = search needs
-
-shl-result : tie.Need-shl-result
-shl-result c = search needs
-
 returns-2 : tie.Need-returns-2
 returns-2 c =
     pad-shift (c .before .args .arity) (c .before .args .prefix) (c .before .pre .0) (c .before .pre .1)
 
 pub padded-spec : {M : Type 1} → statement M
-padded-spec = tie.close (tie.spec returns sub-result mul-result shl-result returns-2)
+padded-spec = tie.close (tie.spec returns (λ c. search needs) (λ c. search needs) (λ c. search needs) returns-2)

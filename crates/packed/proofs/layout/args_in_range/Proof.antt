@@ -22,22 +22,10 @@ abbrev μ-loop : tie.MeasureT-loop
 loop-holds : tie.Need-loop-holds Inv-loop μ-loop
 loop-holds c = every-start (c .before .args .arity) (omega arith)
 
-arg-of-requires : tie.Need-arg-of-requires Inv-loop μ-loop
-arg-of-requires c κs = search needs
-
-in-range-requires : tie.Need-in-range-requires Inv-loop μ-loop
-in-range-requires c κs = search needs
-
 returns : tie.Need-returns Inv-loop μ-loop
 returns c =
     every-broken (c .before .before .before .before .loop .inv) (omega arith)
     (sym (c .before .in-range .ensures ∙ ap (inRange (c .before .before .before .before .before .before .args .states)) (c .before .before .arg-of .ensures .0)) ∙ not-true _ (c .if1 .taken))
-
-add-k : tie.Need-add-k Inv-loop μ-loop
-add-k c = search needs
-
-loop-less : tie.Need-loop-less Inv-loop μ-loop
-loop-less c = search needs
 
 loop-again : tie.Need-loop-again Inv-loop μ-loop
 loop-again c =
@@ -49,15 +37,5 @@ returns-2 c = every-end (c .before .loop .inv) (omega arith)
 
 pub args-in-range-spec : {M : Type 1} → statement M
 args-in-range-spec =
-    tie.close
-    (tie.spec
-    Inv-loop
-    μ-loop
-    loop-holds
-    arg-of-requires
-    in-range-requires
-    returns
-    add-k
-    loop-less
-    loop-again
-    returns-2)
+    tie.close (tie.spec Inv-loop μ-loop loop-holds (λ c κs. search needs) (λ c κs. search needs) returns
+    (λ c. search needs) (λ c. search needs) loop-again returns-2)

@@ -5,23 +5,11 @@ use Rattle.packed.proofs.Bounds.{class-broken, classes-decide}
 use Rattle.packed.proofs.layout.classes_fit.Statement.{statement}
 use Rattle.packed.proofs.layout.classes_fit.Tie as tie
 
-add-at-most : tie.Need-add-at-most
-add-at-most c = search needs
-
-at-most-requires : tie.Need-at-most-requires
-at-most-requires c κs = search needs
-
 returns : tie.Need-returns
 returns c =
     let start = c .before .before .before in
     class-broken (start .args .table .now) ((rw (start .pre .1 .0) at (start .pre .1 .1)))
     (rw (start .pre .1 .0) at (c .before .at-most .ensures)) (not-true _ (c .if1 .taken))
-
-add-at-most-2 : tie.Need-add-at-most-2
-add-at-most-2 c = search needs
-
-at-most-requires-2 : tie.Need-at-most-requires-2
-at-most-requires-2 c κs = search needs
 
 returns-2 : tie.Need-returns-2
 returns-2 c =
@@ -32,5 +20,5 @@ returns-2 c =
 
 pub classes-fit-spec : {M : Type 1} → statement M
 classes-fit-spec =
-    tie.close
-    (tie.spec add-at-most at-most-requires returns add-at-most-2 at-most-requires-2 returns-2)
+    tie.close (tie.spec (λ c. search needs) (λ c κs. search needs) returns (λ c. search needs)
+    (λ c κs. search needs) returns-2)

@@ -19,15 +19,6 @@ returns c =
     let start = c .before .before .args in
     sym (ap (every (argEmpty (start .transitions .now) (start .at))) (upFrom-none (start .arity) maxArity (omega arith)))
 
-args-at-requires : tie.Need-args-at-requires
-args-at-requires c κs = search needs
-
-mul-result : tie.Need-mul-result
-mul-result c = search needs
-
-shl-result : tie.Need-shl-result
-shl-result c = search needs
-
 returns-2 : tie.Need-returns-2
 unfolding packedAt
 returns-2 c =
@@ -38,4 +29,5 @@ returns-2 c =
     (start .arity) (omega arith)
 
 pub rest-empty-spec : {M : Type 1} → statement M
-rest-empty-spec = tie.close (tie.spec returns args-at-requires mul-result shl-result returns-2)
+rest-empty-spec =
+    tie.close (tie.spec returns (λ c κs. search needs) (λ c. search needs) (λ c. search needs) returns-2)

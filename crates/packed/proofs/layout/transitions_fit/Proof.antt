@@ -21,22 +21,10 @@ abbrev μ-loop : tie.MeasureT-loop
 loop-holds : tie.Need-loop-holds Inv-loop μ-loop
 loop-holds c = every-start (c .before .args .count) (omega arith)
 
-mul-transition-fits : tie.Need-mul-transition-fits Inv-loop μ-loop
-mul-transition-fits c = search needs
-
-transition-fits-requires : tie.Need-transition-fits-requires Inv-loop μ-loop
-transition-fits-requires c κs = search needs
-
 returns : tie.Need-returns Inv-loop μ-loop
 returns c =
     every-broken (c .before .before .before .loop .inv) (omega arith)
     (sym (c .before .transition-fits .ensures) ∙ not-true _ (c .if1 .taken))
-
-add-i : tie.Need-add-i Inv-loop μ-loop
-add-i c = search needs
-
-loop-less : tie.Need-loop-less Inv-loop μ-loop
-loop-less c = search needs
 
 loop-again : tie.Need-loop-again Inv-loop μ-loop
 loop-again c =
@@ -48,15 +36,5 @@ returns-2 c = every-end (c .before .loop .inv) (omega arith)
 
 pub transitions-fit-spec : {M : Type 1} → statement M
 transitions-fit-spec =
-    tie.close
-    (tie.spec
-    Inv-loop
-    μ-loop
-    loop-holds
-    mul-transition-fits
-    transition-fits-requires
-    returns
-    add-i
-    loop-less
-    loop-again
-    returns-2)
+    tie.close (tie.spec Inv-loop μ-loop loop-holds (λ c. search needs) (λ c κs. search needs) returns
+    (λ c. search needs) (λ c. search needs) loop-again returns-2)

@@ -8,9 +8,6 @@ use Rattle.packed.proofs.Bounds.{zeros-at-most}
 use Rattle.packed.proofs.layout.zeros_from.Statement.{statement}
 use Rattle.packed.proofs.layout.zeros_from.Tie as tie
 
-at-most-requires : tie.Need-at-most-requires
-at-most-requires c κs = search needs
-
 returns : tie.Need-returns
 returns c =
     let start = c .before .before in
@@ -18,4 +15,4 @@ returns c =
     (upFrom (start .args .start) (length (start .args .transitions .now) - (start .args) .start))
 
 pub zeros-from-spec : {M : Type 1} → statement M
-zeros-from-spec = tie.close (tie.spec at-most-requires returns)
+zeros-from-spec = tie.close (tie.spec (λ c κs. search needs) returns)

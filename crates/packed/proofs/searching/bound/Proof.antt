@@ -15,38 +15,17 @@ abbrev μ-loop : tie.MeasureT-loop
 loop-holds : tie.Need-loop-holds Inv-loop μ-loop
 loop-holds c = let a = c .before .args in bound-start (a .transitions .now) (a .count) (a .meta) (a .args)
 
-sub-middle : tie.Need-sub-middle Inv-loop μ-loop
-sub-middle c = search needs
-
-add-middle : tie.Need-add-middle Inv-loop μ-loop
-add-middle c = search needs
-
-mul-at : tie.Need-mul-at Inv-loop μ-loop
-mul-at c = search needs
-
 meta-at-requires : tie.Need-meta-at-requires Inv-loop μ-loop
 meta-at-requires c κs = omega (arith, c .before .before .before .pre .padded .runs .inside)
 
 args-at-requires : tie.Need-args-at-requires Inv-loop μ-loop
 args-at-requires c κs = omega (arith, c .before .before .before .before .pre .padded .runs .inside)
 
-comes-before-requires : tie.Need-comes-before-requires Inv-loop μ-loop
-comes-before-requires c κs = search needs
-
-add-low : tie.Need-add-low Inv-loop μ-loop
-add-low c = search needs
-
-loop-less : tie.Need-loop-less Inv-loop μ-loop
-loop-less c = search needs
-
 loop-again : tie.Need-loop-again Inv-loop μ-loop
 loop-again c =
     let l = c .before .before .before .before .before .loop in
     bound-up (λ j. omega (arith, c .before .before .before .before .before .before .shared-slice-known .given j)) (c .before .before .before .before .before .before .before .pre) (l .inv) (l .low + (l .high - l .low) / 2) (omega arith)
     (c .before .before .before .meta-at .ensures) (c .before .before .args-at .ensures) (c .before .comes-before .ensures) (c .if1 .taken)
-
-loop-less-2 : tie.Need-loop-less-2 Inv-loop μ-loop
-loop-less-2 c = search needs
 
 loop-again-2 : tie.Need-loop-again-2 Inv-loop μ-loop
 loop-again-2 c =
@@ -59,20 +38,6 @@ returns c = let inv = c .before .loop .inv in (omega arith, (bound-end inv (omeg
 
 pub bound-spec : {M : Type 1} → statement M
 bound-spec =
-    tie.close
-    (tie.spec
-    Inv-loop
-    μ-loop
-    loop-holds
-    sub-middle
-    add-middle
-    mul-at
-    meta-at-requires
-    args-at-requires
-    comes-before-requires
-    add-low
-    loop-less
-    loop-again
-    loop-less-2
-    loop-again-2
-    returns)
+    tie.close (tie.spec Inv-loop μ-loop loop-holds (λ c. search needs) (λ c. search needs) (λ c. search needs)
+    meta-at-requires args-at-requires (λ c κs. search needs) (λ c. search needs) (λ c. search needs) loop-again
+    (λ c. search needs) loop-again-2 returns)

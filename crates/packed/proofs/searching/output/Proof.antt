@@ -12,12 +12,6 @@ use Rattle.packed.proofs.searching.output.Tie as tie
 meta-of-requires : tie.Need-meta-of-requires
 meta-of-requires c κs = c .before .pre .1 .narrow
 
-pack-requires : tie.Need-pack-requires
-pack-requires c κs = search needs
-
-seek-requires : tie.Need-seek-requires
-seek-requires c κs = search needs
-
 returns : tie.Need-returns
 returns c =
     let start = c .before .before .before .before .before in
@@ -26,18 +20,6 @@ returns c =
     let found = c .before .seek .ensures .1 (a .label) (take (a .arity) (a .args)) (places-packs eight (start .pre .1) (c .before .before .pack .ensures .1) (omega (arith, start .fits .label)) (omega arith) (c .before .before .pack .ensures .0)) in
     sought-nothing (λ j. omega (arith, c .before .before .before .before .shared-slice-known .given j)) (start .pre .0)
     (subst (λ (i : _). SoughtAt (a .transitions .now) (a .count) (a .label) (take (a .arity) (a .args)) i) (c .if1 .taken) found)
-
-sub-out-of : tie.Need-sub-out-of
-sub-out-of c = search needs
-
-mul-out-of : tie.Need-mul-out-of
-mul-out-of c = search needs
-
-out-of-requires : tie.Need-out-of-requires
-out-of-requires c κs = search needs
-
-cast-result : tie.Need-cast-result
-cast-result c = search needs
 
 returns-2 : tie.Need-returns-2
 returns-2 c =
@@ -50,14 +32,5 @@ returns-2 c =
 
 pub output-spec : {M : Type 1} → statement M
 output-spec =
-    tie.close
-    (tie.spec
-    meta-of-requires
-    pack-requires
-    seek-requires
-    returns
-    sub-out-of
-    mul-out-of
-    out-of-requires
-    cast-result
-    returns-2)
+    tie.close (tie.spec meta-of-requires (λ c κs. search needs) (λ c κs. search needs) returns
+    (λ c. search needs) (λ c. search needs) (λ c κs. search needs) (λ c. search needs) returns-2)

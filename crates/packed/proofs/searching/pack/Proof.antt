@@ -9,54 +9,6 @@ use Rattle.packed.specs.Packed.{packed}
 use Rattle.packed.proofs.searching.pack.Statement.{statement}
 use Rattle.packed.proofs.searching.pack.Tie as tie
 
-array-read-with-digit : tie.Need-array-read-with-digit
-array-read-with-digit c = search needs
-
-with-digit-requires : tie.Need-with-digit-requires
-with-digit-requires c κs = search needs
-
-array-read-with-digit-2 : tie.Need-array-read-with-digit-2
-array-read-with-digit-2 c = search needs
-
-with-digit-requires-2 : tie.Need-with-digit-requires-2
-with-digit-requires-2 c κs = search needs
-
-array-read-with-digit-3 : tie.Need-array-read-with-digit-3
-array-read-with-digit-3 c = search needs
-
-with-digit-requires-3 : tie.Need-with-digit-requires-3
-with-digit-requires-3 c κs = search needs
-
-array-read-with-digit-4 : tie.Need-array-read-with-digit-4
-array-read-with-digit-4 c = search needs
-
-with-digit-requires-4 : tie.Need-with-digit-requires-4
-with-digit-requires-4 c κs = search needs
-
-array-read-with-digit-5 : tie.Need-array-read-with-digit-5
-array-read-with-digit-5 c = search needs
-
-with-digit-requires-5 : tie.Need-with-digit-requires-5
-with-digit-requires-5 c κs = search needs
-
-array-read-with-digit-6 : tie.Need-array-read-with-digit-6
-array-read-with-digit-6 c = search needs
-
-with-digit-requires-6 : tie.Need-with-digit-requires-6
-with-digit-requires-6 c κs = search needs
-
-array-read-with-digit-7 : tie.Need-array-read-with-digit-7
-array-read-with-digit-7 c = search needs
-
-with-digit-requires-7 : tie.Need-with-digit-requires-7
-with-digit-requires-7 c κs = search needs
-
-array-read-with-digit-8 : tie.Need-array-read-with-digit-8
-array-read-with-digit-8 c = search needs
-
-with-digit-requires-8 : tie.Need-with-digit-requires-8
-with-digit-requires-8 c κs = search needs
-
 returns : tie.Need-returns
 unfolding packed
 returns c =
@@ -72,22 +24,7 @@ returns c =
 
 pub pack-spec : {M : Type 1} → statement M
 pack-spec =
-    tie.close
-    (tie.spec
-    array-read-with-digit
-    with-digit-requires
-    array-read-with-digit-2
-    with-digit-requires-2
-    array-read-with-digit-3
-    with-digit-requires-3
-    array-read-with-digit-4
-    with-digit-requires-4
-    array-read-with-digit-5
-    with-digit-requires-5
-    array-read-with-digit-6
-    with-digit-requires-6
-    array-read-with-digit-7
-    with-digit-requires-7
-    array-read-with-digit-8
-    with-digit-requires-8
-    returns)
+    tie.close (tie.spec (λ c. search needs) (λ c κs. search needs) (λ c. search needs) (λ c κs. search needs)
+    (λ c. search needs) (λ c κs. search needs) (λ c. search needs) (λ c κs. search needs) (λ c. search needs)
+    (λ c κs. search needs) (λ c. search needs) (λ c κs. search needs) (λ c. search needs) (λ c κs. search needs)
+    (λ c. search needs) (λ c κs. search needs) returns)

@@ -5,21 +5,12 @@ use borrow.Author.Needs.{needs}
 use Rattle.packed.proofs.searching.seek.Statement.{statement}
 use Rattle.packed.proofs.searching.seek.Tie as tie
 
-bound-requires : tie.Need-bound-requires
-bound-requires c κs = search needs
-
 returns : tie.Need-returns
 returns c = (
   omega arith,
   sought-none (λ j. omega (arith, c .before .before .shared-slice-known .given j))
       (c .before .before .before .pre) (c .before .bound .ensures .1 .0) (λ b qs p l e. omega arith),
 )
-
-mul-at : tie.Need-mul-at
-mul-at c = search needs
-
-meta-at-requires : tie.Need-meta-at-requires
-meta-at-requires c κs = search needs
 
 returns-2 : tie.Need-returns-2
 returns-2 c = (
@@ -28,9 +19,6 @@ returns-2 c = (
       (c .before .before .before .before .before .pre) (c .before .before .before .bound .ensures .1 .0) (omega arith)
       (c .before .meta-at .ensures) (c .if2 .taken),
 )
-
-args-at-requires : tie.Need-args-at-requires
-args-at-requires c κs = search needs
 
 returns-3 : tie.Need-returns-3
 returns-3 c = (
@@ -43,9 +31,6 @@ returns-3 c = (
       (c .before .before .before .before .before .bound .ensures .1 .0) (omega arith)
       (c .before .before .before .meta-at .ensures) (c .before .args-at .ensures) (c .if3 .taken),
 )
-
-add-result : tie.Need-add-result
-add-result c = search needs
 
 returns-4 : tie.Need-returns-4
 returns-4 c = (
@@ -61,14 +46,5 @@ returns-4 c = (
 
 pub seek-spec : {M : Type 1} → statement M
 seek-spec =
-    tie.close
-    (tie.spec
-    bound-requires
-    returns
-    mul-at
-    meta-at-requires
-    returns-2
-    args-at-requires
-    returns-3
-    add-result
-    returns-4)
+    tie.close (tie.spec (λ c κs. search needs) returns (λ c. search needs) (λ c κs. search needs) returns-2
+    (λ c κs. search needs) returns-3 (λ c. search needs) returns-4)

@@ -6,18 +6,9 @@ use borrow.Author.Needs.{needs}
 use Rattle.packed.proofs.slots.at_place.Statement.{statement}
 use Rattle.packed.proofs.slots.at_place.Tie as tie
 
-sub-result : tie.Need-sub-result
-sub-result c = search needs
-
-mul-result : tie.Need-mul-result
-mul-result c = search needs
-
-shl-result : tie.Need-shl-result
-shl-result c = search needs
-
 returns : tie.Need-returns
 returns c =
     shl-exact 8 (8 * (7 - c .args .k)) 64 (c .pre .0) (omega arith)
 
 pub at-place-spec : {M : Type 1} → statement M
-at-place-spec = tie.close (tie.spec sub-result mul-result shl-result returns)
+at-place-spec = tie.close (tie.spec (λ c. search needs) (λ c. search needs) (λ c. search needs) returns)

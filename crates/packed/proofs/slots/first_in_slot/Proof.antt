@@ -5,12 +5,6 @@ use Rattle.packed.proofs.Walks.{walk-bound, walk-past}
 use Rattle.packed.proofs.slots.first_in_slot.Statement.{statement}
 use Rattle.packed.proofs.slots.first_in_slot.Tie as tie
 
-bound-requires : tie.Need-bound-requires
-bound-requires c κs = search needs
-
-next-in-slot-requires : tie.Need-next-in-slot-requires
-next-in-slot-requires c κs = search needs
-
 returns : tie.Need-returns
 returns c =
     let below = walk-bound (c .before .before .before .args .z) (c .before .bound .ensures .1 .1) in (
@@ -19,4 +13,4 @@ returns c =
     )
 
 pub first-in-slot-spec : {M : Type 1} → statement M
-first-in-slot-spec = tie.close (tie.spec bound-requires next-in-slot-requires returns)
+first-in-slot-spec = tie.close (tie.spec (λ c κs. search needs) (λ c κs. search needs) returns)

@@ -15,20 +15,8 @@ returns-2 : tie.Need-returns-2
 returns-2 c = let start = c .before .before .before .before .before in
     (λ e. absurd (false≢true e), λ _ I. omega (arith, I .args, start .pre))
 
-mul-at : tie.Need-mul-at
-mul-at c = search needs
-
-out-of-requires : tie.Need-out-of-requires
-out-of-requires c κs = search needs
-
 returns-3 : tie.Need-returns-3
 returns-3 c = (λ e. absurd (false≢true e), λ _ I. omega (arith, I .out, c .before .before .out-of .ensures))
-
-arg-of-requires : tie.Need-arg-of-requires
-arg-of-requires c κs = search needs
-
-at-place-requires : tie.Need-at-place-requires
-at-place-requires c κs = search needs
 
 returns-4 : tie.Need-returns-4
 returns-4 c =
@@ -46,13 +34,5 @@ returns-4 c =
 
 pub is-in-slot-spec : {M : Type 1} → statement M
 is-in-slot-spec =
-    tie.close
-    (tie.spec
-    returns
-    returns-2
-    mul-at
-    out-of-requires
-    returns-3
-    arg-of-requires
-    at-place-requires
-    returns-4)
+    tie.close (tie.spec returns returns-2 (λ c. search needs) (λ c κs. search needs) returns-3
+    (λ c κs. search needs) (λ c κs. search needs) returns-4)

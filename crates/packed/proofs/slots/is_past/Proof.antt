@@ -14,13 +14,10 @@ returns c = let a = c .before .before .before .args in
 returns-2 : tie.Need-returns-2
 returns-2 c = λ e. absurd (false≢true e)
 
-at-place-requires : tie.Need-at-place-requires
-at-place-requires c κs = search needs
-
 returns-3 : tie.Need-returns-3
 returns-3 c = let a = c .before .before .before .before .before .before .args in
     λ e. past-args (a .z) (a .meta) (a .args) (omega arith) (omega arith) (c .at-place .ensures)
     (ltb-true _ _ e)
 
 pub is-past-spec : {M : Type 1} → statement M
-is-past-spec = tie.close (tie.spec returns returns-2 at-place-requires returns-3)
+is-past-spec = tie.close (tie.spec returns returns-2 (λ c κs. search needs) returns-3)

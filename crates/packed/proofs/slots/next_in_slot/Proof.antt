@@ -15,17 +15,11 @@ abbrev μ-loop : tie.MeasureT-loop
 loop-holds : tie.Need-loop-holds Inv-loop μ-loop
 loop-holds c = let a = c .before .args in (omega arith, walk-start (a .transitions .now) (a .z) (a .from))
 
-mul-at : tie.Need-mul-at Inv-loop μ-loop
-mul-at c = search needs
-
 meta-at-requires : tie.Need-meta-at-requires Inv-loop μ-loop
 meta-at-requires c κs = omega (arith, c .before .before .before .pre .0 .padded .runs .inside)
 
 args-at-requires : tie.Need-args-at-requires Inv-loop μ-loop
 args-at-requires c κs = omega (arith, c .before .before .before .before .pre .0 .padded .runs .inside)
-
-is-past-requires : tie.Need-is-past-requires Inv-loop μ-loop
-is-past-requires c κs = search needs
 
 returns : tie.Need-returns Inv-loop μ-loop
 returns c =
@@ -41,18 +35,9 @@ returns c =
       ),
     )
 
-is-in-slot-requires : tie.Need-is-in-slot-requires Inv-loop μ-loop
-is-in-slot-requires c κs = search needs
-
 returns-2 : tie.Need-returns-2 Inv-loop μ-loop
 returns-2 c = let inv = c .before .before .before .before .before .before .before .loop .inv in
     (omega arith, (inv .1 .none, (λ l. c .before .is-in-slot .ensures .0 (c .if2 .taken), λ l. inv .0)))
-
-add-i : tie.Need-add-i Inv-loop μ-loop
-add-i c = search needs
-
-loop-less : tie.Need-loop-less Inv-loop μ-loop
-loop-less c = search needs
 
 loop-again : tie.Need-loop-again Inv-loop μ-loop
 loop-again c = let inv = c .before .before .before .before .before .before .before .loop .inv in
@@ -63,19 +48,6 @@ returns-3 c = (omega arith, (walk-past (c .before .loop .inv .1) (λ j h l I. om
 
 pub next-in-slot-spec : {M : Type 1} → statement M
 next-in-slot-spec =
-    tie.close
-    (tie.spec
-    Inv-loop
-    μ-loop
-    loop-holds
-    mul-at
-    meta-at-requires
-    args-at-requires
-    is-past-requires
-    returns
-    is-in-slot-requires
-    returns-2
-    add-i
-    loop-less
-    loop-again
-    returns-3)
+    tie.close (tie.spec Inv-loop μ-loop loop-holds (λ c. search needs) meta-at-requires args-at-requires
+    (λ c κs. search needs) returns (λ c κs. search needs) returns-2 (λ c. search needs) (λ c. search needs)
+    loop-again returns-3)

@@ -16,24 +16,6 @@ abbrev μ-loop : tie.MeasureT-loop
 loop-holds : tie.Need-loop-holds Inv-loop μ-loop
 loop-holds c = (omega arith, marked-start (c .pre))
 
-element-copy-out-opens : tie.Need-element-copy-out-opens Inv-loop μ-loop
-element-copy-out-opens c = search needs
-
-element-copy-out-opens-2 : tie.Need-element-copy-out-opens-2 Inv-loop μ-loop
-element-copy-out-opens-2 c = search needs
-
-opens-requires : tie.Need-opens-requires Inv-loop μ-loop
-opens-requires c κs = search needs
-
-element-write-marks : tie.Need-element-write-marks Inv-loop μ-loop
-element-write-marks c = search needs
-
-add-q : tie.Need-add-q Inv-loop μ-loop
-add-q c = search needs
-
-loop-less : tie.Need-loop-less Inv-loop μ-loop
-loop-less c = search needs
-
 loop-again : tie.Need-loop-again Inv-loop μ-loop
 loop-again c =
     let now = c .before .before .before .before .loop in
@@ -44,16 +26,5 @@ returns c = marked-end (c .before .loop .inv .1) (omega arith)
 
 pub open-at-once-spec : {M : Type 1} → statement M
 open-at-once-spec =
-    tie.close
-    (tie.spec
-    Inv-loop
-    μ-loop
-    loop-holds
-    element-copy-out-opens
-    element-copy-out-opens-2
-    opens-requires
-    element-write-marks
-    add-q
-    loop-less
-    loop-again
-    returns)
+    tie.close (tie.spec Inv-loop μ-loop loop-holds (λ c. search needs) (λ c. search needs)
+    (λ c κs. search needs) (λ c. search needs) (λ c. search needs) (λ c. search needs) loop-again returns)

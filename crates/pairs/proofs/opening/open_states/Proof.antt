@@ -19,12 +19,6 @@ Inv-loop transitions count counts marks₀ marks =
 abbrev μ-loop : tie.MeasureT-loop
 μ-loop transitions count counts marks₀ marks = length marks - marksOf marks
 
-sums-into-requires : tie.Need-sums-into-requires Inv-loop μ-loop
-sums-into-requires c κs = search needs
-
-open-at-once-requires : tie.Need-open-at-once-requires Inv-loop μ-loop
-open-at-once-requires c κs = search needs
-
 loop-holds : tie.Need-loop-holds Inv-loop μ-loop
 loop-holds c =
     let a = c .before .before .before .before .before .before .args in
@@ -55,14 +49,5 @@ returns c =
 
 pub open-states-spec : {M : Type 1} → statement M
 open-states-spec =
-    tie.close
-    (tie.spec
-    Inv-loop
-    μ-loop
-    sums-into-requires
-    open-at-once-requires
-    loop-holds
-    mark-outputs-requires
-    loop-less
-    loop-again
-    returns)
+    tie.close (tie.spec Inv-loop μ-loop (λ c κs. search needs) (λ c κs. search needs) loop-holds
+    mark-outputs-requires loop-less loop-again returns)

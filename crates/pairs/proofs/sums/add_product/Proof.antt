@@ -8,29 +8,11 @@ use borrow.Author.Needs.{needs}
 use Rattle.pairs.proofs.sums.add_product.Statement.{statement}
 use Rattle.pairs.proofs.sums.add_product.Tie as tie
 
-out-of-requires : tie.Need-out-of-requires
-out-of-requires c κs = search needs
-
-element-copy-out-if1 : tie.Need-element-copy-out-if1
-element-copy-out-if1 c = search needs
-
 returns : tie.Need-returns
 returns c =
     let a = c .before .before .before .before .args in
     let e = ap (entry (a .numbers .now)) (c .before .before .out-of .ensures .0) in
     record { size = refl; here = λ h. absurd (omega (arith, h, e, c .if1 .taken)); elsewhere = λ q d. refl }
-
-multiplied-requires : tie.Need-multiplied-requires
-multiplied-requires c κs = search needs
-
-element-copy-out-raised : tie.Need-element-copy-out-raised
-element-copy-out-raised c = search needs
-
-raised-requires : tie.Need-raised-requires
-raised-requires c κs = search needs
-
-element-write-sums : tie.Need-element-write-sums
-element-write-sums c = search needs
 
 returns-2 : tie.Need-returns-2
 returns-2 c =
@@ -43,13 +25,5 @@ returns-2 c =
 
 pub add-product-spec : {M : Type 1} → statement M
 add-product-spec =
-    tie.close
-    (tie.spec
-    out-of-requires
-    element-copy-out-if1
-    returns
-    multiplied-requires
-    element-copy-out-raised
-    raised-requires
-    element-write-sums
-    returns-2)
+    tie.close (tie.spec (λ c κs. search needs) (λ c. search needs) returns (λ c κs. search needs)
+    (λ c. search needs) (λ c κs. search needs) (λ c. search needs) returns-2)

@@ -16,26 +16,11 @@ Inv-loop transitions at numbers arity k₀ k = (arity ≡ arityOf transitions at
 abbrev μ-loop : tie.MeasureT-loop
 μ-loop transitions at numbers arity k₀ k = arity - k
 
-arity-of-requires : tie.Need-arity-of-requires Inv-loop μ-loop
-arity-of-requires c κs = search needs
-
 loop-holds : tie.Need-loop-holds Inv-loop μ-loop
 loop-holds c = (c .arity-of .ensures, product-start)
 
-arg-of-requires : tie.Need-arg-of-requires Inv-loop μ-loop
-arg-of-requires c κs = search needs
-
-element-copy-out-if1 : tie.Need-element-copy-out-if1 Inv-loop μ-loop
-element-copy-out-if1 c = search needs
-
 returns : tie.Need-returns Inv-loop μ-loop
 returns c = λ e. absurd (false≢true e)
-
-add-k : tie.Need-add-k Inv-loop μ-loop
-add-k c = search needs
-
-loop-less : tie.Need-loop-less Inv-loop μ-loop
-loop-less c = search needs
 
 loop-again : tie.Need-loop-again Inv-loop μ-loop
 loop-again c =
@@ -49,16 +34,5 @@ returns-2 c h = product-end (c .before .loop .inv .1) (omega arith)
 
 pub all-ones-spec : {M : Type 1} → statement M
 all-ones-spec =
-    tie.close
-    (tie.spec
-    Inv-loop
-    μ-loop
-    arity-of-requires
-    loop-holds
-    arg-of-requires
-    element-copy-out-if1
-    returns
-    add-k
-    loop-less
-    loop-again
-    returns-2)
+    tie.close (tie.spec Inv-loop μ-loop (λ c κs. search needs) loop-holds (λ c κs. search needs)
+    (λ c. search needs) returns (λ c. search needs) (λ c. search needs) loop-again returns-2)

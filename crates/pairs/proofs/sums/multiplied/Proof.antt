@@ -16,20 +16,8 @@ Inv-loop transitions at numbers arity product₀ k₀ product k = (arity ≡ ari
 abbrev μ-loop : tie.MeasureT-loop
 μ-loop transitions at numbers arity product₀ k₀ product k = arity - k
 
-arity-of-requires : tie.Need-arity-of-requires Inv-loop μ-loop
-arity-of-requires c κs = search needs
-
 loop-holds : tie.Need-loop-holds Inv-loop μ-loop
 loop-holds c = (c .arity-of .ensures, product-start)
-
-arg-of-requires : tie.Need-arg-of-requires Inv-loop μ-loop
-arg-of-requires c κs = search needs
-
-element-copy-out-index : tie.Need-element-copy-out-index Inv-loop μ-loop
-element-copy-out-index c = search needs
-
-index-requires : tie.Need-index-requires Inv-loop μ-loop
-index-requires c κs = search needs
 
 returns : tie.Need-returns Inv-loop μ-loop
 returns c =
@@ -44,15 +32,6 @@ mul-capped c =
     let l = mul-le-mul (now .loop .inv .1 .small) h in
     omega arith
 
-capped-requires : tie.Need-capped-requires Inv-loop μ-loop
-capped-requires c κs = search needs
-
-add-k : tie.Need-add-k Inv-loop μ-loop
-add-k c = search needs
-
-loop-less : tie.Need-loop-less Inv-loop μ-loop
-loop-less c = search needs
-
 loop-again : tie.Need-loop-again Inv-loop μ-loop
 loop-again c =
     let now = c .before .before .before .before .before .before in (
@@ -66,19 +45,6 @@ returns-2 c = product-end (c .before .loop .inv .1) (omega arith)
 
 pub multiplied-spec : {M : Type 1} → statement M
 multiplied-spec =
-    tie.close
-    (tie.spec
-    Inv-loop
-    μ-loop
-    arity-of-requires
-    loop-holds
-    arg-of-requires
-    element-copy-out-index
-    index-requires
-    returns
-    mul-capped
-    capped-requires
-    add-k
-    loop-less
-    loop-again
-    returns-2)
+    tie.close (tie.spec Inv-loop μ-loop (λ c κs. search needs) loop-holds (λ c κs. search needs)
+    (λ c. search needs) (λ c κs. search needs) returns mul-capped (λ c κs. search needs) (λ c. search needs)
+    (λ c. search needs) loop-again returns-2)

@@ -18,9 +18,6 @@ abbrev μ-loop : tie.MeasureT-loop
 loop-holds : tie.Need-loop-holds Inv-loop μ-loop
 loop-holds c = sum-start (c .before .pre .1 .0)
 
-mul-product : tie.Need-mul-product Inv-loop μ-loop
-mul-product c = search needs
-
 product-requires : tie.Need-product-requires Inv-loop μ-loop
 product-requires c κs = readable (c .before .before .before .pre .0) (c .before .loop .i) (omega arith)
 
@@ -29,12 +26,6 @@ add-sum c = omega (arith, c .before .before .loop .inv .small, c .product .ensur
 
 returns : tie.Need-returns Inv-loop μ-loop
 returns c = sum-over (c .before .before .before .before .before .pre .1 .1) (c .before .before .before .loop .inv) (omega arith) (c .before .product .ensures) (omega arith)
-
-add-i : tie.Need-add-i Inv-loop μ-loop
-add-i c = search needs
-
-loop-less : tie.Need-loop-less Inv-loop μ-loop
-loop-less c = omega arith
 
 loop-again : tie.Need-loop-again Inv-loop μ-loop
 loop-again c =
@@ -45,16 +36,5 @@ returns-2 c = sum-end (c .before .loop .inv) (omega arith)
 
 pub sum-fits-spec : {M : Type 1} → statement M
 sum-fits-spec =
-    tie.close
-    (tie.spec
-    Inv-loop
-    μ-loop
-    loop-holds
-    mul-product
-    product-requires
-    add-sum
-    returns
-    add-i
-    loop-less
-    loop-again
-    returns-2)
+    tie.close (tie.spec Inv-loop μ-loop loop-holds (λ c. search needs) product-requires add-sum returns
+    (λ c. search needs) (λ c. omega arith) loop-again returns-2)

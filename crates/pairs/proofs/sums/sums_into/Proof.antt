@@ -17,19 +17,10 @@ abbrev μ-loop : tie.MeasureT-loop
 loop-holds : tie.Need-loop-holds Inv-loop μ-loop
 loop-holds c = sums-start (c .before .pre .1)
 
-mul-add-product : tie.Need-mul-add-product Inv-loop μ-loop
-mul-add-product c = search needs
-
 add-product-requires : tie.Need-add-product-requires Inv-loop μ-loop
 add-product-requires c κs =
     let start = c .before .before .before .before in
     let now = c .before .before .loop in (readable (start .pre .0) (now .i) (omega arith), now .inv .size)
-
-add-i : tie.Need-add-i Inv-loop μ-loop
-add-i c = search needs
-
-loop-less : tie.Need-loop-less Inv-loop μ-loop
-loop-less c = omega arith
 
 loop-again : tie.Need-loop-again Inv-loop μ-loop
 loop-again c = sums-next (c .before .before .before .loop .inv) (omega arith) (c .add-product .ensures)
@@ -39,14 +30,5 @@ returns c = sums-end (c .before .loop .inv) (omega arith)
 
 pub sums-into-spec : {M : Type 1} → statement M
 sums-into-spec =
-    tie.close
-    (tie.spec
-    Inv-loop
-    μ-loop
-    loop-holds
-    mul-add-product
-    add-product-requires
-    add-i
-    loop-less
-    loop-again
-    returns)
+    tie.close (tie.spec Inv-loop μ-loop loop-holds (λ c. search needs) add-product-requires (λ c. search needs)
+    (λ c. omega arith) loop-again returns)

@@ -60,9 +60,6 @@ choose-Inv-loop transitions at k firsts nexts n m metas keys names own prefix he
 abbrev choose-μ-loop : choose-lts.MeasureT-loop
 choose-μ-loop transitions at k firsts nexts n m metas keys names own prefix heads₀ args₀ count arity made₀ x₀ heads args made x = chainLeft x
 
-choose-arity-of-requires : (t : ℕ) → choose-lts.Need-arity-of-requires (choose-calls t) (choose-at t) choose.Post choose-Inv-loop choose-μ-loop
-choose-arity-of-requires t c κs = search needs
-
 choose-finish-requires : (t : ℕ) → choose-lts.Need-finish-requires (choose-calls t) (choose-at t) choose.Post choose-Inv-loop choose-μ-loop
 choose-finish-requires t c κs =
     let start = c .before .before .before .before .before .before .before in
@@ -81,12 +78,6 @@ choose-finish-requires t c κs =
         ),
       ),
     )
-
-choose-same-length : (t : ℕ) → choose-lts.Need-same-length (choose-calls t) (choose-at t) choose.Post choose-Inv-loop choose-μ-loop
-choose-same-length t c = search needs
-
-choose-same-length-2 : (t : ℕ) → choose-lts.Need-same-length-2 (choose-calls t) (choose-at t) choose.Post choose-Inv-loop choose-μ-loop
-choose-same-length-2 t c = search needs
 
 choose-returns : (t : ℕ) → choose-lts.Need-returns (choose-calls t) (choose-at t) choose.Post choose-Inv-loop choose-μ-loop
 choose-returns t c =
@@ -109,15 +100,6 @@ choose-choose-last-requires t c κs =
     let arity-of-call = c .before .before .before .before .arity-of in
     (pre .1 .0, ((c .before .before .if2 .taken) ∙ arity-of-call .ensures, pre .1 .1 .1))
 
-choose-same-length-3 : (t : ℕ) → choose-lts.Need-same-length-3 (choose-calls t) (choose-at t) choose.Post choose-Inv-loop choose-μ-loop
-choose-same-length-3 t c = search needs
-
-choose-same-length-4 : (t : ℕ) → choose-lts.Need-same-length-4 (choose-calls t) (choose-at t) choose.Post choose-Inv-loop choose-μ-loop
-choose-same-length-4 t c = search needs
-
-choose-returns-2 : (t : ℕ) → choose-lts.Need-returns-2 (choose-calls t) (choose-at t) choose.Post choose-Inv-loop choose-μ-loop
-choose-returns-2 t c = search needs
-
 choose-arg-of-requires : (t : ℕ) → choose-lts.Need-arg-of-requires (choose-calls t) (choose-at t) choose.Post choose-Inv-loop choose-μ-loop
 choose-arg-of-requires t c κs =
     let start = c .before .before .before .before .before .before in (
@@ -131,12 +113,6 @@ choose-arg-of-requires t c κs =
         c .before .if1 .left,
       ),
     )
-
-choose-element-copy-out-index : (t : ℕ) → choose-lts.Need-element-copy-out-index (choose-calls t) (choose-at t) choose.Post choose-Inv-loop choose-μ-loop
-choose-element-copy-out-index t c = search needs
-
-choose-index-requires : (t : ℕ) → choose-lts.Need-index-requires (choose-calls t) (choose-at t) choose.Post choose-Inv-loop choose-μ-loop
-choose-index-requires t c κs = search needs
 
 choose-loop-holds : (t : ℕ) → choose-lts.Need-loop-holds (choose-calls t) (choose-at t) choose.Post choose-Inv-loop choose-μ-loop
 choose-loop-holds t c =
@@ -234,9 +210,6 @@ choose-element-copy-out-index-2 : (t : ℕ) → choose-lts.Need-element-copy-out
 choose-element-copy-out-index-2 t c =
     omega (arith, c .before .before .before .before .before .before .before .before .loop .inv .1)
 
-choose-index-requires-2 : (t : ℕ) → choose-lts.Need-index-requires-2 (choose-calls t) (choose-at t) choose.Post choose-Inv-loop choose-μ-loop
-choose-index-requires-2 t c κs = search needs
-
 choose-loop-less : (t : ℕ) → choose-lts.Need-loop-less (choose-calls t) (choose-at t) choose.Post choose-Inv-loop choose-μ-loop
 choose-loop-less t c =
     let start = c .before .before .before .before .before .before .before .before .before .before .before
@@ -258,12 +231,6 @@ choose-loop-again t c =
       c .index2 .ensures .1,
     )
 
-choose-same-length-5 : (t : ℕ) → choose-lts.Need-same-length-5 (choose-calls t) (choose-at t) choose.Post choose-Inv-loop choose-μ-loop
-choose-same-length-5 t c = search needs
-
-choose-same-length-6 : (t : ℕ) → choose-lts.Need-same-length-6 (choose-calls t) (choose-at t) choose.Post choose-Inv-loop choose-μ-loop
-choose-same-length-6 t c = search needs
-
 choose-returns-3 : (t : ℕ) → choose-lts.Need-returns-3 (choose-calls t) (choose-at t) choose.Post choose-Inv-loop choose-μ-loop
 choose-returns-3 t c =
     let start = c .before .before .before .before .before .before .before .before .before .before .before in
@@ -273,33 +240,11 @@ choose-returns-3 t c =
     (c .before .loop .x) (omega arith))
 
 pub +choose-spec : {M : Type 1} → statement M
-+choose-spec = close μ-choose λ t. choose-lts.spec (choose-calls t)
-    (choose-at t)
-    choose.Post
-    choose-Inv-loop
-    choose-μ-loop
-    (choose-arity-of-requires t)
-    (choose-finish-requires t)
-    (choose-same-length t)
-    (choose-same-length-2 t)
-    (choose-returns t)
-    (choose-add-if2 t)
-    (choose-choose-last-requires t)
-    (choose-same-length-3 t)
-    (choose-same-length-4 t)
-    (choose-returns-2 t)
-    (choose-arg-of-requires t)
-    (choose-element-copy-out-index t)
-    (choose-index-requires t)
-    (choose-loop-holds t)
-    (choose-add-choose t)
-    (choose-mul-choose t)
-    (choose-add-choose-2 t)
-    (choose-choose-requires t)
-    (choose-element-copy-out-index-2 t)
-    (choose-index-requires-2 t)
-    (choose-loop-less t)
-    (choose-loop-again t)
-    (choose-same-length-5 t)
-    (choose-same-length-6 t)
-    (choose-returns-3 t)
++choose-spec =
+    close μ-choose λ t. choose-lts.spec (choose-calls t) (choose-at t) choose.Post choose-Inv-loop choose-μ-loop
+    (λ c κs. search needs) (choose-finish-requires t) (λ c. search needs) (λ c. search needs) (choose-returns t)
+    (choose-add-if2 t) (choose-choose-last-requires t) (λ c. search needs) (λ c. search needs)
+    (λ c. search needs) (choose-arg-of-requires t) (λ c. search needs) (λ c κs. search needs) (choose-loop-holds
+    t) (choose-add-choose t) (choose-mul-choose t) (choose-add-choose-2 t) (choose-choose-requires t)
+    (choose-element-copy-out-index-2 t) (λ c κs. search needs) (choose-loop-less t) (choose-loop-again t)
+    (λ c. search needs) (λ c. search needs) (choose-returns-3 t)

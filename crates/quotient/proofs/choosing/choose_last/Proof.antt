@@ -23,15 +23,6 @@ abbrev μ-loop : tie.MeasureT-loop
 μ-loop transitions at k firsts nexts n m metas keys names own prefix heads₀ args₀ count made₀ x₀ heads args made x =
     chainLeft x
 
-arg-of-requires : tie.Need-arg-of-requires Inv-loop μ-loop
-arg-of-requires c κs = search needs
-
-element-copy-out-index : tie.Need-element-copy-out-index Inv-loop μ-loop
-element-copy-out-index c = search needs
-
-index-requires : tie.Need-index-requires Inv-loop μ-loop
-index-requires c κs = search needs
-
 loop-holds : tie.Need-loop-holds Inv-loop μ-loop
 loop-holds c =
     let start = c .before .before .before .before .before .before in
@@ -88,12 +79,6 @@ finish-requires c κs =
       ),
     )
 
-element-copy-out-index-2 : tie.Need-element-copy-out-index-2 Inv-loop μ-loop
-element-copy-out-index-2 c = search needs
-
-index-requires-2 : tie.Need-index-requires-2 Inv-loop μ-loop
-index-requires-2 c κs = search needs
-
 loop-less : tie.Need-loop-less Inv-loop μ-loop
 loop-less c =
     let inside = c .before .before .before .before .before .before .before .before .before in
@@ -120,12 +105,6 @@ loop-again c =
       c .index2 .ensures .1,
     )
 
-same-length : tie.Need-same-length Inv-loop μ-loop
-same-length c = search needs
-
-same-length-2 : tie.Need-same-length-2 Inv-loop μ-loop
-same-length-2 c = search needs
-
 returns : tie.Need-returns Inv-loop μ-loop
 returns c =
     let start = c .before .before .before .before .before .before .before .before in
@@ -137,21 +116,6 @@ returns c =
 
 pub choose-last-spec : {M : Type 1} → statement M
 choose-last-spec =
-    tie.close
-    (tie.spec
-    Inv-loop
-    μ-loop
-    arg-of-requires
-    element-copy-out-index
-    index-requires
-    loop-holds
-    mul-finish
-    add-finish
-    finish-requires
-    element-copy-out-index-2
-    index-requires-2
-    loop-less
-    loop-again
-    same-length
-    same-length-2
-    returns)
+    tie.close (tie.spec Inv-loop μ-loop (λ c κs. search needs) (λ c. search needs) (λ c κs. search needs)
+    loop-holds mul-finish add-finish finish-requires (λ c. search needs) (λ c κs. search needs) loop-less
+    loop-again (λ c. search needs) (λ c. search needs) returns)

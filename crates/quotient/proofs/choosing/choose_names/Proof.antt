@@ -7,9 +7,6 @@ use borrow.Author.Needs.{needs}
 use Rattle.quotient.proofs.choosing.choose_names.Statement.{statement}
 use Rattle.quotient.proofs.choosing.choose_names.Tie as tie
 
-first-names-requires : tie.Need-first-names-requires
-first-names-requires c κs = search needs
-
 returns : tie.Need-returns
 returns c =
     let a = c .before .before .before .before .before .args in
@@ -33,12 +30,6 @@ finish-requires c κs =
       ),
     )
 
-same-length : tie.Need-same-length
-same-length c = search needs
-
-same-length-2 : tie.Need-same-length-2
-same-length-2 c = search needs
-
 returns-2 : tie.Need-returns-2
 returns-2 c =
     let at-if = c .before .before .before .before .before .before .before in
@@ -53,26 +44,7 @@ choose-requires c κs =
     let pre = c .before .before .before .before .before .before .before .before .pre in
     (pre .0, (omega arith, (pre .1 .0, (pre .1 .1 .0, (omega arith, pre .1 .1 .1)))))
 
-same-length-3 : tie.Need-same-length-3
-same-length-3 c = search needs
-
-same-length-4 : tie.Need-same-length-4
-same-length-4 c = search needs
-
-returns-3 : tie.Need-returns-3
-returns-3 c = search needs
-
 pub choose-names-spec : {M : Type 1} → statement M
 choose-names-spec =
-    tie.close
-    (tie.spec
-    first-names-requires
-    returns
-    finish-requires
-    same-length
-    same-length-2
-    returns-2
-    choose-requires
-    same-length-3
-    same-length-4
-    returns-3)
+    tie.close (tie.spec (λ c κs. search needs) returns finish-requires (λ c. search needs) (λ c. search needs)
+    returns-2 choose-requires (λ c. search needs) (λ c. search needs) (λ c. search needs))

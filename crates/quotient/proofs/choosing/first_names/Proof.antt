@@ -16,25 +16,10 @@ Inv-loop transitions at firsts nexts n arity none₀ only₀ own₀ prefix₀ k�
 abbrev μ-loop : tie.MeasureT-loop
 μ-loop transitions at firsts nexts n arity none₀ only₀ own₀ prefix₀ k₀ none only own prefix k = arity - k
 
-arity-of-requires : tie.Need-arity-of-requires Inv-loop μ-loop
-arity-of-requires c κs = search needs
-
 loop-holds : tie.Need-loop-holds Inv-loop μ-loop
 loop-holds c =
     let a = c .before .before .args in
     firsts-start (a .transitions .now) (a .at) (a .firsts .now) (a .nexts .now) (a .n)
-
-arg-of-requires : tie.Need-arg-of-requires Inv-loop μ-loop
-arg-of-requires c κs = search needs
-
-element-copy-out-index : tie.Need-element-copy-out-index Inv-loop μ-loop
-element-copy-out-index c = search needs
-
-index-requires : tie.Need-index-requires Inv-loop μ-loop
-index-requires c κs = search needs
-
-element-copy-out-only : tie.Need-element-copy-out-only Inv-loop μ-loop
-element-copy-out-only c = search needs
 
 mul-prefix : tie.Need-mul-prefix Inv-loop μ-loop
 mul-prefix c =
@@ -60,12 +45,6 @@ add-prefix c =
           (loop .inv .below) (first .ensures .1),
     )
 
-add-k : tie.Need-add-k Inv-loop μ-loop
-add-k c = search needs
-
-loop-less : tie.Need-loop-less Inv-loop μ-loop
-loop-less c = search needs
-
 loop-again : tie.Need-loop-again Inv-loop μ-loop
 loop-again c =
     let start = c .before .before .before .before .before .before .before .before in
@@ -88,19 +67,6 @@ returns c =
 
 pub first-names-spec : {M : Type 1} → statement M
 first-names-spec =
-    tie.close
-    (tie.spec
-    Inv-loop
-    μ-loop
-    arity-of-requires
-    loop-holds
-    arg-of-requires
-    element-copy-out-index
-    index-requires
-    element-copy-out-only
-    mul-prefix
-    add-prefix
-    add-k
-    loop-less
-    loop-again
-    returns)
+    tie.close (tie.spec Inv-loop μ-loop (λ c κs. search needs) loop-holds (λ c κs. search needs)
+    (λ c. search needs) (λ c κs. search needs) (λ c. search needs) mul-prefix add-prefix (λ c. search needs)
+    (λ c. search needs) loop-again returns)

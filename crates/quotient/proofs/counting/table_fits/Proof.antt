@@ -7,17 +7,8 @@ use borrow.Author.Needs.{needs}
 use Rattle.quotient.proofs.counting.table_fits.Statement.{statement}
 use Rattle.quotient.proofs.counting.table_fits.Tie as tie
 
-count-kept-requires : tie.Need-count-kept-requires
-count-kept-requires c κs = search needs
-
 returns : tie.Need-returns
 returns c = λ A t ν firsts nexts H K. fits-not H _ (c .before .count-kept .ensures) (omega arith)
-
-count-new-requires : tie.Need-count-new-requires
-count-new-requires c κs = search needs
-
-count-gone-requires : tie.Need-count-gone-requires
-count-gone-requires c κs = search needs
 
 add-sum-fits : tie.Need-add-sum-fits
 add-sum-fits c =
@@ -67,12 +58,5 @@ returns-2 c =
 
 pub table-fits-spec : {M : Type 1} → statement M
 table-fits-spec =
-    tie.close
-    (tie.spec
-    count-kept-requires
-    returns
-    count-new-requires
-    count-gone-requires
-    add-sum-fits
-    sum-fits-requires
-    returns-2)
+    tie.close (tie.spec (λ c κs. search needs) returns (λ c κs. search needs) (λ c κs. search needs)
+    add-sum-fits sum-fits-requires returns-2)

@@ -8,23 +8,11 @@ use Rattle.quotient.proofs.entries.emit.Tie as tie
 returns : tie.Need-returns
 returns c = rw (eq-eqb (c .before .before .before .args .out) 0 (c .if1 .taken)) appended-none
 
-mul-push : tie.Need-mul-push
-mul-push c = search needs
-
-add-push : tie.Need-add-push
-add-push c = search needs
-
 push-requires : tie.Need-push-requires
 push-requires c κs =
     let start = c .before .before .before .before .before in
     let a = start .args in
     rw (ne-eqb (a .out) 0 (c .before .before .if1 .left)) at (start .pre .0)
-
-same-length : tie.Need-same-length
-same-length c = search needs
-
-same-length-2 : tie.Need-same-length-2
-same-length-2 c = search needs
 
 returns-2 : tie.Need-returns-2
 returns-2 c =
@@ -34,4 +22,6 @@ returns-2 c =
     rw (ne-eqb (a .out) 0 (if1 .left)) (c .before .before .before .before .push .ensures)
 
 pub emit-spec : {M : Type 1} → statement M
-emit-spec = tie.close (tie.spec returns mul-push add-push push-requires same-length same-length-2 returns-2)
+emit-spec =
+    tie.close (tie.spec returns (λ c. search needs) (λ c. search needs) push-requires (λ c. search needs)
+    (λ c. search needs) returns-2)

@@ -9,25 +9,10 @@ use borrow.Author.Needs.{needs}
 use Rattle.quotient.proofs.finishing.finish.Statement.{statement}
 use Rattle.quotient.proofs.finishing.finish.Tie as tie
 
-meta-at-requires : tie.Need-meta-at-requires
-meta-at-requires c κs = search needs
-
-arity-of-requires : tie.Need-arity-of-requires
-arity-of-requires c κs = search needs
-
 padded-requires : tie.Need-padded-requires
 padded-requires c κs =
     let start = c .before .before .before .before .before in
     (omega (arith, c .arity-of .ensures, start .pre .0 .narrow), rw (c .arity-of .ensures) (start .pre .1 .1 .0))
-
-out-of-requires : tie.Need-out-of-requires
-out-of-requires c κs = search needs
-
-cast-out : tie.Need-cast-out
-cast-out c = search needs
-
-node-name-requires : tie.Need-node-name-requires
-node-name-requires c κs = search needs
 
 emit-requires : tie.Need-emit-requires
 emit-requires c κs =
@@ -46,12 +31,6 @@ emit-requires c κs =
       omega
           (arith, meta-at-call .ensures, start .pre .0 .narrow, known .given (a .at), known .given (a .at + 1)),
     )
-
-same-length : tie.Need-same-length
-same-length c = search needs
-
-same-length-2 : tie.Need-same-length-2
-same-length-2 c = search needs
 
 returns : tie.Need-returns
 returns c =
@@ -92,12 +71,6 @@ emit-requires-2 c κs =
       ),
     )
 
-same-length-3 : tie.Need-same-length-3
-same-length-3 c = search needs
-
-same-length-4 : tie.Need-same-length-4
-same-length-4 c = search needs
-
 returns-2 : tie.Need-returns-2
 returns-2 c =
     let start = c .before .before .before .before .before .before .before .before .before .before .before
@@ -115,19 +88,6 @@ returns-2 c =
 
 pub finish-spec : {M : Type 1} → statement M
 finish-spec =
-    tie.close
-    (tie.spec
-    meta-at-requires
-    arity-of-requires
-    padded-requires
-    out-of-requires
-    cast-out
-    node-name-requires
-    emit-requires
-    same-length
-    same-length-2
-    returns
-    emit-requires-2
-    same-length-3
-    same-length-4
-    returns-2)
+    tie.close (tie.spec (λ c κs. search needs) (λ c κs. search needs) padded-requires (λ c κs. search needs)
+    (λ c. search needs) (λ c κs. search needs) emit-requires (λ c. search needs) (λ c. search needs) returns
+    emit-requires-2 (λ c. search needs) (λ c. search needs) returns-2)

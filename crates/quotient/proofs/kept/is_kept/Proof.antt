@@ -10,26 +10,11 @@ use borrow.Author.Needs.{needs}
 use Rattle.quotient.proofs.kept.is_kept.Statement.{statement}
 use Rattle.quotient.proofs.kept.is_kept.Tie as tie
 
-element-copy-out-result : tie.Need-element-copy-out-result
-element-copy-out-result c = search needs
-
 returns : tie.Need-returns
 returns c =
     let start = c .before .before in
     let a = start .args in
     rw (le-leb (a .x) (a .n) (c .before .if1 .taken)) (unequal-nonzero (getD (a .opens .now) (a .x) 0))
-
-sub-wide : tie.Need-sub-wide
-sub-wide c = search needs
-
-sub-wide-2 : tie.Need-sub-wide-2
-sub-wide-2 c = search needs
-
-element-copy-out-wide : tie.Need-element-copy-out-wide
-element-copy-out-wide c = search needs
-
-wide-requires : tie.Need-wide-requires
-wide-requires c κs = search needs
 
 returns-2 : tie.Need-returns-2
 returns-2 c =
@@ -39,12 +24,5 @@ returns-2 c =
 
 pub is-kept-spec : {M : Type 1} → statement M
 is-kept-spec =
-    tie.close
-    (tie.spec
-    element-copy-out-result
-    returns
-    sub-wide
-    sub-wide-2
-    element-copy-out-wide
-    wide-requires
-    returns-2)
+    tie.close (tie.spec (λ c. search needs) returns (λ c. search needs) (λ c. search needs) (λ c. search needs)
+    (λ c κs. search needs) returns-2)

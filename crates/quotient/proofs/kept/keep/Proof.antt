@@ -15,9 +15,6 @@ Inv-loop n m opens states names firsts₀ nexts₀ sizes₀ x₀ firsts nexts si
 abbrev μ-loop : tie.MeasureT-loop
 μ-loop n m opens states names firsts₀ nexts₀ sizes₀ x₀ firsts nexts sizes x = x
 
-add-x : tie.Need-add-x Inv-loop μ-loop
-add-x c = search needs
-
 loop-holds : tie.Need-loop-holds Inv-loop μ-loop
 loop-holds c =
     let a = c .before .before .before .args in
@@ -28,12 +25,6 @@ keep-name-requires c κs =
     let loop = c .before .before .before .before .loop in
     let start = c .before .before .before .before .before .before .before .before in
     (start .pre .0, (start .pre .1, (omega arith, (loop .inv .1, loop .inv .0))))
-
-sub-x : tie.Need-sub-x Inv-loop μ-loop
-sub-x c = search needs
-
-loop-less : tie.Need-loop-less Inv-loop μ-loop
-loop-less c = omega arith
 
 loop-again : tie.Need-loop-again Inv-loop μ-loop
 loop-again c = (c .keep-name .ensures, omega (arith, c .before .before .before .before .before .loop .inv .1))
@@ -48,14 +39,5 @@ returns c =
 
 pub keep-spec : {M : Type 1} → statement M
 keep-spec =
-    tie.close
-    (tie.spec
-    Inv-loop
-    μ-loop
-    add-x
-    loop-holds
-    keep-name-requires
-    sub-x
-    loop-less
-    loop-again
-    returns)
+    tie.close (tie.spec Inv-loop μ-loop (λ c. search needs) loop-holds keep-name-requires (λ c. search needs)
+    (λ c. omega arith) loop-again returns)

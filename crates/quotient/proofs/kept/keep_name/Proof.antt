@@ -7,18 +7,12 @@ use borrow.Author.Needs.{needs}
 use Rattle.quotient.proofs.kept.keep_name.Statement.{statement}
 use Rattle.quotient.proofs.kept.keep_name.Tie as tie
 
-is-kept-requires : tie.Need-is-kept-requires
-is-kept-requires c κs = search needs
-
 returns : tie.Need-returns
 returns c =
     let start = c .before .before in
     let a = start .args in
     kept-skip (a .n) (a .m) (a .opens .now) (a .states .now) (a .names .now) (start .pre .1 .1 .0) (start .pre .1 .1
     .1 .0) (sym (c .before .is-kept .ensures) ∙ not-true _ (c .if1 .taken)) (start .pre .1 .1 .1 .1)
-
-state-of-requires : tie.Need-state-of-requires
-state-of-requires c κs = search needs
 
 put-first-requires : tie.Need-put-first-requires
 put-first-requires c κs =
@@ -61,4 +55,4 @@ returns-2 c =
 
 pub keep-name-spec : {M : Type 1} → statement M
 keep-name-spec =
-    tie.close (tie.spec is-kept-requires returns state-of-requires put-first-requires returns-2)
+    tie.close (tie.spec (λ c κs. search needs) returns (λ c κs. search needs) put-first-requires returns-2)

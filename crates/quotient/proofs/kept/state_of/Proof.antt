@@ -8,18 +8,6 @@ use Rattle.quotient.proofs.kept.state_of.Tie as tie
 returns : tie.Need-returns
 returns c = (rw (le-leb (c .before .args .x) (c .before .args .n) (c .if1 .taken)), omega arith)
 
-sub-index : tie.Need-sub-index
-sub-index c = search needs
-
-sub-index-2 : tie.Need-sub-index-2
-sub-index-2 c = search needs
-
-element-copy-out-index : tie.Need-element-copy-out-index
-element-copy-out-index c = search needs
-
-index-requires : tie.Need-index-requires
-index-requires c κs = search needs
-
 returns-2 : tie.Need-returns-2
 returns-2 c =
     let start = c .before .before .before in
@@ -28,5 +16,5 @@ returns-2 c =
 
 pub state-of-spec : {M : Type 1} → statement M
 state-of-spec =
-    tie.close
-    (tie.spec returns sub-index sub-index-2 element-copy-out-index index-requires returns-2)
+    tie.close (tie.spec returns (λ c. search needs) (λ c. search needs) (λ c. search needs)
+    (λ c κs. search needs) returns-2)

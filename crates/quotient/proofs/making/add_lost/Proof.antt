@@ -47,12 +47,6 @@ add-new-requires c κs =
       ),
     )
 
-add-j : tie.Need-add-j Inv-loop μ-loop
-add-j c = search needs
-
-loop-less : tie.Need-loop-less Inv-loop μ-loop
-loop-less c = omega arith
-
 loop-again : tie.Need-loop-again Inv-loop μ-loop
 loop-again c =
     let start = c .before .before .before .before .before .before .before .before .before .before .before in
@@ -65,12 +59,6 @@ loop-again c =
       omega arith,
     )
 
-same-length : tie.Need-same-length Inv-loop μ-loop
-same-length c = search needs
-
-same-length-2 : tie.Need-same-length-2 Inv-loop μ-loop
-same-length-2 c = search needs
-
 returns : tie.Need-returns Inv-loop μ-loop
 returns c =
     let start = c .before .before .before .before in
@@ -80,5 +68,5 @@ returns c =
 
 pub add-lost-spec : {M : Type 1} → statement M
 add-lost-spec =
-    tie.close
-    (tie.spec Inv-loop μ-loop loop-holds add-new-requires add-j loop-less loop-again same-length same-length-2 returns)
+    tie.close (tie.spec Inv-loop μ-loop loop-holds add-new-requires (λ c. search needs) (λ c. omega arith)
+    loop-again (λ c. search needs) (λ c. search needs) returns)

@@ -31,9 +31,6 @@ loop-holds c =
       refl,
     )
 
-mul-choose-at : tie.Need-mul-choose-at Inv-loop μ-loop
-mul-choose-at c = search needs
-
 choose-at-requires : tie.Need-choose-at-requires Inv-loop μ-loop
 choose-at-requires c κs =
     let start = c .before .before .before .before .before .before .before .before in
@@ -72,12 +69,6 @@ note-end-requires c κs =
     (start .pre .1 .1 .1 .1) in
     omega (arith, room .few, room .within, chosen .choose-at .ensures .count)
 
-add-i : tie.Need-add-i Inv-loop μ-loop
-add-i c = search needs
-
-loop-less : tie.Need-loop-less Inv-loop μ-loop
-loop-less c = omega arith
-
 loop-again : tie.Need-loop-again Inv-loop μ-loop
 loop-again c =
     let chosen = c .before .before .before .before .before .before .before .before in
@@ -94,12 +85,6 @@ loop-again c =
       omega (arith, c .before .before .note-end .kept, loop .inv .2),
     )
 
-same-length : tie.Need-same-length Inv-loop μ-loop
-same-length c = search needs
-
-same-length-2 : tie.Need-same-length-2 Inv-loop μ-loop
-same-length-2 c = search needs
-
 same-length-3 : tie.Need-same-length-3 Inv-loop μ-loop
 same-length-3 c = c .before .loop .inv .2
 
@@ -112,18 +97,6 @@ returns c =
 
 pub choose-all-spec : {M : Type 1} → statement M
 choose-all-spec =
-    tie.close
-    (tie.spec
-    Inv-loop
-    μ-loop
-    loop-holds
-    mul-choose-at
-    choose-at-requires
-    note-end-requires
-    add-i
-    loop-less
-    loop-again
-    same-length
-    same-length-2
-    same-length-3
+    tie.close (tie.spec Inv-loop μ-loop loop-holds (λ c. search needs) choose-at-requires note-end-requires
+    (λ c. search needs) (λ c. omega arith) loop-again (λ c. search needs) (λ c. search needs) same-length-3
     returns)

@@ -94,15 +94,6 @@ add-lost-requires c κs =
       ),
     )
 
-same-length : tie.Need-same-length
-same-length c = search needs
-
-same-length-2 : tie.Need-same-length-2
-same-length-2 c = search needs
-
-same-length-3 : tie.Need-same-length-3
-same-length-3 c = search needs
-
 returns : tie.Need-returns
 returns c =
     let at-add = c .before .before .before .before in
@@ -128,14 +119,5 @@ returns c =
 
 pub make-spec : {M : Type 1} → statement M
 make-spec =
-    tie.close
-    (tie.spec
-    pack-metas-requires
-    pack-keys-requires
-    mark-odd-requires
-    choose-all-requires
-    add-lost-requires
-    same-length
-    same-length-2
-    same-length-3
-    returns)
+    tie.close (tie.spec pack-metas-requires pack-keys-requires mark-odd-requires choose-all-requires
+    add-lost-requires (λ c. search needs) (λ c. search needs) (λ c. search needs) returns)

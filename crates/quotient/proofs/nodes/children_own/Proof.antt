@@ -18,20 +18,11 @@ Inv-loop n m labels arities children names j arity k₀ k =
 abbrev μ-loop : tie.MeasureT-loop
 μ-loop n m labels arities children names j arity k₀ k = arity - k
 
-element-copy-out-wide : tie.Need-element-copy-out-wide Inv-loop μ-loop
-element-copy-out-wide c = search needs
-
-wide-requires : tie.Need-wide-requires Inv-loop μ-loop
-wide-requires c κs = search needs
-
 loop-holds : tie.Need-loop-holds Inv-loop μ-loop
 loop-holds c =
     let start = c .before .before in
     let a = start .args in
     (c .wide .ensures, every-start (getD (a .arities .now) (a .j) 0) (omega arith))
-
-mul-has-own : tie.Need-mul-has-own Inv-loop μ-loop
-mul-has-own c = search needs
 
 add-has-own : tie.Need-add-has-own Inv-loop μ-loop
 add-has-own c =
@@ -81,12 +72,6 @@ returns c =
     every-broken (loop .inv .1) (omega (arith, loop .inv .0)) (sym (c .before .has-own .ensures) ∙ not-true _ (c
     .if1 .taken))
 
-add-k : tie.Need-add-k Inv-loop μ-loop
-add-k c = search needs
-
-loop-less : tie.Need-loop-less Inv-loop μ-loop
-loop-less c = omega arith
-
 loop-again : tie.Need-loop-again Inv-loop μ-loop
 loop-again c =
     let loop = c .before .before .before .before .loop in (
@@ -100,19 +85,6 @@ returns-2 c = every-end (c .before .loop .inv .1) (omega (arith, c .before .loop
 
 pub children-own-spec : {M : Type 1} → statement M
 children-own-spec =
-    tie.close
-    (tie.spec
-    Inv-loop
-    μ-loop
-    element-copy-out-wide
-    wide-requires
-    loop-holds
-    mul-has-own
-    add-has-own
-    element-copy-out-has-own
-    has-own-requires
-    returns
-    add-k
-    loop-less
-    loop-again
-    returns-2)
+    tie.close (tie.spec Inv-loop μ-loop (λ c. search needs) (λ c κs. search needs) loop-holds
+    (λ c. search needs) add-has-own element-copy-out-has-own has-own-requires returns (λ c. search needs)
+    (λ c. omega arith) loop-again returns-2)

@@ -8,12 +8,6 @@ use Rattle.quotient.proofs.nodes.digit_of.Tie as tie
 returns : tie.Need-returns
 returns c = (rw (eq-eqb (c .before .args .child) 0 (c .if1 .taken)), omega arith)
 
-wide-requires : tie.Need-wide-requires
-wide-requires c κs = search needs
-
-add-result : tie.Need-add-result
-add-result c = search needs
-
 returns-2 : tie.Need-returns-2
 returns-2 c = (
   rw (ne-eqb (c .before .before .args .child) 0 (c .before .if1 .left)) (omega (arith, c .wide .ensures)),
@@ -22,4 +16,4 @@ returns-2 c = (
 )
 
 pub digit-of-spec : {M : Type 1} → statement M
-digit-of-spec = tie.close (tie.spec returns wide-requires add-result returns-2)
+digit-of-spec = tie.close (tie.spec returns (λ c κs. search needs) (λ c. search needs) returns-2)

@@ -5,15 +5,9 @@ use borrow.Author.Needs.{needs}
 use Rattle.quotient.proofs.nodes.is_gone.Statement.{statement}
 use Rattle.quotient.proofs.nodes.is_gone.Tie as tie
 
-element-copy-out-if1 : tie.Need-element-copy-out-if1
-element-copy-out-if1 c = search needs
-
 returns : tie.Need-returns
 returns c =
     rw (eq-eqb (getD (c .before .before .args .states .now) (c .before .before .args .j) 0) 0 (c .if1 .taken))
-
-element-copy-out-if2 : tie.Need-element-copy-out-if2
-element-copy-out-if2 c = search needs
 
 returns-2 : tie.Need-returns-2
 returns-2 c =
@@ -24,9 +18,6 @@ returns-2 c =
       ne-eqb (getD (a .names .now) (a
           .j) 0) 0 (c .if2 .taken),
     )
-
-children-own-requires : tie.Need-children-own-requires
-children-own-requires c κs = search needs
 
 returns-3 : tie.Need-returns-3
 returns-3 c =
@@ -41,11 +32,5 @@ returns-3 c =
 
 pub is-gone-spec : {M : Type 1} → statement M
 is-gone-spec =
-    tie.close
-    (tie.spec
-    element-copy-out-if1
-    returns
-    element-copy-out-if2
-    returns-2
-    children-own-requires
+    tie.close (tie.spec (λ c. search needs) returns (λ c. search needs) returns-2 (λ c κs. search needs)
     returns-3)

@@ -152,14 +152,5 @@ returns c = omega arith
 
 pub key-of-spec : {M : Type 1} → statement M
 key-of-spec =
-    tie.close
-    (tie.spec
-    with-child-requires
-    with-child-requires-2
-    with-child-requires-3
-    with-child-requires-4
-    with-child-requires-5
-    with-child-requires-6
-    with-child-requires-7
-    with-child-requires-8
-    returns)
+    tie.close (tie.spec with-child-requires with-child-requires-2 with-child-requires-3 with-child-requires-4
+    with-child-requires-5 with-child-requires-6 with-child-requires-7 with-child-requires-8 returns)

@@ -20,18 +20,6 @@ meta-of-requires : tie.Need-meta-of-requires Inv-loop μ-loop
 meta-of-requires c κs =
     (omega (arith, c .before .before .pre .0), c .before .before .pre .1 .0 (c .before .loop .j) (omega arith))
 
-mul-metas : tie.Need-mul-metas Inv-loop μ-loop
-mul-metas c = search needs
-
-element-write-metas : tie.Need-element-write-metas Inv-loop μ-loop
-element-write-metas c = search needs
-
-add-j : tie.Need-add-j Inv-loop μ-loop
-add-j c = search needs
-
-loop-less : tie.Need-loop-less Inv-loop μ-loop
-loop-less c = omega arith
-
 loop-again : tie.Need-loop-again Inv-loop μ-loop
 loop-again c =
     each-next (c .before .before .loop .inv) (omega (arith, c .before .before .before .pre .0)) (c .meta-of .ensures)
@@ -41,15 +29,5 @@ returns c = each-end (c .before .loop .inv) (omega arith)
 
 pub pack-metas-spec : {M : Type 1} → statement M
 pack-metas-spec =
-    tie.close
-    (tie.spec
-    Inv-loop
-    μ-loop
-    loop-holds
-    meta-of-requires
-    mul-metas
-    element-write-metas
-    add-j
-    loop-less
-    loop-again
-    returns)
+    tie.close (tie.spec Inv-loop μ-loop loop-holds meta-of-requires (λ c. search needs) (λ c. search needs)
+    (λ c. search needs) (λ c. omega arith) loop-again returns)

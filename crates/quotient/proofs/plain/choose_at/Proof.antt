@@ -8,21 +8,6 @@ use borrow.Author.Needs.{needs}
 use Rattle.quotient.proofs.plain.choose_at.Statement.{statement}
 use Rattle.quotient.proofs.plain.choose_at.Tie as tie
 
-is-plain-requires : tie.Need-is-plain-requires
-is-plain-requires c κs = search needs
-
-out-of-requires : tie.Need-out-of-requires
-out-of-requires c κs = search needs
-
-cast-out : tie.Need-cast-out
-cast-out c = search needs
-
-meta-at-requires : tie.Need-meta-at-requires
-meta-at-requires c κs = search needs
-
-args-at-requires : tie.Need-args-at-requires
-args-at-requires c κs = search needs
-
 emit-requires : tie.Need-emit-requires
 emit-requires c κs =
     let start = c .before .before .before .before .before .before .before .before .before .before in
@@ -38,12 +23,6 @@ emit-requires c κs =
       room-same (a .count) entry (pre .1 .1 .1 .1 .1),
       omega (arith, meta-at-call .ensures, pre .0 .narrow, known .given (a .at), known .given (a .at + 1)),
     )
-
-same-length : tie.Need-same-length
-same-length c = search needs
-
-same-length-2 : tie.Need-same-length-2
-same-length-2 c = search needs
 
 returns : tie.Need-returns
 returns c =
@@ -65,29 +44,8 @@ choose-names-requires c κs =
     let pre = c .before .before .before .before .before .before .before .pre in
     (pre .0, (pre .1 .1 .0, (pre .1 .1 .1 .1 .0, pre .1 .1 .1 .1 .1)))
 
-same-length-3 : tie.Need-same-length-3
-same-length-3 c = search needs
-
-same-length-4 : tie.Need-same-length-4
-same-length-4 c = search needs
-
-returns-2 : tie.Need-returns-2
-returns-2 c = search needs
-
 pub choose-at-spec : {M : Type 1} → statement M
 choose-at-spec =
-    tie.close
-    (tie.spec
-    is-plain-requires
-    out-of-requires
-    cast-out
-    meta-at-requires
-    args-at-requires
-    emit-requires
-    same-length
-    same-length-2
-    returns
-    choose-names-requires
-    same-length-3
-    same-length-4
-    returns-2)
+    tie.close (tie.spec (λ c κs. search needs) (λ c κs. search needs) (λ c. search needs) (λ c κs. search needs)
+    (λ c κs. search needs) emit-requires (λ c. search needs) (λ c. search needs) returns choose-names-requires
+    (λ c. search needs) (λ c. search needs) (λ c. search needs))

@@ -7,14 +7,8 @@ use borrow.Author.Needs.{needs}
 use Rattle.quotient.proofs.plain.is_plain.Statement.{statement}
 use Rattle.quotient.proofs.plain.is_plain.Tie as tie
 
-arity-of-requires : tie.Need-arity-of-requires
-arity-of-requires c κs = search needs
-
 returns : tie.Need-returns
 returns c = (λ t. absurd (false≢true t), λ t. absurd (false≢true t))
-
-some-marked-requires : tie.Need-some-marked-requires
-some-marked-requires c κs = search needs
 
 returns-2 : tie.Need-returns-2
 returns-2 c = (
@@ -23,4 +17,4 @@ returns-2 c = (
 )
 
 pub is-plain-spec : {M : Type 1} → statement M
-is-plain-spec = tie.close (tie.spec arity-of-requires returns some-marked-requires returns-2)
+is-plain-spec = tie.close (tie.spec (λ c κs. search needs) returns (λ c κs. search needs) returns-2)

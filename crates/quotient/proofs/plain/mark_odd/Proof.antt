@@ -33,12 +33,6 @@ unmark-requires c κs =
     let inv = c .before .before .loop .inv in
     (pre .0, (inv .0, (omega arith, (inv .1, inv .2))))
 
-add-q : tie.Need-add-q Inv-loop μ-loop
-add-q c = search needs
-
-loop-less : tie.Need-loop-less Inv-loop μ-loop
-loop-less c = search needs
-
 loop-again : tie.Need-loop-again Inv-loop μ-loop
 loop-again c = (omega (arith, c .before .before .before .loop .inv .0), c .unmark .ensures .0, c .unmark .ensures .1)
 
@@ -47,5 +41,5 @@ returns c = c .before .loop .inv .2
 
 pub mark-odd-spec : {M : Type 1} → statement M
 mark-odd-spec =
-    tie.close
-    (tie.spec Inv-loop μ-loop loop-holds unmark-requires add-q loop-less loop-again returns)
+    tie.close (tie.spec Inv-loop μ-loop loop-holds unmark-requires (λ c. search needs) (λ c. search needs)
+    loop-again returns)

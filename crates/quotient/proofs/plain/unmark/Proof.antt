@@ -7,24 +7,6 @@ use borrow.Author.Needs.{needs}
 use Rattle.quotient.proofs.plain.unmark.Statement.{statement}
 use Rattle.quotient.proofs.plain.unmark.Tie as tie
 
-element-copy-out-index : tie.Need-element-copy-out-index
-element-copy-out-index c = search needs
-
-index-requires : tie.Need-index-requires
-index-requires c κs = search needs
-
-returns : tie.Need-returns
-returns c = search needs
-
-element-copy-out-if2 : tie.Need-element-copy-out-if2
-element-copy-out-if2 c = search needs
-
-returns-2 : tie.Need-returns-2
-returns-2 c = search needs
-
-element-write-odd : tie.Need-element-write-odd
-element-write-odd c = search needs
-
 returns-3 : tie.Need-returns-3
 returns-3 c =
     let start = c .before .before .before .before .before in
@@ -42,12 +24,5 @@ returns-3 c =
 
 pub unmark-spec : {M : Type 1} → statement M
 unmark-spec =
-    tie.close
-    (tie.spec
-    element-copy-out-index
-    index-requires
-    returns
-    element-copy-out-if2
-    returns-2
-    element-write-odd
-    returns-3)
+    tie.close (tie.spec (λ c. search needs) (λ c κs. search needs) (λ c. search needs) (λ c. search needs)
+    (λ c. search needs) (λ c. search needs) returns-3)

@@ -30,9 +30,6 @@ accepting-number-requires c κs =
     let more = c .loop-test .taken in
     (omega (arith, start .pre .0), omega (arith, start .pre .1 .0))
 
-below-requires : tie.Need-below-requires Inv-loop μ-loop
-below-requires c κs = search needs
-
 returns : tie.Need-returns Inv-loop μ-loop
 returns c =
     let now = c .before .before .before .before in
@@ -60,9 +57,6 @@ sub-left c =
     (c .before .before .below .ensures)
     (c .before .if1 .left))
 
-add-q : tie.Need-add-q Inv-loop μ-loop
-add-q c = search needs
-
 loop-less : tie.Need-loop-less Inv-loop μ-loop
 loop-less c = omega (arith, c .before .before .before .before .loop-test .taken)
 
@@ -83,17 +77,5 @@ returns-2 c = absurd (state-more (c .before .loop .inv) (omega arith))
 
 pub choose-state-spec : {M : Type 1} → statement M
 choose-state-spec =
-    tie.close
-    (tie.spec
-    Inv-loop
-    μ-loop
-    loop-holds
-    accepting-number-requires
-    below-requires
-    returns
-    value-of-requires
-    sub-left
-    add-q
-    loop-less
-    loop-again
-    returns-2)
+    tie.close (tie.spec Inv-loop μ-loop loop-holds accepting-number-requires (λ c κs. search needs) returns
+    value-of-requires sub-left (λ c. search needs) loop-less loop-again returns-2)

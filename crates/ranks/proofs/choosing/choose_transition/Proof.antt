@@ -22,15 +22,9 @@ abbrev μ-loop : tie.MeasureT-loop
 loop-holds : tie.Need-loop-holds Inv-loop μ-loop
 loop-holds c = transition-start (c .before .fits .number .fits) (c .before .pre .1)
 
-mul-trees-into : tie.Need-mul-trees-into Inv-loop μ-loop
-mul-trees-into c = search needs
-
 trees-into-requires : tie.Need-trees-into-requires Inv-loop μ-loop
 trees-into-requires c κs =
     readable (c .before .before .before .pre .0) (c .before .loop .i) (c .loop-test .taken)
-
-below-requires : tie.Need-below-requires Inv-loop μ-loop
-below-requires c κs = search needs
 
 returns : tie.Need-returns Inv-loop μ-loop
 returns c =
@@ -53,9 +47,6 @@ sub-left c =
     (c .before .before .below .ensures)
     (c .before .if1 .left))
 
-add-i : tie.Need-add-i Inv-loop μ-loop
-add-i c = search needs
-
 loop-less : tie.Need-loop-less Inv-loop μ-loop
 loop-less c = omega (arith, c .before .before .before .before .loop-test .taken)
 
@@ -71,18 +62,6 @@ returns-2 c = absurd (transition-more (c .before .loop .inv) (omega arith))
 
 pub choose-transition-spec : {M : Type 1} → statement M
 choose-transition-spec =
-    tie.close
-    (tie.spec
-    Inv-loop
-    μ-loop
-    loop-holds
-    mul-trees-into
-    trees-into-requires
-    below-requires
-    returns
-    value-of-requires
-    sub-left
-    add-i
-    loop-less
-    loop-again
+    tie.close (tie.spec Inv-loop μ-loop loop-holds (λ c. search needs) trees-into-requires
+    (λ c κs. search needs) returns value-of-requires sub-left (λ c. search needs) loop-less loop-again
     returns-2)

@@ -8,9 +8,6 @@ use borrow.Author.Needs.{needs}
 use Rattle.ranks.proofs.exact.below.Statement.{statement}
 use Rattle.ranks.proofs.exact.below.Tie as tie
 
-enum-known-bound : tie.Need-enum-known-bound
-enum-known-bound c = search needs
-
 enum-told : tie.Need-enum-told
 enum-told c = search needs
 
@@ -26,4 +23,4 @@ returns-2 c =
     ap (λ n. ltb (start .args .k) n) (sym (ap worth (c .before .bound .given .1)))
 
 pub below-spec : {M : Type 1} → statement M
-below-spec = tie.close (tie.spec enum-known-bound enum-told returns returns-2)
+below-spec = tie.close (tie.spec (λ c. search needs) enum-told returns returns-2)

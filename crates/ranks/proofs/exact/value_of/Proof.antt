@@ -6,9 +6,6 @@ use borrow.Author.Needs.{needs}
 use Rattle.ranks.proofs.exact.value_of.Statement.{statement}
 use Rattle.ranks.proofs.exact.value_of.Tie as tie
 
-enum-known-number : tie.Need-enum-known-number
-enum-known-number c = search needs
-
 enum-told : tie.Need-enum-told
 enum-told c = search needs
 
@@ -19,4 +16,4 @@ returns-2 : tie.Need-returns-2
 returns-2 c = sym (ap worth (c .before .number .given .1))
 
 pub value-of-spec : {M : Type 1} → statement M
-value-of-spec = tie.close (tie.spec enum-known-number enum-told returns returns-2)
+value-of-spec = tie.close (tie.spec (λ c. search needs) enum-told returns returns-2)

@@ -15,9 +15,6 @@ Inv-loop transitions at label stack top arity k₀ k = AgreeTo transitions at ar
 abbrev μ-loop : tie.MeasureT-loop
 μ-loop transitions at label stack top arity k₀ k = arity - k
 
-label-of-requires : tie.Need-label-of-requires Inv-loop μ-loop
-label-of-requires c κs = search needs
-
 returns : tie.Need-returns Inv-loop μ-loop
 returns c =
     let start = c .before .before .before in
@@ -26,9 +23,6 @@ returns c =
     omega (arith, length-drop (a .top) (a .stack .now), start .pre .1 .0, start .pre .1 .1 .0) in
     sym (unlike-label (a .transitions .now) (a .at) (a .label) (a .arity) (drop (a .top) (a .stack .now)) enough
     (λ e. c .if1 .taken (c .before .label-of .ensures .0 ∙ e)))
-
-arity-of-requires : tie.Need-arity-of-requires Inv-loop μ-loop
-arity-of-requires c κs = search needs
 
 returns-2 : tie.Need-returns-2 Inv-loop μ-loop
 returns-2 c =
@@ -44,18 +38,6 @@ loop-holds c =
     let a = c .before .before .before .before .before .args in
     agree-start (a .transitions .now) (a .at) (a .arity) (drop (a .top) (a .stack .now))
 
-arg-of-requires : tie.Need-arg-of-requires Inv-loop μ-loop
-arg-of-requires c κs = search needs
-
-add-wide : tie.Need-add-wide Inv-loop μ-loop
-add-wide c = search needs
-
-element-copy-out-wide : tie.Need-element-copy-out-wide Inv-loop μ-loop
-element-copy-out-wide c = search needs
-
-wide-requires : tie.Need-wide-requires Inv-loop μ-loop
-wide-requires c κs = search needs
-
 returns-3 : tie.Need-returns-3 Inv-loop μ-loop
 returns-3 c =
     let now = c .before .before .before .before .before in
@@ -68,9 +50,6 @@ returns-3 c =
     (c .before .before .before .before .loop-test .taken)
     (λ e. c .if3 .taken (c .before .before .before .arg-of .ensures .0 ∙ e
     ∙ getD-drop (a .top) (a .stack .now) (now .loop .k) 0 ∙ sym (c .before .wide .ensures))))
-
-add-k : tie.Need-add-k Inv-loop μ-loop
-add-k c = search needs
 
 loop-less : tie.Need-loop-less Inv-loop μ-loop
 loop-less c = omega (arith, c .before .before .before .before .loop-test .taken)
@@ -98,21 +77,6 @@ returns-4 c =
 
 pub is-own-spec : {M : Type 1} → statement M
 is-own-spec =
-    tie.close
-    (tie.spec
-    Inv-loop
-    μ-loop
-    label-of-requires
-    returns
-    arity-of-requires
-    returns-2
-    loop-holds
-    arg-of-requires
-    add-wide
-    element-copy-out-wide
-    wide-requires
-    returns-3
-    add-k
-    loop-less
-    loop-again
-    returns-4)
+    tie.close (tie.spec Inv-loop μ-loop (λ c κs. search needs) returns (λ c κs. search needs) returns-2
+    loop-holds (λ c κs. search needs) (λ c. search needs) (λ c. search needs) (λ c κs. search needs) returns-3
+    (λ c. search needs) loop-less loop-again returns-4)

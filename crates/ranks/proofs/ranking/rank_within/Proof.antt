@@ -24,27 +24,12 @@ loop-holds c =
     (numberIn (start .args .numbers .now))
     (passed (start .args .tree .now) (start .pre .0)) (start .args .reached .now) refl
 
-sub-i : tie.Need-sub-i Inv-loop μ-loop
-sub-i c = search needs
-
-label-at-requires : tie.Need-label-at-requires Inv-loop μ-loop
-label-at-requires c κs = search needs
-
-children-at-requires : tie.Need-children-at-requires Inv-loop μ-loop
-children-at-requires c κs = search needs
-
-wide-requires : tie.Need-wide-requires Inv-loop μ-loop
-wide-requires c κs = search needs
-
 element-copy-out-q : tie.Need-element-copy-out-q Inv-loop μ-loop
 element-copy-out-q c =
     let now = c .before .before .before .before in
     let start = now .before .before .before in
     let ok = passed (start .args .tree .now) (start .pre .0) in
     omega (arith, now .loop .inv .left, ok .short, c .before .before .before .loop-test .taken)
-
-wide-requires-2 : tie.Need-wide-requires-2 Inv-loop μ-loop
-wide-requires-2 c κs = search needs
 
 sum-before-requires : tie.Need-sum-before-requires Inv-loop μ-loop
 sum-before-requires c κs =
@@ -64,9 +49,6 @@ sum-before-requires c κs =
       ),
     )
 
-add-product-of-stack : tie.Need-add-product-of-stack Inv-loop μ-loop
-add-product-of-stack c = search needs
-
 product-of-stack-requires : tie.Need-product-of-stack-requires Inv-loop μ-loop
 product-of-stack-requires c κs =
     let now = c .before .before .before .before .before .before .before .before .before in
@@ -76,12 +58,6 @@ product-of-stack-requires c κs =
     let width = c .before .before .before .before .before .wide .ensures
     ∙ c .before .before .before .before .before .before .children-at .ensures in
     (now .loop .inv .stacked, omega (arith, pop-room ok (now .loop .inv) more, width))
-
-times-requires : tie.Need-times-requires Inv-loop μ-loop
-times-requires c κs = search needs
-
-plus-requires : tie.Need-plus-requires Inv-loop μ-loop
-plus-requires c κs = search needs
 
 add-top : tie.Need-add-top Inv-loop μ-loop
 add-top c =
@@ -141,25 +117,7 @@ returns c =
 
 pub rank-within-spec : {M : Type 1} → statement M
 rank-within-spec =
-    tie.close
-    (tie.spec
-    Inv-loop
-    μ-loop
-    loop-holds
-    sub-i
-    label-at-requires
-    children-at-requires
-    wide-requires
-    element-copy-out-q
-    wide-requires-2
-    sum-before-requires
-    add-product-of-stack
-    product-of-stack-requires
-    times-requires
-    plus-requires
-    add-top
-    sub-top
-    array-write-stack
-    loop-less
-    loop-again
-    returns)
+    tie.close (tie.spec Inv-loop μ-loop loop-holds (λ c. search needs) (λ c κs. search needs)
+    (λ c κs. search needs) (λ c κs. search needs) element-copy-out-q (λ c κs. search needs) sum-before-requires
+    (λ c. search needs) product-of-stack-requires (λ c κs. search needs) (λ c κs. search needs) add-top sub-top
+    array-write-stack loop-less loop-again returns)

@@ -20,9 +20,6 @@ abbrev μ-loop : tie.MeasureT-loop
 loop-holds : tie.Need-loop-holds Inv-loop μ-loop
 loop-holds c = counted-start
 
-mul-at : tie.Need-mul-at Inv-loop μ-loop
-mul-at c = search needs
-
 is-own-requires : tie.Need-is-own-requires Inv-loop μ-loop
 is-own-requires c κs =
     let start = c .before .before .before in
@@ -37,12 +34,6 @@ trees-into-requires : tie.Need-trees-into-requires Inv-loop μ-loop
 trees-into-requires c κs =
     let start = c .before .before .before .before .before in
     readable (start .pre .0) (c .before .before .before .loop .i) (c .before .before .loop-test .taken)
-
-plus-requires : tie.Need-plus-requires Inv-loop μ-loop
-plus-requires c κs = search needs
-
-add-i : tie.Need-add-i Inv-loop μ-loop
-add-i c = search needs
 
 loop-less : tie.Need-loop-less Inv-loop μ-loop
 loop-less c = omega (arith, c .before .before .before .before .loop-test .taken)
@@ -59,17 +50,5 @@ returns-2 c = counted-end (c .before .loop .inv) (omega arith)
 
 pub sum-before-spec : {M : Type 1} → statement M
 sum-before-spec =
-    tie.close
-    (tie.spec
-    Inv-loop
-    μ-loop
-    loop-holds
-    mul-at
-    is-own-requires
-    returns
-    trees-into-requires
-    plus-requires
-    add-i
-    loop-less
-    loop-again
-    returns-2)
+    tie.close (tie.spec Inv-loop μ-loop loop-holds (λ c. search needs) is-own-requires returns
+    trees-into-requires (λ c κs. search needs) (λ c. search needs) loop-less loop-again returns-2)

@@ -18,46 +18,16 @@ abbrev μ-loop : tie.MeasureT-loop
 μ-loop q number transitions count n numbers bytes₀ states₀ lefts₀ top₀ nodes₀ bytes states lefts top nodes =
     maxNodes - nodes
 
-sub-top : tie.Need-sub-top Inv-loop μ-loop
-sub-top c = search needs
-
-cast-states : tie.Need-cast-states Inv-loop μ-loop
-cast-states c = search needs
-
-array-write-states : tie.Need-array-write-states Inv-loop μ-loop
-array-write-states c = search needs
-
-mul-lefts : tie.Need-mul-lefts Inv-loop μ-loop
-mul-lefts c = search needs
-
-array-write-lefts : tie.Need-array-write-lefts Inv-loop μ-loop
-array-write-lefts c = search needs
-
 loop-holds : tie.Need-loop-holds Inv-loop μ-loop
 loop-holds c =
     let p = c .before .pre in
     walk-start (p .1 .1 .1 .0) (p .1 .1 .1 .1 .0) (p .1 .1 .1 .1 .1 .0) refl refl refl refl (p .1 .1 .1 .1 .1 .1)
-
-array-read-wide : tie.Need-array-read-wide Inv-loop μ-loop
-array-read-wide c = search needs
-
-wide-requires : tie.Need-wide-requires Inv-loop μ-loop
-wide-requires c κs = search needs
-
-mul-choose-transition : tie.Need-mul-choose-transition Inv-loop μ-loop
-mul-choose-transition c = search needs
-
-array-read-choose-transition : tie.Need-array-read-choose-transition Inv-loop μ-loop
-array-read-choose-transition c = search needs
 
 choose-transition-requires : tie.Need-choose-transition-requires Inv-loop μ-loop
 choose-transition-requires c κs =
     let now = c .before .before in
     let p = now .before .before .pre in
     (p .0 .runs, rw (c .wide .ensures) (next-trees (now .loop .inv) (c .before .loop-test .taken) (p .1 .1 .0)))
-
-mul-at : tie.Need-mul-at Inv-loop μ-loop
-mul-at c = search needs
 
 arity-of-requires : tie.Need-arity-of-requires Inv-loop μ-loop
 arity-of-requires c κs =
@@ -88,9 +58,6 @@ returns c =
           (omega (arith, c .before .arity-of .ensures, c .if1 .taken)) T G,
     )
 
-label-of-requires : tie.Need-label-of-requires Inv-loop μ-loop
-label-of-requires c κs = search needs
-
 put-node-requires : tie.Need-put-node-requires Inv-loop μ-loop
 put-node-requires c κs =
     let now = c .before .before .before .before .before .before .before .before in
@@ -111,12 +78,6 @@ put-node-requires c κs =
       ),
     )
 
-add-top : tie.Need-add-top Inv-loop μ-loop
-add-top c = search needs
-
-sub-top-2 : tie.Need-sub-top-2 Inv-loop μ-loop
-sub-top-2 c = search needs
-
 put-children-requires : tie.Need-put-children-requires Inv-loop μ-loop
 put-children-requires c κs =
     let now = c .before .before .before .before .before .before .before .before .before .before .before in
@@ -134,12 +95,6 @@ put-children-requires c κs =
         ),
       ),
     )
-
-add-nodes : tie.Need-add-nodes Inv-loop μ-loop
-add-nodes c = search needs
-
-loop-less : tie.Need-loop-less Inv-loop μ-loop
-loop-less c = search needs
 
 loop-again : tie.Need-loop-again Inv-loop μ-loop
 loop-again c =
@@ -160,31 +115,8 @@ returns-2 c = (bytes-size (c .before .loop .inv), λ T G. walk-end (c .before .l
 
 pub list-tree-spec : {M : Type 1} → statement M
 list-tree-spec =
-    tie.close
-    (tie.spec
-    Inv-loop
-    μ-loop
-    sub-top
-    cast-states
-    array-write-states
-    mul-lefts
-    array-write-lefts
-    loop-holds
-    array-read-wide
-    wide-requires
-    mul-choose-transition
-    array-read-choose-transition
-    choose-transition-requires
-    mul-at
-    arity-of-requires
-    add-if1
-    returns
-    label-of-requires
-    put-node-requires
-    add-top
-    sub-top-2
-    put-children-requires
-    add-nodes
-    loop-less
-    loop-again
-    returns-2)
+    tie.close (tie.spec Inv-loop μ-loop (λ c. search needs) (λ c. search needs) (λ c. search needs)
+    (λ c. search needs) (λ c. search needs) loop-holds (λ c. search needs) (λ c κs. search needs)
+    (λ c. search needs) (λ c. search needs) choose-transition-requires (λ c. search needs) arity-of-requires
+    add-if1 returns (λ c κs. search needs) put-node-requires (λ c. search needs) (λ c. search needs)
+    put-children-requires (λ c. search needs) (λ c. search needs) loop-again returns-2)

@@ -19,19 +19,10 @@ abbrev μ-loop : tie.MeasureT-loop
 loop-holds : tie.Need-loop-holds Inv-loop μ-loop
 loop-holds c = (c .before .pre .1 .0, from-start refl)
 
-sub-k : tie.Need-sub-k Inv-loop μ-loop
-sub-k c = search needs
-
 arg-of-requires : tie.Need-arg-of-requires Inv-loop μ-loop
 arg-of-requires c κs =
     let start = c .before .before .before in
     (start .pre .0 .inside, omega (arith, start .pre .0 .narrow, start .pre .1 .1, c .before .loop .inv .1 .within))
-
-number-of-requires : tie.Need-number-of-requires Inv-loop μ-loop
-number-of-requires c κs = search needs
-
-times-requires : tie.Need-times-requires Inv-loop μ-loop
-times-requires c κs = search needs
 
 loop-less : tie.Need-loop-less Inv-loop μ-loop
 loop-less c = omega (arith, c .before .before .before .loop-test .taken)
@@ -50,15 +41,5 @@ returns c = from-end (c .before .loop .inv .1) (omega (arith, c .before .loop .i
 
 pub product-of-args-spec : {M : Type 1} → statement M
 product-of-args-spec =
-    tie.close
-    (tie.spec
-    Inv-loop
-    μ-loop
-    loop-holds
-    sub-k
-    arg-of-requires
-    number-of-requires
-    times-requires
-    loop-less
-    loop-again
-    returns)
+    tie.close (tie.spec Inv-loop μ-loop loop-holds (λ c. search needs) arg-of-requires (λ c κs. search needs)
+    (λ c κs. search needs) loop-less loop-again returns)

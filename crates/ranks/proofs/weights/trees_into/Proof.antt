@@ -8,9 +8,6 @@ use borrow.Author.Needs.{needs}
 use Rattle.ranks.proofs.weights.trees_into.Statement.{statement}
 use Rattle.ranks.proofs.weights.trees_into.Tie as tie
 
-out-of-requires : tie.Need-out-of-requires
-out-of-requires c κs = search needs
-
 returns : tie.Need-returns
 returns c =
     let start = c .before .before .before in
@@ -18,9 +15,6 @@ returns c =
     let e = ne-eqb (outOf (start .args .transitions .now) (start .args .at)) (start .args .q)
     (λ z. c .if1 .taken (d ∙ z)) in
     rw e (total-is refl (omega arith))
-
-product-requires : tie.Need-product-requires
-product-requires c κs = search needs
 
 returns-2 : tie.Need-returns-2
 returns-2 c =
@@ -31,4 +25,4 @@ returns-2 c =
     rw e (c .product .ensures)
 
 pub trees-into-spec : {M : Type 1} → statement M
-trees-into-spec = tie.close (tie.spec out-of-requires returns product-requires returns-2)
+trees-into-spec = tie.close (tie.spec (λ c κs. search needs) returns (λ c κs. search needs) returns-2)

@@ -11,12 +11,6 @@ returns c =
     let start = c .before .before .before in
     read-other (start .args .line .now) (start .args .listing .now) (c .if1 .taken)
 
-no-listing-requires : tie.Need-no-listing-requires
-no-listing-requires c κs = search needs
-
-read-line-requires : tie.Need-read-line-requires
-read-line-requires c κs = search needs
-
 copy-requires : tie.Need-copy-requires
 copy-requires c κs =
     let at-read-line = c .before .before in
@@ -33,9 +27,6 @@ line-number-requires c κs =
     let start = at-read-line .before .before .before .before .before .before in
     read-small (start .args .line .now) (at-read-line .read-line .ensures .0)
 
-same-length : tie.Need-same-length
-same-length c = search needs
-
 returns-2 : tie.Need-returns-2
 returns-2 c =
     let at-copy = c .before .before .before in
@@ -48,12 +39,5 @@ returns-2 c =
 
 pub scalebench-read-spec : {M : Type 1} → statement M
 scalebench-read-spec =
-    tie.close
-    (tie.spec
-    returns
-    no-listing-requires
-    read-line-requires
-    copy-requires
-    line-number-requires
-    same-length
-    returns-2)
+    tie.close (tie.spec returns (λ c κs. search needs) (λ c κs. search needs) copy-requires line-number-requires
+    (λ c. search needs) returns-2)

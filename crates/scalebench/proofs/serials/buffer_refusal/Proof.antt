@@ -14,9 +14,6 @@ returns-2 c =
     let start = c .before .before .before .before in
     buffer-6 (start .args .table .now) (start .args .listing .now) (c .before .if1 .left) (c .if2 .taken)
 
-content-refusal-requires : tie.Need-content-refusal-requires
-content-refusal-requires c κs = search needs
-
 returns-3 : tie.Need-returns-3
 returns-3 c =
     let start = c .before .before .before .before .before in
@@ -24,4 +21,4 @@ returns-3 c =
     (c .before .if2 .left) (c .content-refusal .ensures)
 
 pub buffer-refusal-spec : {M : Type 1} → statement M
-buffer-refusal-spec = tie.close (tie.spec returns returns-2 content-refusal-requires returns-3)
+buffer-refusal-spec = tie.close (tie.spec returns returns-2 (λ c κs. search needs) returns-3)

@@ -10,9 +10,6 @@ use borrow.Author.Needs.{needs}
 use Rattle.scalebench.proofs.serials.rank.Statement.{statement}
 use Rattle.scalebench.proofs.serials.rank.Tie as tie
 
-ask-refusal-requires : tie.Need-ask-refusal-requires
-ask-refusal-requires c κs = search needs
-
 returns : tie.Need-returns
 returns c =
     let start = c .before .before .before .before in
@@ -24,9 +21,6 @@ node-states-requires c κs =
     let b = start .args .table .now in
     let p = ask-passed (start .args .tree .now) b (sym (c .before .ask-refusal .ensures) ∙ c .if1 .left) in
     (p .0, passed-table b (p .1))
-
-array-read-accepts-state : tie.Need-array-read-accepts-state
-array-read-accepts-state c = search needs
 
 accepts-state-requires : tie.Need-accepts-state-requires
 accepts-state-requires c κs =
@@ -72,4 +66,6 @@ returns-3 c =
     (c .asked .ensures ∙ ranked-other (decode b) (readTree s) not)
 
 pub rank-spec : {M : Type 1} → statement M
-rank-spec = tie.close (tie.spec ask-refusal-requires returns node-states-requires array-read-accepts-state accepts-state-requires serial-requires returns-2 asked-requires returns-3)
+rank-spec =
+    tie.close (tie.spec (λ c κs. search needs) returns node-states-requires (λ c. search needs)
+    accepts-state-requires serial-requires returns-2 asked-requires returns-3)

@@ -5,15 +5,6 @@ use borrow.Author.Needs.{needs}
 use Rattle.scalebench.proofs.serials.scalebench_rank.Statement.{statement}
 use Rattle.scalebench.proofs.serials.scalebench_rank.Tie as tie
 
-rank-requires : tie.Need-rank-requires
-rank-requires c κs = search needs
-
-number-after-requires : tie.Need-number-after-requires
-number-after-requires c κs = search needs
-
-answer-number-requires : tie.Need-answer-number-requires
-answer-number-requires c κs = search needs
-
 returns : tie.Need-returns
 returns c =
     let answer = c .before .before .before .rank .ensures in (
@@ -22,4 +13,5 @@ returns c =
     )
 
 pub scalebench-rank-spec : {M : Type 1} → statement M
-scalebench-rank-spec = tie.close (tie.spec rank-requires number-after-requires answer-number-requires returns)
+scalebench-rank-spec =
+    tie.close (tie.spec (λ c κs. search needs) (λ c κs. search needs) (λ c κs. search needs) returns)

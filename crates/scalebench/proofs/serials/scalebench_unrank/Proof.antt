@@ -6,19 +6,11 @@ use borrow.Author.Needs.{needs}
 use Rattle.scalebench.proofs.serials.scalebench_unrank.Statement.{statement}
 use Rattle.scalebench.proofs.serials.scalebench_unrank.Tie as tie
 
-unrank-requires : tie.Need-unrank-requires
-unrank-requires c κs = search needs
-
-answer-number-requires : tie.Need-answer-number-requires
-answer-number-requires c κs = search needs
-
-same-length : tie.Need-same-length
-same-length c = search needs
-
 returns : tie.Need-returns
 returns c =
     let result = c .before .before .before .unrank .ensures in
     (c .answer-number .ensures ∙ ap (λ (r : Response). answerNumber (r .answer)) result, ap (λ (r : Response). r .lent) result)
 
 pub scalebench-unrank-spec : {M : Type 1} → statement M
-scalebench-unrank-spec = tie.close (tie.spec unrank-requires answer-number-requires same-length returns)
+scalebench-unrank-spec =
+    tie.close (tie.spec (λ c κs. search needs) (λ c κs. search needs) (λ c. search needs) returns)

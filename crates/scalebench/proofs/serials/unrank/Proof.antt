@@ -4,12 +4,6 @@ use borrow.Author.Needs.{needs}
 use Rattle.scalebench.proofs.serials.unrank.Statement.{statement}
 use Rattle.scalebench.proofs.serials.unrank.Tie as tie
 
-buffer-refusal-requires : tie.Need-buffer-refusal-requires
-buffer-refusal-requires c κs = search needs
-
-same-length : tie.Need-same-length
-same-length c = search needs
-
 returns : tie.Need-returns
 returns c =
     let start = c .before .before .before .before .before in
@@ -22,9 +16,6 @@ list-numbered-requires c κs =
     unrank-passed (start .args .table .now) (start .args .listing .now) (c .before .before .buffer-refusal .ensures)
     (c .before .if1 .left)
 
-same-length-2 : tie.Need-same-length-2
-same-length-2 c = search needs
-
 returns-2 : tie.Need-returns-2
 returns-2 c =
     let start = c .before .before .before .before .before .before .before .before .before in
@@ -32,4 +23,6 @@ returns-2 c =
     (c .before .before .before .before .before .buffer-refusal .ensures) (c .before .before .before .before .if1 .left) (c .before .before .list-numbered .ensures)
 
 pub unrank-spec : {M : Type 1} → statement M
-unrank-spec = tie.close (tie.spec buffer-refusal-requires same-length returns list-numbered-requires same-length-2 returns-2)
+unrank-spec =
+    tie.close (tie.spec (λ c κs. search needs) (λ c. search needs) returns list-numbered-requires
+    (λ c. search needs) returns-2)

@@ -5,15 +5,6 @@ use borrow.Author.Needs.{needs}
 use Rattle.sorted.proofs.steps.replaced.Statement.{statement}
 use Rattle.sorted.proofs.steps.replaced.Tie as tie
 
-entry-at-requires : tie.Need-entry-at-requires
-entry-at-requires c κs = search needs
-
-put-arg-requires : tie.Need-put-arg-requires
-put-arg-requires c κs = search needs
-
-output-requires : tie.Need-output-requires
-output-requires c κs = search needs
-
 returns : tie.Need-returns
 returns c =
     let start = c .before .before .before .before .before in
@@ -24,4 +15,5 @@ returns c =
     (start .pre .1 .0 .narrow) (c .output .ensures)
 
 pub replaced-spec : {M : Type 1} → statement M
-replaced-spec = tie.close (tie.spec entry-at-requires put-arg-requires output-requires returns)
+replaced-spec =
+    tie.close (tie.spec (λ c κs. search needs) (λ c κs. search needs) (λ c κs. search needs) returns)

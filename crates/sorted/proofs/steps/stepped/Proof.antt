@@ -16,9 +16,6 @@ returns c =
     .k) ∙ ap (stepAt (start .args .transitions .now) (start .args .count) (transitionBytes * (start .args) .i) (start
     .args .k)) (sym (c .if1 .taken))
 
-mul-replaced : tie.Need-mul-replaced
-mul-replaced c = search needs
-
 replaced-requires : tie.Need-replaced-requires
 replaced-requires c κs =
     let start = c .before .before in (
@@ -38,4 +35,4 @@ returns-2 c =
     .replaced .ensures)
 
 pub stepped-spec : {M : Type 1} → statement M
-stepped-spec = tie.close (tie.spec returns mul-replaced replaced-requires returns-2)
+stepped-spec = tie.close (tie.spec returns (λ c. search needs) replaced-requires returns-2)

@@ -3,15 +3,9 @@ use borrow.Author.Needs.{needs}
 use Rattle.text.proofs.cursor.moved.Statement.{statement}
 use Rattle.text.proofs.cursor.moved.Tie as tie
 
-wrapping-add-usize-requires : tie.Need-wrapping-add-usize-requires
-wrapping-add-usize-requires c κs = search needs
-
-wrapping-add-usize-requires-2 : tie.Need-wrapping-add-usize-requires-2
-wrapping-add-usize-requires-2 c κs = search needs
-
 returns : tie.Need-returns
 returns c =
     λ i. record { place = c .before .wrapping-add-usize .ensures i; column = c .wrapping-add-usize2 .ensures i }
 
 pub moved-spec : {M : Type 1} → statement M
-moved-spec = tie.close (tie.spec wrapping-add-usize-requires wrapping-add-usize-requires-2 returns)
+moved-spec = tie.close (tie.spec (λ c κs. search needs) (λ c κs. search needs) returns)

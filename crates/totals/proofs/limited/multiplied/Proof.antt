@@ -8,9 +8,6 @@ use Rattle.totals.proofs.limited.multiplied.Tie as tie
 returns : tie.Need-returns
 returns c = let e = c .if1 .taken in total-is (rw e (omega arith)) (rw e (omega arith))
 
-div-if2 : tie.Need-div-if2
-div-if2 c = search needs
-
 returns-2 : tie.Need-returns-2
 returns-2 c =
     let a = c .before .before .args in
@@ -29,4 +26,4 @@ returns-3 c =
     total-number (omega arith)
 
 pub multiplied-spec : {M : Type 1} → statement M
-multiplied-spec = tie.close (tie.spec returns div-if2 returns-2 mul-t4 returns-3)
+multiplied-spec = tie.close (tie.spec returns (λ c. search needs) returns-2 mul-t4 returns-3)

@@ -5,15 +5,6 @@ use borrow.Author.Needs.{needs}
 use Rattle.totals.proofs.numbers.add.Statement.{statement}
 use Rattle.totals.proofs.numbers.add.Tie as tie
 
-number-of-requires : tie.Need-number-of-requires
-number-of-requires c κs = search needs
-
-plus-requires : tie.Need-plus-requires
-plus-requires c κs = search needs
-
-put-requires : tie.Need-put-requires
-put-requires c κs = search needs
-
 returns : tie.Need-returns
 returns c =
     let start = c .before .before .before .before .before in
@@ -21,4 +12,4 @@ returns c =
     (c .before .before .plus .ensures)
 
 pub add-spec : {M : Type 1} → statement M
-add-spec = tie.close (tie.spec number-of-requires plus-requires put-requires returns)
+add-spec = tie.close (tie.spec (λ c κs. search needs) (λ c κs. search needs) (λ c κs. search needs) returns)

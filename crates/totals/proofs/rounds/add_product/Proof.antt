@@ -7,15 +7,6 @@ use borrow.Author.Needs.{needs}
 use Rattle.totals.proofs.rounds.add_product.Statement.{statement}
 use Rattle.totals.proofs.rounds.add_product.Tie as tie
 
-product-requires : tie.Need-product-requires
-product-requires c κs = search needs
-
-out-of-requires : tie.Need-out-of-requires
-out-of-requires c κs = search needs
-
-add-requires : tie.Need-add-requires
-add-requires c κs = search needs
-
 returns : tie.Need-returns
 returns c =
     let a = c .before .before .before .before .before .args in
@@ -23,4 +14,5 @@ returns c =
     (c .add .ensures) (c .before .out-of .ensures .0) (c .before .before .before .product .ensures)
 
 pub add-product-spec : {M : Type 1} → statement M
-add-product-spec = tie.close (tie.spec product-requires out-of-requires add-requires returns)
+add-product-spec =
+    tie.close (tie.spec (λ c κs. search needs) (λ c κs. search needs) (λ c κs. search needs) returns)

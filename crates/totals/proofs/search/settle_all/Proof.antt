@@ -14,28 +14,13 @@ Inv-loop transitions count n links numbers₀ q₀ numbers q = (1 ≤ q) × (len
 abbrev μ-loop : tie.MeasureT-loop
 μ-loop transitions count n links numbers₀ q₀ numbers q = n + 1 - q
 
-loop-holds : tie.Need-loop-holds Inv-loop μ-loop
-loop-holds c = search needs
-
 settle-requires : tie.Need-settle-requires Inv-loop μ-loop
 settle-requires c κs =
     let start = c .before .before .before .before in
     let now = c .before .before in
     (start .pre .0, (start .pre .1 .0, (omega arith, now .loop .inv .1)))
 
-add-q : tie.Need-add-q Inv-loop μ-loop
-add-q c = search needs
-
-loop-less : tie.Need-loop-less Inv-loop μ-loop
-loop-less c = search needs
-
-loop-again : tie.Need-loop-again Inv-loop μ-loop
-loop-again c = search needs
-
-returns : tie.Need-returns Inv-loop μ-loop
-returns c = search needs
-
 pub settle-all-spec : {M : Type 1} → statement M
 settle-all-spec =
-    tie.close
-    (tie.spec Inv-loop μ-loop loop-holds settle-requires add-q loop-less loop-again returns)
+    tie.close (tie.spec Inv-loop μ-loop (λ c. search needs) settle-requires (λ c. search needs)
+    (λ c. search needs) (λ c. search needs) (λ c. search needs))

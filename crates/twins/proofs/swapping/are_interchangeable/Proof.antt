@@ -34,12 +34,6 @@ returns c =
     every-broken (c .before .before .before .loop .inv) (omega arith)
     (sym (c .before .transition-agrees .ensures) ∙ not-true _ (c .if1 .taken))
 
-add-i : tie.Need-add-i Inv-loop μ-loop
-add-i c = search needs
-
-loop-less : tie.Need-loop-less Inv-loop μ-loop
-loop-less c = search needs
-
 loop-again : tie.Need-loop-again Inv-loop μ-loop
 loop-again c =
     every-next (c .before .before .before .loop .inv) (omega arith)
@@ -51,14 +45,5 @@ returns-2 c = every-end (c .before .loop .inv) (omega arith)
 
 pub are-interchangeable-spec : {M : Type 1} → statement M
 are-interchangeable-spec =
-    tie.close
-    (tie.spec
-    Inv-loop
-    μ-loop
-    loop-holds
-    transition-agrees-requires
-    returns
-    add-i
-    loop-less
-    loop-again
-    returns-2)
+    tie.close (tie.spec Inv-loop μ-loop loop-holds transition-agrees-requires returns (λ c. search needs)
+    (λ c. search needs) loop-again returns-2)

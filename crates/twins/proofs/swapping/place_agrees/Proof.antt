@@ -7,17 +7,11 @@ use borrow.Author.Needs.{needs}
 use Rattle.twins.proofs.swapping.place_agrees.Statement.{statement}
 use Rattle.twins.proofs.swapping.place_agrees.Tie as tie
 
-mul-arg-of : tie.Need-mul-arg-of
-mul-arg-of c = search needs
-
 arg-of-requires : tie.Need-arg-of-requires
 arg-of-requires c κs =
     let start = c .before in
     let read = readable (start .pre .1 .0 .runs) (start .args .i) (start .pre .1 .1 .0) in
     (read .inside, omega (arith, read .narrow, start .pre .1 .1 .1 .0))
-
-same-output-requires : tie.Need-same-output-requires
-same-output-requires c κs = search needs
 
 returns : tie.Need-returns
 returns c =
@@ -44,12 +38,5 @@ returns-3 c =
 
 pub place-agrees-spec : {M : Type 1} → statement M
 place-agrees-spec =
-    tie.close
-    (tie.spec
-    mul-arg-of
-    arg-of-requires
-    same-output-requires
-    returns
-    same-output-requires-2
-    returns-2
-    returns-3)
+    tie.close (tie.spec (λ c. search needs) arg-of-requires (λ c κs. search needs) returns
+    same-output-requires-2 returns-2 returns-3)

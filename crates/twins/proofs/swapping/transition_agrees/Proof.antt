@@ -23,12 +23,6 @@ Inv-loop transitions count n i p q arity k₀ k =
 abbrev μ-loop : tie.MeasureT-loop
 μ-loop transitions count n i p q arity k₀ k = arity - k
 
-mul-arity-of : tie.Need-mul-arity-of Inv-loop μ-loop
-mul-arity-of c = search needs
-
-arity-of-requires : tie.Need-arity-of-requires Inv-loop μ-loop
-arity-of-requires c κs = search needs
-
 loop-holds : tie.Need-loop-holds Inv-loop μ-loop
 loop-holds c =
     let start = c .before .before in (
@@ -56,12 +50,6 @@ returns c =
     every-broken (c .before .before .before .loop .inv .1) (omega arith)
     (sym (c .before .place-agrees .ensures) ∙ not-true _ (c .if1 .taken))
 
-add-k : tie.Need-add-k Inv-loop μ-loop
-add-k c = search needs
-
-loop-less : tie.Need-loop-less Inv-loop μ-loop
-loop-less c = search needs
-
 loop-again : tie.Need-loop-again Inv-loop μ-loop
 loop-again c =
     let now = c .before .before .before in (
@@ -76,16 +64,5 @@ returns-2 c = every-end (c .before .loop .inv .1) (omega arith)
 
 pub transition-agrees-spec : {M : Type 1} → statement M
 transition-agrees-spec =
-    tie.close
-    (tie.spec
-    Inv-loop
-    μ-loop
-    mul-arity-of
-    arity-of-requires
-    loop-holds
-    place-agrees-requires
-    returns
-    add-k
-    loop-less
-    loop-again
-    returns-2)
+    tie.close (tie.spec Inv-loop μ-loop (λ c. search needs) (λ c κs. search needs) loop-holds
+    place-agrees-requires returns (λ c. search needs) (λ c. search needs) loop-again returns-2)

@@ -17,27 +17,12 @@ Inv-loop transitions at k weights arity product₀ x₀ product x =
 abbrev μ-loop : tie.MeasureT-loop
 μ-loop transitions at k weights arity product₀ x₀ product x = arity - x
 
-arity-of-requires : tie.Need-arity-of-requires Inv-loop μ-loop
-arity-of-requires c κs = search needs
-
 loop-holds : tie.Need-loop-holds Inv-loop μ-loop
 loop-holds c = (c .arity-of .ensures, product-start)
-
-factor-requires : tie.Need-factor-requires Inv-loop μ-loop
-factor-requires c κs = search needs
 
 mul-capped : tie.Need-mul-capped Inv-loop μ-loop
 mul-capped c =
     let h : c .factor .result ≤ 255 = omega (arith, c .factor .ensures .1) in let l = mul-le-mul (c .before .before .loop .inv .1 .small) h in omega arith
-
-capped-requires : tie.Need-capped-requires Inv-loop μ-loop
-capped-requires c κs = search needs
-
-add-x : tie.Need-add-x Inv-loop μ-loop
-add-x c = search needs
-
-loop-less : tie.Need-loop-less Inv-loop μ-loop
-loop-less c = search needs
 
 loop-again : tie.Need-loop-again Inv-loop μ-loop
 loop-again c =
@@ -51,16 +36,5 @@ returns c =
 
 pub choices-spec : {M : Type 1} → statement M
 choices-spec =
-    tie.close
-    (tie.spec
-    Inv-loop
-    μ-loop
-    arity-of-requires
-    loop-holds
-    factor-requires
-    mul-capped
-    capped-requires
-    add-x
-    loop-less
-    loop-again
-    returns)
+    tie.close (tie.spec Inv-loop μ-loop (λ c κs. search needs) loop-holds (λ c κs. search needs) mul-capped
+    (λ c κs. search needs) (λ c. search needs) (λ c. search needs) loop-again returns)

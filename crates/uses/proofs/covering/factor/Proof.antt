@@ -10,15 +10,6 @@ returns c =
     let start = c .before .before in
     (factor-out (start .args .weights .now) (start .args .transitions .now) (start .args .at) (start .args .k) (start .args .x) (c .if1 .taken), omega arith)
 
-arg-of-requires : tie.Need-arg-of-requires
-arg-of-requires c κs = search needs
-
-element-copy-out-index : tie.Need-element-copy-out-index
-element-copy-out-index c = search needs
-
-index-requires : tie.Need-index-requires
-index-requires c κs = search needs
-
 returns-2 : tie.Need-returns-2
 returns-2 c =
     let start = c .before .before .before .before .before in
@@ -26,4 +17,4 @@ returns-2 c =
 
 pub factor-spec : {M : Type 1} → statement M
 factor-spec =
-    tie.close (tie.spec returns arg-of-requires element-copy-out-index index-requires returns-2)
+    tie.close (tie.spec returns (λ c κs. search needs) (λ c. search needs) (λ c κs. search needs) returns-2)

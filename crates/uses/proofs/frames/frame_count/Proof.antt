@@ -53,12 +53,6 @@ add-found c =
       c .before .loop-test .taken,
     )
 
-add-i : tie.Need-add-i Inv-loop μ-loop
-add-i c = search needs
-
-loop-less : tie.Need-loop-less Inv-loop μ-loop
-loop-less c = search needs
-
 loop-again : tie.Need-loop-again Inv-loop μ-loop
 loop-again c =
     let start = c .before .before .before .before in
@@ -81,14 +75,5 @@ returns c =
 
 pub frame-count-spec : {M : Type 1} → statement M
 frame-count-spec =
-    tie.close
-    (tie.spec
-    Inv-loop
-    μ-loop
-    loop-holds
-    framed-at-requires
-    add-found
-    add-i
-    loop-less
-    loop-again
-    returns)
+    tie.close (tie.spec Inv-loop μ-loop loop-holds framed-at-requires add-found (λ c. search needs)
+    (λ c. search needs) loop-again returns)

@@ -5,15 +5,6 @@ use borrow.Author.Needs.{needs}
 use Rattle.uses.proofs.frames.frame_of.Statement.{statement}
 use Rattle.uses.proofs.frames.frame_of.Tie as tie
 
-mul-child : tie.Need-mul-child
-mul-child c = search needs
-
-add-child : tie.Need-add-child
-add-child c = search needs
-
-element-copy-out-child : tie.Need-element-copy-out-child
-element-copy-out-child c = search needs
-
 returns : tie.Need-returns
 returns c =
     let start = c .before .before in
@@ -36,12 +27,5 @@ returns-3 c =
 
 pub frame-of-spec : {M : Type 1} → statement M
 frame-of-spec =
-    tie.close
-    (tie.spec
-    mul-child
-    add-child
-    element-copy-out-child
-    returns
-    returns-2
-    has-twin-requires
-    returns-3)
+    tie.close (tie.spec (λ c. search needs) (λ c. search needs) (λ c. search needs) returns returns-2
+    has-twin-requires returns-3)

@@ -5,16 +5,10 @@ use borrow.Author.Needs.{needs}
 use Rattle.uses.proofs.frames.framed_at.Statement.{statement}
 use Rattle.uses.proofs.frames.framed_at.Tie as tie
 
-frame-of-requires : tie.Need-frame-of-requires
-frame-of-requires c κs = search needs
-
 returns : tie.Need-returns
 returns c =
     let start = c .before .before .before in
     framed-not (start .args .transitions .now) (start .args .at) (start .args .k) (start .args .labels .now) (start .args .arities .now) (start .args .children .now) (start .args .states .now) (start .args .m) (start .args .j) (start .args .v) (start .args .i) (c .before .frame-of .ensures) (not-true _ (c .if1 .taken))
-
-in-slot-requires : tie.Need-in-slot-requires
-in-slot-requires c κs = search needs
 
 returns-2 : tie.Need-returns-2
 returns-2 c =
@@ -27,5 +21,4 @@ returns-3 c =
     framed-both (start .args .transitions .now) (start .args .at) (start .args .k) (start .args .labels .now) (start .args .arities .now) (start .args .children .now) (start .args .states .now) (start .args .m) (start .args .j) (start .args .v) (start .args .i) (c .before .before .before .frame-of .ensures) (not-false _ (c .before .before .if1 .left)) (c .before .in-slot .ensures) (not-false _ (c .if2 .left))
 
 pub framed-at-spec : {M : Type 1} → statement M
-framed-at-spec =
-    tie.close (tie.spec frame-of-requires returns in-slot-requires returns-2 returns-3)
+framed-at-spec = tie.close (tie.spec (λ c κs. search needs) returns (λ c κs. search needs) returns-2 returns-3)

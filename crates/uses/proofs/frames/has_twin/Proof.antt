@@ -21,18 +21,9 @@ abbrev μ-loop : tie.MeasureT-loop
 loop-holds : tie.Need-loop-holds Inv-loop μ-loop
 loop-holds c = any-start (c .args .m) (zero-add (c .args .m))
 
-is-twin-requires : tie.Need-is-twin-requires Inv-loop μ-loop
-is-twin-requires c κs = search needs
-
 returns : tie.Need-returns Inv-loop μ-loop
 returns c =
     any-found (c .before .before .before .loop .inv) (omega arith) (sym (c .before .is-twin .ensures) ∙ c .if1 .taken)
-
-add-h : tie.Need-add-h Inv-loop μ-loop
-add-h c = search needs
-
-loop-less : tie.Need-loop-less Inv-loop μ-loop
-loop-less c = search needs
 
 loop-again : tie.Need-loop-again Inv-loop μ-loop
 loop-again c =
@@ -43,14 +34,5 @@ returns-2 c = any-end (c .before .loop .inv) (omega arith)
 
 pub has-twin-spec : {M : Type 1} → statement M
 has-twin-spec =
-    tie.close
-    (tie.spec
-    Inv-loop
-    μ-loop
-    loop-holds
-    is-twin-requires
-    returns
-    add-h
-    loop-less
-    loop-again
-    returns-2)
+    tie.close (tie.spec Inv-loop μ-loop loop-holds (λ c κs. search needs) returns (λ c. search needs)
+    (λ c. search needs) loop-again returns-2)

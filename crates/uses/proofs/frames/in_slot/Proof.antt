@@ -5,28 +5,10 @@ use borrow.Author.Needs.{needs}
 use Rattle.uses.proofs.frames.in_slot.Statement.{statement}
 use Rattle.uses.proofs.frames.in_slot.Tie as tie
 
-mul-if1 : tie.Need-mul-if1
-mul-if1 c = search needs
-
-element-copy-out-if1 : tie.Need-element-copy-out-if1
-element-copy-out-if1 c = search needs
-
-label-of-requires : tie.Need-label-of-requires
-label-of-requires c κs = search needs
-
 returns : tie.Need-returns
 returns c =
     let start = c .before .before .before .before in
     label-differs (start .args .transitions .now) (start .args .at) (start .args .k) (start .args .labels .now) (start .args .arities .now) (start .args .children .now) (start .args .states .now) (start .args .i) (c .if1 .taken) (c .before .label-of .ensures .0)
-
-element-copy-out-wide : tie.Need-element-copy-out-wide
-element-copy-out-wide c = search needs
-
-wide-requires : tie.Need-wide-requires
-wide-requires c κs = search needs
-
-arity-of-requires : tie.Need-arity-of-requires
-arity-of-requires c κs = search needs
 
 returns-2 : tie.Need-returns-2
 returns-2 c =
@@ -45,15 +27,6 @@ returns-3 c =
 
 pub in-slot-spec : {M : Type 1} → statement M
 in-slot-spec =
-    tie.close
-    (tie.spec
-    mul-if1
-    element-copy-out-if1
-    label-of-requires
-    returns
-    element-copy-out-wide
-    wide-requires
-    arity-of-requires
-    returns-2
-    same-siblings-requires
+    tie.close (tie.spec (λ c. search needs) (λ c. search needs) (λ c κs. search needs) returns
+    (λ c. search needs) (λ c κs. search needs) (λ c κs. search needs) returns-2 same-siblings-requires
     returns-3)

@@ -9,56 +9,20 @@ use borrow.Author.Needs.{needs}
 use Rattle.uses.proofs.frames.is_twin.Statement.{statement}
 use Rattle.uses.proofs.frames.is_twin.Tie as tie
 
-mul-if1 : tie.Need-mul-if1
-mul-if1 c = search needs
-
-add-if1 : tie.Need-add-if1
-add-if1 c = search needs
-
-element-copy-out-if1 : tie.Need-element-copy-out-if1
-element-copy-out-if1 c = search needs
-
 returns : tie.Need-returns
 returns c =
     let start = c .before .before in
     other-child (start .args .labels .now) (start .args .arities .now) (start .args .children .now) (start .args .j) (start .args .k) (start .args .i) (start .args .h) (c .if1 .taken)
-
-mul-if2 : tie.Need-mul-if2
-mul-if2 c = search needs
-
-element-copy-out-if2 : tie.Need-element-copy-out-if2
-element-copy-out-if2 c = search needs
-
-mul-if2-2 : tie.Need-mul-if2-2
-mul-if2-2 c = search needs
-
-element-copy-out-if2-2 : tie.Need-element-copy-out-if2-2
-element-copy-out-if2-2 c = search needs
 
 returns-2 : tie.Need-returns-2
 returns-2 c =
     let start = c .before .before .before .before .before in
     other-label (start .args .labels .now) (start .args .arities .now) (start .args .children .now) (start .args .j) (start .args .k) (start .args .i) (start .args .h) (c .before .before .before .if1 .left) (c .if2 .taken)
 
-element-copy-out-if3 : tie.Need-element-copy-out-if3
-element-copy-out-if3 c = search needs
-
-element-copy-out-if3-2 : tie.Need-element-copy-out-if3-2
-element-copy-out-if3-2 c = search needs
-
 returns-3 : tie.Need-returns-3
 returns-3 c =
     let start = c .before .before .before .before .before .before .before .before in
     other-arity (start .args .labels .now) (start .args .arities .now) (start .args .children .now) (start .args .j) (start .args .k) (start .args .i) (start .args .h) (c .before .before .before .before .before .before .if1 .left) (c .before .before .before .if2 .left) (c .if3 .taken)
-
-element-copy-out-wide : tie.Need-element-copy-out-wide
-element-copy-out-wide c = search needs
-
-wide-requires : tie.Need-wide-requires
-wide-requires c κs = search needs
-
-same-children-requires : tie.Need-same-children-requires
-same-children-requires c κs = search needs
 
 returns-4 : tie.Need-returns-4
 returns-4 c =
@@ -67,21 +31,6 @@ returns-4 c =
 
 pub is-twin-spec : {M : Type 1} → statement M
 is-twin-spec =
-    tie.close
-    (tie.spec
-    mul-if1
-    add-if1
-    element-copy-out-if1
-    returns
-    mul-if2
-    element-copy-out-if2
-    mul-if2-2
-    element-copy-out-if2-2
-    returns-2
-    element-copy-out-if3
-    element-copy-out-if3-2
-    returns-3
-    element-copy-out-wide
-    wide-requires
-    same-children-requires
-    returns-4)
+    tie.close (tie.spec (λ c. search needs) (λ c. search needs) (λ c. search needs) returns (λ c. search needs)
+    (λ c. search needs) (λ c. search needs) (λ c. search needs) returns-2 (λ c. search needs)
+    (λ c. search needs) returns-3 (λ c. search needs) (λ c κs. search needs) (λ c κs. search needs) returns-4)

@@ -22,18 +22,9 @@ abbrev μ-loop : tie.MeasureT-loop
 loop-holds : tie.Need-loop-holds Inv-loop μ-loop
 loop-holds c = every-start (c .args .arity) (zero-add (c .args .arity))
 
-same-child-requires : tie.Need-same-child-requires Inv-loop μ-loop
-same-child-requires c κs = search needs
-
 returns : tie.Need-returns Inv-loop μ-loop
 returns c =
     every-broken (c .before .before .before .loop .inv) (omega arith) (sym (c .before .same-child .ensures) ∙ not-true _ (c .if1 .taken))
-
-add-x : tie.Need-add-x Inv-loop μ-loop
-add-x c = search needs
-
-loop-less : tie.Need-loop-less Inv-loop μ-loop
-loop-less c = search needs
 
 loop-again : tie.Need-loop-again Inv-loop μ-loop
 loop-again c =
@@ -44,14 +35,5 @@ returns-2 c = every-end (c .before .loop .inv) (omega arith)
 
 pub same-children-spec : {M : Type 1} → statement M
 same-children-spec =
-    tie.close
-    (tie.spec
-    Inv-loop
-    μ-loop
-    loop-holds
-    same-child-requires
-    returns
-    add-x
-    loop-less
-    loop-again
-    returns-2)
+    tie.close (tie.spec Inv-loop μ-loop loop-holds (λ c κs. search needs) returns (λ c. search needs)
+    (λ c. search needs) loop-again returns-2)

@@ -21,9 +21,6 @@ Inv-loop transitions at k m arities children states i arity x₀ x =
 abbrev μ-loop : tie.MeasureT-loop
 μ-loop transitions at k m arities children states i arity x₀ x = arity - x
 
-arity-of-requires : tie.Need-arity-of-requires Inv-loop μ-loop
-arity-of-requires c κs = search needs
-
 loop-holds : tie.Need-loop-holds Inv-loop μ-loop
 loop-holds c =
     let start = c .before .before in
@@ -40,12 +37,6 @@ returns c =
     let now = c .before .before .before in
     every-broken (now .loop .inv .1) (omega (arith, now .loop .inv .0)) (sym (c .before .same-sibling .ensures) ∙ not-true _ (c .if1 .taken))
 
-add-x : tie.Need-add-x Inv-loop μ-loop
-add-x c = search needs
-
-loop-less : tie.Need-loop-less Inv-loop μ-loop
-loop-less c = search needs
-
 loop-again : tie.Need-loop-again Inv-loop μ-loop
 loop-again c =
     let now = c .before .before .before in
@@ -58,15 +49,5 @@ returns-2 c =
 
 pub same-siblings-spec : {M : Type 1} → statement M
 same-siblings-spec =
-    tie.close
-    (tie.spec
-    Inv-loop
-    μ-loop
-    arity-of-requires
-    loop-holds
-    same-sibling-requires
-    returns
-    add-x
-    loop-less
-    loop-again
-    returns-2)
+    tie.close (tie.spec Inv-loop μ-loop (λ c κs. search needs) loop-holds same-sibling-requires returns
+    (λ c. search needs) (λ c. search needs) loop-again returns-2)

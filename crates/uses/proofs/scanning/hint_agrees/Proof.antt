@@ -7,17 +7,11 @@ use borrow.Author.Needs.{needs}
 use Rattle.uses.proofs.scanning.hint_agrees.Statement.{statement}
 use Rattle.uses.proofs.scanning.hint_agrees.Tie as tie
 
-entry-requires : tie.Need-entry-requires
-entry-requires c κs = search needs
-
 returns : tie.Need-returns
 returns c =
     let a = c .before .before .before .args in
     hint-none (arrays (a .labels .now) (a .arities .now) (a .children .now) (a .states .now) (a .weights .now) (a .m)
     (a .j) (a .v)) (a .transitions .now) (a .count) (a .p) (a .q)
-
-sub-transition-agrees : tie.Need-sub-transition-agrees
-sub-transition-agrees c = search needs
 
 transition-agrees-requires : tie.Need-transition-agrees-requires
 transition-agrees-requires c κs =
@@ -38,5 +32,4 @@ returns-2 c =
 
 pub hint-agrees-spec : {M : Type 1} → statement M
 hint-agrees-spec =
-    tie.close
-    (tie.spec entry-requires returns sub-transition-agrees transition-agrees-requires returns-2)
+    tie.close (tie.spec (λ c κs. search needs) returns (λ c. search needs) transition-agrees-requires returns-2)

@@ -22,18 +22,6 @@ abbrev μ-loop : tie.MeasureT-loop
 μ-loop transitions count n labels arities children states weights start end m j v p q i at meta args arity k₀ k =
     arity - k
 
-mul-at : tie.Need-mul-at Inv-loop μ-loop
-mul-at c = search needs
-
-meta-at-requires : tie.Need-meta-at-requires Inv-loop μ-loop
-meta-at-requires c κs = search needs
-
-args-at-requires : tie.Need-args-at-requires Inv-loop μ-loop
-args-at-requires c κs = search needs
-
-arity-of-requires : tie.Need-arity-of-requires Inv-loop μ-loop
-arity-of-requires c κs = search needs
-
 loop-holds : tie.Need-loop-holds Inv-loop μ-loop
 loop-holds c =
     let a = c .before .before .before .before .args in
@@ -59,12 +47,6 @@ returns c =
     every-broken (c .before .before .before .loop .inv)
     (omega (arith, c .before .before .before .before .arity-of .ensures)) (sym (c .before .place-agrees .ensures) ∙ not-true _ (c .if1 .taken))
 
-add-k : tie.Need-add-k Inv-loop μ-loop
-add-k c = search needs
-
-loop-less : tie.Need-loop-less Inv-loop μ-loop
-loop-less c = search needs
-
 loop-again : tie.Need-loop-again Inv-loop μ-loop
 loop-again c =
     every-next (c .before .before .before .loop .inv)
@@ -75,18 +57,6 @@ returns-2 c = every-end (c .before .loop .inv) (omega (arith, c .before .before 
 
 pub transition-agrees-spec : {M : Type 1} → statement M
 transition-agrees-spec =
-    tie.close
-    (tie.spec
-    Inv-loop
-    μ-loop
-    mul-at
-    meta-at-requires
-    args-at-requires
-    arity-of-requires
-    loop-holds
-    place-agrees-requires
-    returns
-    add-k
-    loop-less
-    loop-again
-    returns-2)
+    tie.close (tie.spec Inv-loop μ-loop (λ c. search needs) (λ c κs. search needs) (λ c κs. search needs)
+    (λ c κs. search needs) loop-holds place-agrees-requires returns (λ c. search needs) (λ c. search needs)
+    loop-again returns-2)

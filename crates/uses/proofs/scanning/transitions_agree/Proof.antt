@@ -16,24 +16,6 @@ Inv-loop transitions count n labels arities children states weights lows lasts s
 abbrev μ-loop : tie.MeasureT-loop
 μ-loop transitions count n labels arities children states weights lows lasts start end m j v p q to i₀ i = to - i
 
-entry-requires : tie.Need-entry-requires Inv-loop μ-loop
-entry-requires c κs = search needs
-
-entry-requires-2 : tie.Need-entry-requires-2 Inv-loop μ-loop
-entry-requires-2 c κs = search needs
-
-greater-requires : tie.Need-greater-requires Inv-loop μ-loop
-greater-requires c κs = search needs
-
-entry-requires-3 : tie.Need-entry-requires-3 Inv-loop μ-loop
-entry-requires-3 c κs = search needs
-
-entry-requires-4 : tie.Need-entry-requires-4 Inv-loop μ-loop
-entry-requires-4 c κs = search needs
-
-lesser-requires : tie.Need-lesser-requires Inv-loop μ-loop
-lesser-requires c κs = search needs
-
 loop-holds : tie.Need-loop-holds Inv-loop μ-loop
 loop-holds c =
     let start = c .before .before .before .before .before .before .before in
@@ -60,12 +42,6 @@ returns c =
     (omega (arith, known (start .args .p), known (start .args .q), last, c .before .before .loop-test .taken))
     (c .before .unused-or-agrees .ensures) (not-true _ (c .if1 .taken))
 
-add-i : tie.Need-add-i Inv-loop μ-loop
-add-i c = search needs
-
-loop-less : tie.Need-loop-less Inv-loop μ-loop
-loop-less c = search needs
-
 loop-again : tie.Need-loop-again Inv-loop μ-loop
 loop-again c =
     agrees-next (c .before .before .before .loop .inv) (c .before .unused-or-agrees .ensures)
@@ -83,20 +59,6 @@ returns-2 c =
 
 pub transitions-agree-spec : {M : Type 1} → statement M
 transitions-agree-spec =
-    tie.close
-    (tie.spec
-    Inv-loop
-    μ-loop
-    entry-requires
-    entry-requires-2
-    greater-requires
-    entry-requires-3
-    entry-requires-4
-    lesser-requires
-    loop-holds
-    unused-or-agrees-requires
-    returns
-    add-i
-    loop-less
-    loop-again
-    returns-2)
+    tie.close (tie.spec Inv-loop μ-loop (λ c κs. search needs) (λ c κs. search needs) (λ c κs. search needs)
+    (λ c κs. search needs) (λ c κs. search needs) (λ c κs. search needs) loop-holds unused-or-agrees-requires
+    returns (λ c. search needs) (λ c. search needs) loop-again returns-2)

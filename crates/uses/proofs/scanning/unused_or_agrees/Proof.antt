@@ -6,12 +6,6 @@ use borrow.Author.Needs.{needs}
 use Rattle.uses.proofs.scanning.unused_or_agrees.Statement.{statement}
 use Rattle.uses.proofs.scanning.unused_or_agrees.Tie as tie
 
-mul-has-neither : tie.Need-mul-has-neither
-mul-has-neither c = search needs
-
-has-neither-requires : tie.Need-has-neither-requires
-has-neither-requires c κs = search needs
-
 returns : tie.Need-returns
 returns c =
     let start = c .before .before .before in
@@ -21,13 +15,7 @@ returns c =
     (a .m) (a .j) (a .v)) (a .transitions .now) (a .count) (a .p) (a .q) (a .i) (r .narrow)
     (c .before .has-neither .ensures) (c .if1 .taken)
 
-transition-agrees-requires : tie.Need-transition-agrees-requires
-transition-agrees-requires c κs = search needs
-
-returns-2 : tie.Need-returns-2
-returns-2 c = search needs
-
 pub unused-or-agrees-spec : {M : Type 1} → statement M
 unused-or-agrees-spec =
-    tie.close
-    (tie.spec mul-has-neither has-neither-requires returns transition-agrees-requires returns-2)
+    tie.close (tie.spec (λ c. search needs) (λ c κs. search needs) returns (λ c κs. search needs)
+    (λ c. search needs))

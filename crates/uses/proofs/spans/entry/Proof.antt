@@ -6,18 +6,6 @@ use borrow.Author.Needs.{needs}
 use Rattle.uses.proofs.spans.entry.Statement.{statement}
 use Rattle.uses.proofs.spans.entry.Tie as tie
 
-wide-requires : tie.Need-wide-requires
-wide-requires c κs = search needs
-
-mul-widened : tie.Need-mul-widened
-mul-widened c = search needs
-
-element-copy-out-widened : tie.Need-element-copy-out-widened
-element-copy-out-widened c = search needs
-
-widened-requires : tie.Need-widened-requires
-widened-requires c κs = search needs
-
 returns : tie.Need-returns
 returns c =
     c .widened .ensures ∙ ap (λ (x : ℕ). getD (c .before .before .before .args .numbers .now) x 0)
@@ -25,5 +13,5 @@ returns c =
 
 pub entry-spec : {M : Type 1} → statement M
 entry-spec =
-    tie.close
-    (tie.spec wide-requires mul-widened element-copy-out-widened widened-requires returns)
+    tie.close (tie.spec (λ c κs. search needs) (λ c. search needs) (λ c. search needs) (λ c κs. search needs)
+    returns)

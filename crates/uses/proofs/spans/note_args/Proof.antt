@@ -17,12 +17,6 @@ Inv-loop transitions i lows₀ lasts₀ arity k₀ lows lasts k =
 abbrev μ-loop : tie.MeasureT-loop
 μ-loop transitions i lows₀ lasts₀ arity k₀ lows lasts k = arity - k
 
-mul-arity-of : tie.Need-mul-arity-of Inv-loop μ-loop
-mul-arity-of c = search needs
-
-arity-of-requires : tie.Need-arity-of-requires Inv-loop μ-loop
-arity-of-requires c κs = search needs
-
 loop-holds : tie.Need-loop-holds Inv-loop μ-loop
 loop-holds c = (c .arity-of .ensures, noted-start (c .before .before .pre .1 .1))
 
@@ -32,29 +26,10 @@ note-arg-requires c κs =
     let l = c .before .before .before .loop in
     (start .pre .0, (start .pre .1 .0, (omega (arith, l .inv .0), l .inv .1)))
 
-add-k : tie.Need-add-k Inv-loop μ-loop
-add-k c = search needs
-
-loop-less : tie.Need-loop-less Inv-loop μ-loop
-loop-less c = search needs
-
-loop-again : tie.Need-loop-again Inv-loop μ-loop
-loop-again c = search needs
-
 returns : tie.Need-returns Inv-loop μ-loop
 returns c = noted-end (c .before .loop .inv .1) (omega (arith, c .before .loop .inv .0))
 
 pub note-args-spec : {M : Type 1} → statement M
 note-args-spec =
-    tie.close
-    (tie.spec
-    Inv-loop
-    μ-loop
-    mul-arity-of
-    arity-of-requires
-    loop-holds
-    note-arg-requires
-    add-k
-    loop-less
-    loop-again
-    returns)
+    tie.close (tie.spec Inv-loop μ-loop (λ c. search needs) (λ c κs. search needs) loop-holds note-arg-requires
+    (λ c. search needs) (λ c. search needs) (λ c. search needs) returns)

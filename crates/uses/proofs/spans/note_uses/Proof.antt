@@ -28,12 +28,6 @@ note-args-requires c κs =
     let l = c .before .before .before .loop in
     (readable held (l .i) (c .before .before .loop-test .taken), (omega (arith, held .few), l .inv .1))
 
-add-i : tie.Need-add-i Inv-loop μ-loop
-add-i c = search needs
-
-loop-less : tie.Need-loop-less Inv-loop μ-loop
-loop-less c = search needs
-
 loop-again : tie.Need-loop-again Inv-loop μ-loop
 loop-again c = (omega arith, c .note-args .ensures)
 
@@ -46,5 +40,5 @@ returns c =
 
 pub note-uses-spec : {M : Type 1} → statement M
 note-uses-spec =
-    tie.close
-    (tie.spec Inv-loop μ-loop loop-holds note-args-requires add-i loop-less loop-again returns)
+    tie.close (tie.spec Inv-loop μ-loop loop-holds note-args-requires (λ c. search needs) (λ c. search needs)
+    loop-again returns)

@@ -5,9 +5,6 @@ use borrow.Author.Needs.{needs}
 use Rattle.uses.proofs.swapping.either.Statement.{statement}
 use Rattle.uses.proofs.swapping.either.Tie as tie
 
-wide-requires : tie.Need-wide-requires
-wide-requires c κs = search needs
-
 returns : tie.Need-returns
 returns c =
     let a = c .before .before .args in
@@ -19,4 +16,4 @@ returns-2 c =
     rw (ne-eqb (a .arg) (a .p) (λ e. c .if1 .left (e ∙ sym (c .before .wide .ensures))))
 
 pub either-spec : {M : Type 1} → statement M
-either-spec = tie.close (tie.spec wide-requires returns returns-2)
+either-spec = tie.close (tie.spec (λ c κs. search needs) returns returns-2)

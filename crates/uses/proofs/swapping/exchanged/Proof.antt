@@ -6,23 +6,11 @@ use borrow.Author.Needs.{needs}
 use Rattle.uses.proofs.swapping.exchanged.Statement.{statement}
 use Rattle.uses.proofs.swapping.exchanged.Tie as tie
 
-wide-requires : tie.Need-wide-requires
-wide-requires c κs = search needs
-
-at-place-requires : tie.Need-at-place-requires
-at-place-requires c κs = search needs
-
 sub-result : tie.Need-sub-result
 sub-result c =
     let out = c .at-place .ensures ∙ ap (λ (v : ℕ). v * 2 ^ (8 * (7 - (c .before .before .args) .k)))
     (c .before .wide .ensures) in
     omega (arith, out, c .before .before .pre .1 .0)
-
-wide-requires-2 : tie.Need-wide-requires-2
-wide-requires-2 c κs = search needs
-
-at-place-requires-2 : tie.Need-at-place-requires-2
-at-place-requires-2 c κs = search needs
 
 add-result : tie.Need-add-result
 add-result c =
@@ -42,12 +30,5 @@ returns c =
 
 pub exchanged-spec : {M : Type 1} → statement M
 exchanged-spec =
-    tie.close
-    (tie.spec
-    wide-requires
-    at-place-requires
-    sub-result
-    wide-requires-2
-    at-place-requires-2
-    add-result
-    returns)
+    tie.close (tie.spec (λ c κs. search needs) (λ c κs. search needs) sub-result (λ c κs. search needs)
+    (λ c κs. search needs) add-result returns)

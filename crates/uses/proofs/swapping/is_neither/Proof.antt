@@ -7,16 +7,10 @@ use borrow.Author.Needs.{needs}
 use Rattle.uses.proofs.swapping.is_neither.Statement.{statement}
 use Rattle.uses.proofs.swapping.is_neither.Tie as tie
 
-wide-requires : tie.Need-wide-requires
-wide-requires c κs = search needs
-
-wide-requires-2 : tie.Need-wide-requires-2
-wide-requires-2 c κs = search needs
-
 returns : tie.Need-returns
 returns c =
     let arg = c .before .before .args .arg in
     ap₂ (λ (a b : ℕ). not (eqb arg a) && not (eqb arg b)) (c .before .wide .ensures) (c .wide2 .ensures)
 
 pub is-neither-spec : {M : Type 1} → statement M
-is-neither-spec = tie.close (tie.spec wide-requires wide-requires-2 returns)
+is-neither-spec = tie.close (tie.spec (λ c κs. search needs) (λ c κs. search needs) returns)

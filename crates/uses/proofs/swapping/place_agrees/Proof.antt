@@ -10,17 +10,11 @@ use borrow.Author.Needs.{needs}
 use Rattle.uses.proofs.swapping.place_agrees.Statement.{statement}
 use Rattle.uses.proofs.swapping.place_agrees.Tie as tie
 
-mul-arg-of : tie.Need-mul-arg-of
-mul-arg-of c = search needs
-
 arg-of-requires : tie.Need-arg-of-requires
 arg-of-requires c κs =
     let start = c .before in
     let r = readable (start .pre .0 .over .runs) (start .args .i) (start .pre .1 .0) in
     (r .inside, omega (arith, r .narrow, start .pre .1 .1 .0))
-
-is-neither-requires : tie.Need-is-neither-requires
-is-neither-requires c κs = search needs
 
 returns : tie.Need-returns
 returns c =
@@ -28,12 +22,6 @@ returns c =
     place-other (arrays (a .labels .now) (a .arities .now) (a .children .now) (a .states .now) (a .weights .now) (a .m)
     (a .j) (a .v)) (a .transitions .now) (a .count) (transitionBytes * a .i) (a .p) (a .q) (a .k)
     (c .before .before .arg-of .ensures .0) (sym (c .before .is-neither .ensures) ∙ c .if1 .taken)
-
-either-requires : tie.Need-either-requires
-either-requires c κs = search needs
-
-either-requires-2 : tie.Need-either-requires-2
-either-requires-2 c κs = search needs
 
 swap-agrees-requires : tie.Need-swap-agrees-requires
 swap-agrees-requires c κs =
@@ -56,13 +44,5 @@ returns-2 c =
 
 pub place-agrees-spec : {M : Type 1} → statement M
 place-agrees-spec =
-    tie.close
-    (tie.spec
-    mul-arg-of
-    arg-of-requires
-    is-neither-requires
-    returns
-    either-requires
-    either-requires-2
-    swap-agrees-requires
-    returns-2)
+    tie.close (tie.spec (λ c. search needs) arg-of-requires (λ c κs. search needs) returns
+    (λ c κs. search needs) (λ c κs. search needs) swap-agrees-requires returns-2)

@@ -13,12 +13,6 @@ swapped-out-requires c κs =
     let p = c .before .pre in
     (p .0 .searchable, (p .0 .over, p .1))
 
-mul-at : tie.Need-mul-at
-mul-at c = search needs
-
-out-of-requires : tie.Need-out-of-requires
-out-of-requires c κs = search needs
-
 returns : tie.Need-returns
 returns c =
     let a = c .before .before .before .before .args in
@@ -47,5 +41,5 @@ returns-2 c =
 
 pub swap-agrees-spec : {M : Type 1} → statement M
 swap-agrees-spec =
-    tie.close
-    (tie.spec swapped-out-requires mul-at out-of-requires returns is-covered-requires returns-2)
+    tie.close (tie.spec swapped-out-requires (λ c. search needs) (λ c κs. search needs) returns
+    is-covered-requires returns-2)

@@ -30,9 +30,6 @@ exchanged-requires c κs =
       ),
     )
 
-seek-requires : tie.Need-seek-requires
-seek-requires c κs = search needs
-
 returns-2 : tie.Need-returns-2
 returns-2 c =
     let known = c .before .before .before .before in
@@ -42,15 +39,6 @@ returns-2 c =
     (start .args .k) (p .1 .1 .0) (p .1 .1 .1 .0) (p .1 .1 .1 .1 .1 .0) (p .1 .1 .1 .1 .1 .1)
     (omega (arith, start .fits .y)) (c .before .before .before .if1 .left) (p .1 .1 .1 .1 .0)
     (c .before .before .exchanged .ensures) (c .before .seek .ensures .1) (c .if2 .taken)
-
-sub-out-of : tie.Need-sub-out-of
-sub-out-of c = search needs
-
-mul-out-of : tie.Need-mul-out-of
-mul-out-of c = search needs
-
-out-of-requires : tie.Need-out-of-requires
-out-of-requires c κs = search needs
 
 returns-3 : tie.Need-returns-3
 returns-3 c =
@@ -65,13 +53,5 @@ returns-3 c =
 
 pub swapped-out-spec : {M : Type 1} → statement M
 swapped-out-spec =
-    tie.close
-    (tie.spec
-    returns
-    exchanged-requires
-    seek-requires
-    returns-2
-    sub-out-of
-    mul-out-of
-    out-of-requires
-    returns-3)
+    tie.close (tie.spec returns exchanged-requires (λ c κs. search needs) returns-2 (λ c. search needs)
+    (λ c. search needs) (λ c κs. search needs) returns-3)

@@ -8,9 +8,6 @@ use borrow.Author.Needs.{needs}
 use Rattle.uses.proofs.using.place_slot.Statement.{statement}
 use Rattle.uses.proofs.using.place_slot.Tie as tie
 
-mul-at : tie.Need-mul-at
-mul-at c = search needs
-
 arg-of-requires : tie.Need-arg-of-requires
 arg-of-requires c κs =
     let r = readable (c .before .pre .0 .over .runs) (c .before .args .i) (c .before .pre .1 .0) in (
@@ -18,12 +15,6 @@ arg-of-requires c κs =
       omega
           (arith, r .narrow, c .before .pre .1 .1),
     )
-
-wide-requires : tie.Need-wide-requires
-wide-requires c κs = search needs
-
-no-slot-requires : tie.Need-no-slot-requires
-no-slot-requires c κs = search needs
 
 returns : tie.Need-returns
 returns c =
@@ -48,18 +39,12 @@ is-covered-requires c κs = (
   ),
 )
 
-no-slot-requires-2 : tie.Need-no-slot-requires-2
-no-slot-requires-2 c κs = search needs
-
 returns-2 : tie.Need-returns-2
 returns-2 c =
     let a = c .before .before .before .before .before .before .before .args in
     used-none (arrays (a .labels .now) (a .arities .now) (a .children .now) (a .states .now) (a .weights .now) (a .m)
     (a .j) 0) (a .transitions .now) (a .count) (a .p) (c .no-slot2 .result) (c .no-slot2 .ensures .0)
     (c .no-slot2 .ensures .1)
-
-slot-at-requires : tie.Need-slot-at-requires
-slot-at-requires c κs = search needs
 
 returns-3 : tie.Need-returns-3
 returns-3 c =
@@ -74,15 +59,5 @@ returns-3 c =
 
 pub place-slot-spec : {M : Type 1} → statement M
 place-slot-spec =
-    tie.close
-    (tie.spec
-    mul-at
-    arg-of-requires
-    wide-requires
-    no-slot-requires
-    returns
-    is-covered-requires
-    no-slot-requires-2
-    returns-2
-    slot-at-requires
-    returns-3)
+    tie.close (tie.spec (λ c. search needs) arg-of-requires (λ c κs. search needs) (λ c κs. search needs)
+    returns is-covered-requires (λ c κs. search needs) returns-2 (λ c κs. search needs) returns-3)

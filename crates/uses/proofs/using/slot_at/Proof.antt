@@ -8,18 +8,6 @@ use borrow.Author.Needs.{needs}
 use Rattle.uses.proofs.using.slot_at.Statement.{statement}
 use Rattle.uses.proofs.using.slot_at.Tie as tie
 
-mul-at : tie.Need-mul-at
-mul-at c = search needs
-
-meta-at-requires : tie.Need-meta-at-requires
-meta-at-requires c κs = search needs
-
-args-at-requires : tie.Need-args-at-requires
-args-at-requires c κs = search needs
-
-wide-requires : tie.Need-wide-requires
-wide-requires c κs = search needs
-
 at-place-requires : tie.Need-at-place-requires
 at-place-requires c κs = (
   omega (arith, c .wide .ensures, c .before .before .before .before .fits .p),
@@ -48,9 +36,6 @@ sub-args c =
           (c .before .before .before .before .before .pre .1 .1 .0),
     )
 
-out-of-requires : tie.Need-out-of-requires
-out-of-requires c κs = search needs
-
 returns : tie.Need-returns
 returns c =
     let out = c .before .at-place .ensures ∙ ap (λ (v : ℕ). v * 2 ^ (8 * (7 -
@@ -68,13 +53,5 @@ returns c =
 
 pub slot-at-spec : {M : Type 1} → statement M
 slot-at-spec =
-    tie.close
-    (tie.spec
-    mul-at
-    meta-at-requires
-    args-at-requires
-    wide-requires
-    at-place-requires
-    sub-args
-    out-of-requires
-    returns)
+    tie.close (tie.spec (λ c. search needs) (λ c κs. search needs) (λ c κs. search needs) (λ c κs. search needs)
+    at-place-requires sub-args (λ c κs. search needs) returns)

@@ -11,21 +11,6 @@ use borrow.Author.Needs.{needs}
 use Rattle.uses.proofs.using.use_slot.Statement.{statement}
 use Rattle.uses.proofs.using.use_slot.Tie as tie
 
-wide-requires : tie.Need-wide-requires
-wide-requires c κs = search needs
-
-sub-p : tie.Need-sub-p
-sub-p c = search needs
-
-element-copy-out-p : tie.Need-element-copy-out-p
-element-copy-out-p c = search needs
-
-entry-requires : tie.Need-entry-requires
-entry-requires c κs = search needs
-
-no-slot-requires : tie.Need-no-slot-requires
-no-slot-requires c κs = search needs
-
 returns : tie.Need-returns
 returns c = (
   omega (arith, c .no-slot .ensures .0),
@@ -35,9 +20,6 @@ returns c = (
   )),
 )
 
-no-slot-requires-2 : tie.Need-no-slot-requires-2
-no-slot-requires-2 c κs = search needs
-
 returns-2 : tie.Need-returns-2
 returns-2 c = (
   omega (arith, c .no-slot2 .ensures .0),
@@ -46,9 +28,6 @@ returns-2 c = (
     c .no-slot2 .ensures .1,
   )),
 )
-
-sub-transition-slot : tie.Need-sub-transition-slot
-sub-transition-slot c = search needs
 
 transition-slot-requires : tie.Need-transition-slot-requires
 transition-slot-requires c κs =
@@ -79,16 +58,6 @@ returns-3 c =
 
 pub use-slot-spec : {M : Type 1} → statement M
 use-slot-spec =
-    tie.close
-    (tie.spec
-    wide-requires
-    sub-p
-    element-copy-out-p
-    entry-requires
-    no-slot-requires
-    returns
-    no-slot-requires-2
-    returns-2
-    sub-transition-slot
-    transition-slot-requires
+    tie.close (tie.spec (λ c κs. search needs) (λ c. search needs) (λ c. search needs) (λ c κs. search needs)
+    (λ c κs. search needs) returns (λ c κs. search needs) returns-2 (λ c. search needs) transition-slot-requires
     returns-3)

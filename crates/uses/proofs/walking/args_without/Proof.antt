@@ -6,15 +6,6 @@ use borrow.Author.Needs.{needs}
 use Rattle.uses.proofs.walking.args_without.Statement.{statement}
 use Rattle.uses.proofs.walking.args_without.Tie as tie
 
-args-at-requires : tie.Need-args-at-requires
-args-at-requires c κs = search needs
-
-wide-requires : tie.Need-wide-requires
-wide-requires c κs = search needs
-
-at-place-requires : tie.Need-at-place-requires
-at-place-requires c κs = search needs
-
 sub-result : tie.Need-sub-result
 sub-result c =
     let start = c .before .before .before .before in
@@ -29,4 +20,4 @@ returns c =
 
 pub args-without-spec : {M : Type 1} → statement M
 args-without-spec =
-    tie.close (tie.spec args-at-requires wide-requires at-place-requires sub-result returns)
+    tie.close (tie.spec (λ c κs. search needs) (λ c κs. search needs) (λ c κs. search needs) sub-result returns)

@@ -74,26 +74,8 @@ returns c = λ e. absurd (false≢true e)
 returns-2 : tie.Need-returns-2
 returns-2 c = λ e. absurd (false≢true e)
 
-mul-first : tie.Need-mul-first
-mul-first c = search needs
-
-mul-second : tie.Need-mul-second
-mul-second c = search needs
-
-meta-at-requires : tie.Need-meta-at-requires
-meta-at-requires c κs = search needs
-
-meta-at-requires-2 : tie.Need-meta-at-requires-2
-meta-at-requires-2 c κs = search needs
-
 returns-3 : tie.Need-returns-3
 returns-3 c = λ e. absurd (false≢true e)
-
-out-of-requires : tie.Need-out-of-requires
-out-of-requires c κs = search needs
-
-out-of-requires-2 : tie.Need-out-of-requires-2
-out-of-requires-2 c κs = search needs
 
 returns-4 : tie.Need-returns-4
 returns-4 c = λ e. absurd (false≢true e)
@@ -146,18 +128,6 @@ returns-5 c =
 
 pub pair-agrees-spec : {M : Type 1} → statement M
 pair-agrees-spec =
-    tie.close
-    (tie.spec
-    returns
-    returns-2
-    mul-first
-    mul-second
-    meta-at-requires
-    meta-at-requires-2
-    returns-3
-    out-of-requires
-    out-of-requires-2
-    returns-4
-    args-without-requires
-    args-without-requires-2
-    returns-5)
+    tie.close (tie.spec returns returns-2 (λ c. search needs) (λ c. search needs) (λ c κs. search needs)
+    (λ c κs. search needs) returns-3 (λ c κs. search needs) (λ c κs. search needs) returns-4
+    args-without-requires args-without-requires-2 returns-5)

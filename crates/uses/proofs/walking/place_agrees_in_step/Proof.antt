@@ -122,17 +122,5 @@ returns-2 c =
 
 pub place-agrees-in-step-spec : {M : Type 1} → statement M
 place-agrees-in-step-spec =
-    tie.close
-    (tie.spec
-    Inv-loop
-    μ-loop
-    next-with-requires
-    next-with-requires-2
-    loop-holds
-    step-requires
-    returns
-    next-with-requires-3
-    next-with-requires-4
-    loop-less
-    loop-again
-    returns-2)
+    tie.close (tie.spec Inv-loop μ-loop next-with-requires next-with-requires-2 loop-holds step-requires returns
+    next-with-requires-3 next-with-requires-4 loop-less loop-again returns-2)

@@ -76,15 +76,6 @@ module _ {a : Arrays} {s : List ℕ} {c k p q to i x : ℕ} where
     walked = λ w. w;
   }
 
-pair-agrees-requires : tie.Need-pair-agrees-requires
-pair-agrees-requires c κs = search needs
-
-add-t21 : tie.Need-add-t21
-add-t21 c = search needs
-
-add-t22 : tie.Need-add-t22
-add-t22 c = search needs
-
 returns : tie.Need-returns
 returns c = step-pair (c .before .pair-agrees .ensures (c .if1 .taken))
 
@@ -102,9 +93,6 @@ use-covered-requires c κs =
             (p .1 .1 .0 .here h),
       ),
     )
-
-add-t24 : tie.Need-add-t24
-add-t24 c = search needs
 
 returns-2 : tie.Need-returns-2
 returns-2 c =
@@ -127,9 +115,6 @@ use-covered-requires-2 c κs =
       ),
     )
 
-add-t26 : tie.Need-add-t26
-add-t26 c = search needs
-
 returns-3 : tie.Need-returns-3
 returns-3 c =
     let p = c .before .before .before .before .before .before .before .pre .1 .1 in
@@ -143,16 +128,6 @@ returns-4 c =
 
 pub step-spec : {M : Type 1} → statement M
 step-spec =
-    tie.close
-    (tie.spec
-    pair-agrees-requires
-    add-t21
-    add-t22
-    returns
-    use-covered-requires
-    add-t24
-    returns-2
-    use-covered-requires-2
-    add-t26
-    returns-3
+    tie.close (tie.spec (λ c κs. search needs) (λ c. search needs) (λ c. search needs) returns
+    use-covered-requires (λ c. search needs) returns-2 use-covered-requires-2 (λ c. search needs) returns-3
     returns-4)

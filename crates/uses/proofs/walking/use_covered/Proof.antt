@@ -10,9 +10,6 @@ use Rattle.uses.proofs.walking.use_covered.Tie as tie
 returns : tie.Need-returns
 returns c = (λ e. absurd (false≢true e), λ e. absurd (false≢true e))
 
-mul-is-covered : tie.Need-mul-is-covered
-mul-is-covered c = search needs
-
 is-covered-requires : tie.Need-is-covered-requires
 is-covered-requires c κs =
     let p = c .before .before .pre in
@@ -25,4 +22,4 @@ returns-2 : tie.Need-returns-2
 returns-2 c = (λ _. omega (arith, c .before .if1 .left), λ e. sym (c .is-covered .ensures) ∙ e)
 
 pub use-covered-spec : {M : Type 1} → statement M
-use-covered-spec = tie.close (tie.spec returns mul-is-covered is-covered-requires returns-2)
+use-covered-spec = tie.close (tie.spec returns (λ c. search needs) is-covered-requires returns-2)

@@ -107,27 +107,6 @@ returns c = λ e. absurd (false≢true e)
 returns-2 : tie.Need-returns-2 Inv-loop μ-loop
 returns-2 c = λ e. absurd (false≢true e)
 
-entry-requires : tie.Need-entry-requires Inv-loop μ-loop
-entry-requires c κs = search needs
-
-entry-requires-2 : tie.Need-entry-requires-2 Inv-loop μ-loop
-entry-requires-2 c κs = search needs
-
-greater-requires : tie.Need-greater-requires Inv-loop μ-loop
-greater-requires c κs = search needs
-
-entry-requires-3 : tie.Need-entry-requires-3 Inv-loop μ-loop
-entry-requires-3 c κs = search needs
-
-entry-requires-4 : tie.Need-entry-requires-4 Inv-loop μ-loop
-entry-requires-4 c κs = search needs
-
-lesser-requires : tie.Need-lesser-requires Inv-loop μ-loop
-lesser-requires c κs = search needs
-
-lesser-requires-2 : tie.Need-lesser-requires-2 Inv-loop μ-loop
-lesser-requires-2 c κs = search needs
-
 width-requires : tie.Need-width-requires Inv-loop μ-loop
 width-requires c κs =
     let end = c .before .before .before .before in
@@ -180,9 +159,6 @@ place-agrees-in-step-requires c κs =
 returns-3 : tie.Need-returns-3 Inv-loop μ-loop
 returns-3 c = λ e. absurd (false≢true e)
 
-add-k : tie.Need-add-k Inv-loop μ-loop
-add-k c = search needs
-
 loop-less : tie.Need-loop-less Inv-loop μ-loop
 loop-less c = omega (arith, c .before .before .before .before .width .ensures .0, c .before .before .loop-test .taken)
 
@@ -204,24 +180,7 @@ returns-4 c =
 
 pub walk-agrees-spec : {M : Type 1} → statement M
 walk-agrees-spec =
-    tie.close
-    (tie.spec
-    Inv-loop
-    μ-loop
-    returns
-    returns-2
-    entry-requires
-    entry-requires-2
-    greater-requires
-    entry-requires-3
-    entry-requires-4
-    lesser-requires
-    lesser-requires-2
-    width-requires
-    loop-holds
-    place-agrees-in-step-requires
-    returns-3
-    add-k
-    loop-less
-    loop-again
-    returns-4)
+    tie.close (tie.spec Inv-loop μ-loop returns returns-2 (λ c κs. search needs) (λ c κs. search needs)
+    (λ c κs. search needs) (λ c κs. search needs) (λ c κs. search needs) (λ c κs. search needs)
+    (λ c κs. search needs) width-requires loop-holds place-agrees-in-step-requires returns-3 (λ c. search needs)
+    loop-less loop-again returns-4)

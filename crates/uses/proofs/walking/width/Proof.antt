@@ -31,18 +31,6 @@ arity-most {s} bytes r i j h l = go (eqb i j) refl
     go true e = let same = ap (λ (y : ℕ). arityOf s (transitionBytes * y)) (eqb-true i j e) in omega arith
     go false e = let n = eqb-false i j e in arity-rises bytes r i j (omega arith) l
 
-returns : tie.Need-returns
-returns c = search needs
-
-sub-arity-of : tie.Need-sub-arity-of
-sub-arity-of c = search needs
-
-mul-arity-of : tie.Need-mul-arity-of
-mul-arity-of c = search needs
-
-arity-of-requires : tie.Need-arity-of-requires
-arity-of-requires c κs = search needs
-
 returns-2 : tie.Need-returns-2
 returns-2 c =
     let start = c .before .before .before in
@@ -59,4 +47,6 @@ returns-2 c =
     )
 
 pub width-spec : {M : Type 1} → statement M
-width-spec = tie.close (tie.spec returns sub-arity-of mul-arity-of arity-of-requires returns-2)
+width-spec =
+    tie.close (tie.spec (λ c. search needs) (λ c. search needs) (λ c. search needs) (λ c κs. search needs)
+    returns-2)

@@ -4,12 +4,6 @@ use Rattle.validity.proofs.Rising.{ranks-acyclic}
 use Rattle.validity.proofs.grounding.acyclic.Statement.{statement}
 use Rattle.validity.proofs.grounding.acyclic.Tie as tie
 
-depth-first-requires : tie.Need-depth-first-requires
-depth-first-requires c κs = search needs
-
-ranks-rise-requires : tie.Need-ranks-rise-requires
-ranks-rise-requires c κs = search needs
-
 returns : tie.Need-returns
 returns c =
     let start = c .before .before .before .before .before in
@@ -17,13 +11,7 @@ returns c =
     ranks-acyclic (start .args .transitions .now) (start .args .n) (start .args .count)
     (at-depth-first .depth-first .result) (start .pre .0) (c .before .ranks-rise .ensures) (c .if1 .taken)
 
-all-grounded-requires : tie.Need-all-grounded-requires
-all-grounded-requires c κs = search needs
-
-returns-2 : tie.Need-returns-2
-returns-2 c = search needs
-
 pub acyclic-spec : {M : Type 1} → statement M
 acyclic-spec =
-    tie.close
-    (tie.spec depth-first-requires ranks-rise-requires returns all-grounded-requires returns-2)
+    tie.close (tie.spec (λ c κs. search needs) (λ c κs. search needs) returns (λ c κs. search needs)
+    (λ c. search needs))

@@ -23,12 +23,6 @@ block-requires c κs =
     let now = c .before .before .loop in
     (readable (start .pre .0) (now .i) (omega arith), now .inv .1)
 
-add-i : tie.Need-add-i Inv-loop μ-loop
-add-i c = search needs
-
-loop-less : tie.Need-loop-less Inv-loop μ-loop
-loop-less c = search needs
-
 loop-again : tie.Need-loop-again Inv-loop μ-loop
 loop-again c = (omega arith, c .block .ensures)
 
@@ -41,5 +35,5 @@ returns c =
 
 pub block-all-spec : {M : Type 1} → statement M
 block-all-spec =
-    tie.close
-    (tie.spec Inv-loop μ-loop loop-holds block-requires add-i loop-less loop-again returns)
+    tie.close (tie.spec Inv-loop μ-loop loop-holds block-requires (λ c. search needs) (λ c. search needs)
+    loop-again returns)

@@ -9,23 +9,11 @@ use Rattle.marking.proofs.Spreading.{spread-mark, spread-none}
 use Rattle.validity.proofs.grounding.ground.Statement.{statement}
 use Rattle.validity.proofs.grounding.ground.Tie as tie
 
-add-q : tie.Need-add-q
-add-q c = search needs
-
-element-copy-out-if1 : tie.Need-element-copy-out-if1
-element-copy-out-if1 c = search needs
-
 returns : tie.Need-returns
 returns c = spread-none (λ e. absurd (true≢false (sym (nonzero-true _ (c .if1 .taken)) ∙ e)))
 
-element-copy-out-if2 : tie.Need-element-copy-out-if2
-element-copy-out-if2 c = search needs
-
 returns-2 : tie.Need-returns-2
 returns-2 c = spread-none (λ _. nonzero-true _ (c .if2 .taken))
-
-element-write-marks : tie.Need-element-write-marks
-element-write-marks c = search needs
 
 returns-3 : tie.Need-returns-3
 returns-3 c =
@@ -35,12 +23,5 @@ returns-3 c =
 
 pub ground-spec : {M : Type 1} → statement M
 ground-spec =
-    tie.close
-    (tie.spec
-    add-q
-    element-copy-out-if1
-    returns
-    element-copy-out-if2
-    returns-2
-    element-write-marks
-    returns-3)
+    tie.close (tie.spec (λ c. search needs) (λ c. search needs) returns (λ c. search needs) returns-2
+    (λ c. search needs) returns-3)

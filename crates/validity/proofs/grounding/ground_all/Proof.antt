@@ -9,9 +9,6 @@ block-all-requires c κs =
     let start = c .before .before .before in
     (start .pre .0, blocks-none (start .args .transitions .now) (start .args .marks .now))
 
-ground-unblocked-requires : tie.Need-ground-unblocked-requires
-ground-unblocked-requires c κs = search needs
-
 returns : tie.Need-returns
 returns c =
     let start = c .before .before .before .before .before .before .before in
@@ -19,4 +16,4 @@ returns c =
     (c .before .before .before .block-all .ensures) (c .ground-unblocked .ensures)
 
 pub ground-all-spec : {M : Type 1} → statement M
-ground-all-spec = tie.close (tie.spec block-all-requires ground-unblocked-requires returns)
+ground-all-spec = tie.close (tie.spec block-all-requires (λ c κs. search needs) returns)

@@ -24,12 +24,6 @@ ground-requires c κs =
     let start = c .before .before .before in
     (omega arith, c .before .before .loop .inv .1 .swept .size ∙ start .pre .1)
 
-add-k : tie.Need-add-k Inv-loop μ-loop
-add-k c = search needs
-
-loop-less : tie.Need-loop-less Inv-loop μ-loop
-loop-less c = search needs
-
 loop-again : tie.Need-loop-again Inv-loop μ-loop
 loop-again c =
     let start = c .before .before .before .before in
@@ -45,5 +39,5 @@ returns c =
 
 pub ground-unblocked-spec : {M : Type 1} → statement M
 ground-unblocked-spec =
-    tie.close
-    (tie.spec Inv-loop μ-loop loop-holds ground-requires add-k loop-less loop-again returns)
+    tie.close (tie.spec Inv-loop μ-loop loop-holds ground-requires (λ c. search needs) (λ c. search needs)
+    loop-again returns)

@@ -9,15 +9,6 @@ use Rattle.validity.proofs.Passing.{read-broken, read-known, read-low, 
 use Rattle.validity.proofs.numbering.read.Statement.{statement}
 use Rattle.validity.proofs.numbering.read.Tie as tie
 
-mul-at : tie.Need-mul-at
-mul-at c = search needs
-
-top-argument-requires : tie.Need-top-argument-requires
-top-argument-requires c κs = search needs
-
-out-of-requires : tie.Need-out-of-requires
-out-of-requires c κs = search needs
-
 returns : tie.Need-returns
 returns c =
     let start = c .before .before .before .before in (
@@ -29,18 +20,6 @@ returns c =
           )),
       start .pre .1 .1 .1 .1,
     )
-
-element-copy-out-wide : tie.Need-element-copy-out-wide
-element-copy-out-wide c = search needs
-
-wide-requires : tie.Need-wide-requires
-wide-requires c κs = search needs
-
-add-leads-to : tie.Need-add-leads-to
-add-leads-to c = search needs
-
-leads-to-requires : tie.Need-leads-to-requires
-leads-to-requires c κs = search needs
 
 returns-2 : tie.Need-returns-2
 returns-2 c =
@@ -55,12 +34,6 @@ returns-2 c =
       start .pre .1 .1 .1 .1,
     )
 
-add-all-seen : tie.Need-add-all-seen
-add-all-seen c = search needs
-
-all-seen-requires : tie.Need-all-seen-requires
-all-seen-requires c κs = search needs
-
 returns-3 : tie.Need-returns-3
 returns-3 c =
     let start = c .before .before .before .before .before .before .before .before .before .before .before in
@@ -71,15 +44,6 @@ returns-3 c =
           (start .pre .1 .1 .1 .0) (rw (t, o) at e),
       start .pre .1 .1 .1 .1,
     )
-
-add-seen : tie.Need-add-seen
-add-seen c = search needs
-
-cast-seen : tie.Need-cast-seen
-cast-seen c = search needs
-
-element-write-seen : tie.Need-element-write-seen
-element-write-seen c = search needs
 
 returns-4 : tie.Need-returns-4
 returns-4 c =
@@ -96,21 +60,7 @@ returns-4 c =
 
 pub read-spec : {M : Type 1} → statement M
 read-spec =
-    tie.close
-    (tie.spec
-    mul-at
-    top-argument-requires
-    out-of-requires
-    returns
-    element-copy-out-wide
-    wide-requires
-    add-leads-to
-    leads-to-requires
-    returns-2
-    add-all-seen
-    all-seen-requires
-    returns-3
-    add-seen
-    cast-seen
-    element-write-seen
-    returns-4)
+    tie.close (tie.spec (λ c. search needs) (λ c κs. search needs) (λ c κs. search needs) returns
+    (λ c. search needs) (λ c κs. search needs) (λ c. search needs) (λ c κs. search needs) returns-2
+    (λ c. search needs) (λ c κs. search needs) returns-3 (λ c. search needs) (λ c. search needs)
+    (λ c. search needs) returns-4)

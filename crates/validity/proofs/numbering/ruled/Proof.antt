@@ -62,12 +62,6 @@ returns c =
       λ h. absurd (false≢true h),
     )
 
-add-i : tie.Need-add-i Inv-loop μ-loop
-add-i c = search needs
-
-loop-less : tie.Need-loop-less Inv-loop μ-loop
-loop-less c = search needs
-
 loop-again : tie.Need-loop-again Inv-loop μ-loop
 loop-again c =
     let read = c .before .read .ensures in
@@ -77,12 +71,6 @@ loop-again c =
       read .1,
       clean-next (now .inv .3) (omega arith) (c .before .before .before .climbs .ensures),
     )
-
-add-all-marked : tie.Need-add-all-marked Inv-loop μ-loop
-add-all-marked c = search needs
-
-all-marked-requires : tie.Need-all-marked-requires Inv-loop μ-loop
-all-marked-requires c κs = search needs
 
 returns-2 : tie.Need-returns-2 Inv-loop μ-loop
 returns-2 c =
@@ -97,17 +85,5 @@ returns-2 c =
 
 pub ruled-spec : {M : Type 1} → statement M
 ruled-spec =
-    tie.close
-    (tie.spec
-    Inv-loop
-    μ-loop
-    loop-holds
-    climbs-requires
-    read-requires
-    returns
-    add-i
-    loop-less
-    loop-again
-    add-all-marked
-    all-marked-requires
-    returns-2)
+    tie.close (tie.spec Inv-loop μ-loop loop-holds climbs-requires read-requires returns (λ c. search needs)
+    (λ c. search needs) loop-again (λ c. search needs) (λ c κs. search needs) returns-2)

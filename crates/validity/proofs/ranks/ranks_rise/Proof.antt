@@ -26,18 +26,6 @@ loop-holds c =
     transitions-every (risesBy (rankOf (c .before .args .ranks .now))) (c .before .args .transitions .now)
     (c .before .args .count)
 
-mul-out-of : tie.Need-mul-out-of Inv-loop μ-loop
-mul-out-of c = search needs
-
-out-of-requires : tie.Need-out-of-requires Inv-loop μ-loop
-out-of-requires c κs = search needs
-
-mul-args-below : tie.Need-mul-args-below Inv-loop μ-loop
-mul-args-below c = search needs
-
-element-copy-out-args-below : tie.Need-element-copy-out-args-below Inv-loop μ-loop
-element-copy-out-args-below c = search needs
-
 args-below-requires : tie.Need-args-below-requires Inv-loop μ-loop
 args-below-requires c κs =
     let start = c .before .before .before .before .before in
@@ -53,12 +41,6 @@ returns c =
     (rises-at (start .args .ranks .now) (start .args .transitions .now) ((transitionBytes * (now .loop) .i))
     (at-out-of .out-of .ensures .0) (c .before .args-below .ensures) (not-true _ (c .if1 .taken)))
 
-add-i : tie.Need-add-i Inv-loop μ-loop
-add-i c = search needs
-
-loop-less : tie.Need-loop-less Inv-loop μ-loop
-loop-less c = search needs
-
 loop-again : tie.Need-loop-again Inv-loop μ-loop
 loop-again c =
     let start = c .before .before .before .before .before .before .before in
@@ -73,18 +55,6 @@ returns-2 c = every-end (c .before .loop .inv) (omega arith)
 
 pub ranks-rise-spec : {M : Type 1} → statement M
 ranks-rise-spec =
-    tie.close
-    (tie.spec
-    Inv-loop
-    μ-loop
-    loop-holds
-    mul-out-of
-    out-of-requires
-    mul-args-below
-    element-copy-out-args-below
-    args-below-requires
-    returns
-    add-i
-    loop-less
-    loop-again
-    returns-2)
+    tie.close (tie.spec Inv-loop μ-loop loop-holds (λ c. search needs) (λ c κs. search needs)
+    (λ c. search needs) (λ c. search needs) args-below-requires returns (λ c. search needs) (λ c. search needs)
+    loop-again returns-2)

@@ -10,25 +10,13 @@ use Rattle.validity.proofs.Sweeping.{spread-up}
 use Rattle.validity.proofs.reaching.mark_output.Statement.{statement}
 use Rattle.validity.proofs.reaching.mark_output.Tie as tie
 
-out-of-requires : tie.Need-out-of-requires
-out-of-requires c κs = search needs
-
-element-copy-out-if1 : tie.Need-element-copy-out-if1
-element-copy-out-if1 c = search needs
-
 returns : tie.Need-returns
 returns c = spread-none (λ _. nonzero-true _ (rw (c .before .before .out-of .ensures .0) at (c .if1 .taken)))
-
-args-marked-requires : tie.Need-args-marked-requires
-args-marked-requires c κs = search needs
 
 returns-2 : tie.Need-returns-2
 returns-2 c =
     spread-none
     (λ e. absurd (true≢false (sym e ∙ sym (c .before .args-marked .ensures) ∙ not-true _ (c .if2 .taken))))
-
-element-write-marks : tie.Need-element-write-marks
-element-write-marks c = search needs
 
 returns-3 : tie.Need-returns-3
 returns-3 c =
@@ -41,12 +29,5 @@ returns-3 c =
 
 pub mark-output-spec : {M : Type 1} → statement M
 mark-output-spec =
-    tie.close
-    (tie.spec
-    out-of-requires
-    element-copy-out-if1
-    returns
-    args-marked-requires
-    returns-2
-    element-write-marks
-    returns-3)
+    tie.close (tie.spec (λ c κs. search needs) (λ c. search needs) returns (λ c κs. search needs) returns-2
+    (λ c. search needs) returns-3)

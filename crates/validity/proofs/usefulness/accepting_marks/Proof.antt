@@ -37,18 +37,6 @@ loop-holds c = (
   λ j h. unmarked byteValues j,
 )
 
-class-mark-requires : tie.Need-class-mark-requires Inv-loop μ-loop
-class-mark-requires c κs = search needs
-
-array-write-marks : tie.Need-array-write-marks Inv-loop μ-loop
-array-write-marks c = search needs
-
-add-q : tie.Need-add-q Inv-loop μ-loop
-add-q c = search needs
-
-loop-less : tie.Need-loop-less Inv-loop μ-loop
-loop-less c = search needs
-
 loop-again : tie.Need-loop-again Inv-loop μ-loop
 loop-again c =
     let start = c .before .before .before .before in
@@ -72,14 +60,5 @@ returns c =
 
 pub accepting-marks-spec : {M : Type 1} → statement M
 accepting-marks-spec =
-    tie.close
-    (tie.spec
-    Inv-loop
-    μ-loop
-    loop-holds
-    class-mark-requires
-    array-write-marks
-    add-q
-    loop-less
-    loop-again
-    returns)
+    tie.close (tie.spec Inv-loop μ-loop loop-holds (λ c κs. search needs) (λ c. search needs)
+    (λ c. search needs) (λ c. search needs) loop-again returns)

@@ -8,18 +8,6 @@ use Rattle.validity.proofs.Fixpoints.{all-coaccessible-early, all-coacc
 use Rattle.validity.proofs.usefulness.all_coaccessible.Statement.{statement}
 use Rattle.validity.proofs.usefulness.all_coaccessible.Tie as tie
 
-accepting-marks-requires : tie.Need-accepting-marks-requires
-accepting-marks-requires c κs = search needs
-
-use-all-requires : tie.Need-use-all-requires
-use-all-requires c κs = search needs
-
-add-all-marked : tie.Need-add-all-marked
-add-all-marked c = search needs
-
-all-marked-requires : tie.Need-all-marked-requires
-all-marked-requires c κs = search needs
-
 returns : tie.Need-returns
 returns c =
     let start = c .before .before .before .before .before .before .before .before in
@@ -32,15 +20,6 @@ returns c =
     (start .args .count) (start .pre .over) (at-accepting-marks .accepting-marks .ensures))
     (at-use-all .use-all .ensures)) (rw e at (c .before .all-marked .ensures)) (c .if1 .taken)
 
-useful-requires : tie.Need-useful-requires
-useful-requires c κs = search needs
-
-add-all-marked-2 : tie.Need-add-all-marked-2
-add-all-marked-2 c = search needs
-
-all-marked-requires-2 : tie.Need-all-marked-requires-2
-all-marked-requires-2 c κs = search needs
-
 returns-2 : tie.Need-returns-2
 returns-2 c =
     let start = c .before .before .before .before .before .before .before .before .before .before .before in
@@ -50,14 +29,5 @@ returns-2 c =
 
 pub all-coaccessible-spec : {M : Type 1} → statement M
 all-coaccessible-spec =
-    tie.close
-    (tie.spec
-    accepting-marks-requires
-    use-all-requires
-    add-all-marked
-    all-marked-requires
-    returns
-    useful-requires
-    add-all-marked-2
-    all-marked-requires-2
-    returns-2)
+    tie.close (tie.spec (λ c κs. search needs) (λ c κs. search needs) (λ c. search needs) (λ c κs. search needs)
+    returns (λ c κs. search needs) (λ c. search needs) (λ c κs. search needs) returns-2)

@@ -9,9 +9,6 @@ use Rattle.fields.proofs.Views.{viewed-class}
 use Rattle.validity.proofs.usefulness.class_mark.Statement.{statement}
 use Rattle.validity.proofs.usefulness.class_mark.Tie as tie
 
-shared-slice-read-if1 : tie.Need-shared-slice-read-if1
-shared-slice-read-if1 c = search needs
-
 returns : tie.Need-returns
 returns c =
     let start = c .before .before in
@@ -25,4 +22,4 @@ returns-2 c =
     (omega arith)) ∙ ne-eqb _ _ (c .if1 .left)))
 
 pub class-mark-spec : {M : Type 1} → statement M
-class-mark-spec = tie.close (tie.spec shared-slice-read-if1 returns returns-2)
+class-mark-spec = tie.close (tie.spec (λ c. search needs) returns returns-2)

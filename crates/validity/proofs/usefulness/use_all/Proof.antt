@@ -20,26 +20,11 @@ abbrev μ-loop : tie.MeasureT-loop
 loop-holds : tie.Need-loop-holds Inv-loop μ-loop
 loop-holds c = (omega arith, spread-begin (fromLast (nthDown (c .before .args .transitions .now)) (c .before .args .count)))
 
-sub-use-transition : tie.Need-sub-use-transition Inv-loop μ-loop
-sub-use-transition c = search needs
-
-sub-use-transition-2 : tie.Need-sub-use-transition-2 Inv-loop μ-loop
-sub-use-transition-2 c = search needs
-
-mul-use-transition : tie.Need-mul-use-transition Inv-loop μ-loop
-mul-use-transition c = search needs
-
 use-transition-requires : tie.Need-use-transition-requires Inv-loop μ-loop
 use-transition-requires c κs =
     let start = c .before .before .before .before in
     let now = c .before .before .loop in
     (readable (start .pre .0) (start .args .count - 1 - now .j) (omega arith), now .inv .1 .swept .size ∙ start .pre .1)
-
-add-j : tie.Need-add-j Inv-loop μ-loop
-add-j c = search needs
-
-loop-less : tie.Need-loop-less Inv-loop μ-loop
-loop-less c = search needs
 
 loop-again : tie.Need-loop-again Inv-loop μ-loop
 loop-again c =
@@ -59,16 +44,5 @@ returns c =
 
 pub use-all-spec : {M : Type 1} → statement M
 use-all-spec =
-    tie.close
-    (tie.spec
-    Inv-loop
-    μ-loop
-    loop-holds
-    sub-use-transition
-    sub-use-transition-2
-    mul-use-transition
-    use-transition-requires
-    add-j
-    loop-less
-    loop-again
-    returns)
+    tie.close (tie.spec Inv-loop μ-loop loop-holds (λ c. search needs) (λ c. search needs) (λ c. search needs)
+    use-transition-requires (λ c. search needs) (λ c. search needs) loop-again returns)

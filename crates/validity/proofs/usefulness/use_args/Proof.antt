@@ -19,27 +19,15 @@ Inv-loop run at marks₀ arity changed₀ k₀ marks changed k =
 abbrev μ-loop : tie.MeasureT-loop
 μ-loop run at marks₀ arity changed₀ k₀ marks changed k = arity - k
 
-arity-of-requires : tie.Need-arity-of-requires Inv-loop μ-loop
-arity-of-requires c κs = search needs
-
 loop-holds : tie.Need-loop-holds Inv-loop μ-loop
 loop-holds c =
     let start = c .before .before in
     (c .arity-of .ensures, omega arith, spread-begin (DownTo (start .args .transitions .now) (start .args .at)))
 
-arg-of-requires : tie.Need-arg-of-requires Inv-loop μ-loop
-arg-of-requires c κs = search needs
-
 mark-requires : tie.Need-mark-requires Inv-loop μ-loop
 mark-requires c κs =
     let start = c .before .before .before .before .before .before in
     (c .before .before .before .loop .inv .2 .swept .size ∙ start .pre .1 .0, c .before .arg-of .ensures .1)
-
-add-k : tie.Need-add-k Inv-loop μ-loop
-add-k c = search needs
-
-loop-less : tie.Need-loop-less Inv-loop μ-loop
-loop-less c = search needs
 
 loop-again : tie.Need-loop-again Inv-loop μ-loop
 loop-again c =
@@ -60,15 +48,5 @@ returns c =
 
 pub use-args-spec : {M : Type 1} → statement M
 use-args-spec =
-    tie.close
-    (tie.spec
-    Inv-loop
-    μ-loop
-    arity-of-requires
-    loop-holds
-    arg-of-requires
-    mark-requires
-    add-k
-    loop-less
-    loop-again
-    returns)
+    tie.close (tie.spec Inv-loop μ-loop (λ c κs. search needs) loop-holds (λ c κs. search needs) mark-requires
+    (λ c. search needs) (λ c. search needs) loop-again returns)

@@ -7,12 +7,6 @@ use Rattle.marking.proofs.Spreading.{spread-none}
 use Rattle.validity.proofs.usefulness.use_transition.Statement.{statement}
 use Rattle.validity.proofs.usefulness.use_transition.Tie as tie
 
-out-of-requires : tie.Need-out-of-requires
-out-of-requires c κs = search needs
-
-element-copy-out-if1 : tie.Need-element-copy-out-if1
-element-copy-out-if1 c = search needs
-
 returns : tie.Need-returns
 returns c =
     spread-none (λ k h e. absurd
@@ -25,9 +19,7 @@ use-args-requires c κs =
       (start .pre .1, nonzero-true _ (rw (c .before .before .before .out-of .ensures .0) at (c .before .if1 .left))),
     )
 
-returns-2 : tie.Need-returns-2
-returns-2 c = search needs
-
 pub use-transition-spec : {M : Type 1} → statement M
 use-transition-spec =
-    tie.close (tie.spec out-of-requires element-copy-out-if1 returns use-args-requires returns-2)
+    tie.close (tie.spec (λ c κs. search needs) (λ c. search needs) returns use-args-requires
+    (λ c. search needs))

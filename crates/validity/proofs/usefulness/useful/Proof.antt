@@ -51,13 +51,5 @@ returns c =
 
 pub useful-spec : {M : Type 1} → statement M
 useful-spec =
-    tie.close
-    (tie.spec
-    Inv-loop
-    μ-loop
-    accepting-marks-requires
-    loop-holds
-    use-all-requires
-    loop-less
-    loop-again
-    returns)
+    tie.close (tie.spec Inv-loop μ-loop accepting-marks-requires loop-holds use-all-requires loop-less
+    loop-again returns)
