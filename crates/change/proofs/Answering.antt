@@ -1,4 +1,4 @@
--- From what was found to the answer: refusals 16 and 17, and done.
+-- The answer from the two counts: refusal 16, refusal 17 or done.
 use mathlib.Core.Bool.{Bool, _||_, cond, false, true}
 use mathlib.Core.List.{List}
 use mathlib.Core.Logic.{_⊎_, inl, inr}
@@ -24,7 +24,7 @@ use Rattle.change.proofs.Sizes.{changed-automaton}
 use Rattle.lists.proofs.Tests.{or-right}
 use Rattle.table.proofs.Bytes.{encode-count, encode-states}
 
--- the product has no more transitions than it may have
+-- the product has at most as many transitions as condition 16 allows
 pub counted-few : {A : Automaton} {t : Tree} {f : Bool} {o w : List ℕ} → PairsCounted A t f o w → f ≡ true →
     PairsCounted A t true o w
 counted-few {A} {t} {f} {o} {w} P e = subst (λ (x : Bool). PairsCounted A t x o w) e P

@@ -1,4 +1,4 @@
--- A table that passed is 0 after its transitions.
+-- A table that passed intake is 0 after its transitions.
 use Rattle.subtrees.specs.Store.{Subtrees}
 use mathlib.Core.Bool.{Bool, false, true}
 use mathlib.Core.List.{List}

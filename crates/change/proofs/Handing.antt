@@ -94,7 +94,7 @@ module _ {inserting : Bool} {t : Tree} {b : List ℕ} {k n : ℕ} {r : Subtrees}
       (r .arities) (r .children) (r .states) names firsts nexts
   fitting-chosen = record { changed = named-arrays (F .named); chained = F .chained }
 
--- the transitions between names are no more than those of the changed automaton
+-- there are no more transitions between names than the changed automaton has
 pub between-few : {inserting : Bool} {t : Tree} {b : List ℕ} {k n : ℕ} {r : Subtrees} {o names : List ℕ} →
     Named inserting t b k n r o names → (limit : ℕ) →
     fitsWithin limit (changedAutomaton inserting t (decode b)) ≡ true → length (betweenNames t b names) ≤ limit
@@ -109,7 +109,7 @@ between-few {inserting} {t} {b} {k} {n} {r} {o} {names} N limit e =
           (nameIn (bottomUp t) names) (N .searched),
     )
 
--- a table has room, and the classes stand beside
+-- what was found so far makes a `Fitting`
 pub fitting : {inserting : Bool} {t : Tree} {b : List ℕ} {k n : ℕ} {r : Subtrees} {o names firsts nexts sizes cl : List ℕ}
     {f : Bool} → Named inserting t b k n r o names →
     KeptAbove n (r .count) o (r .states) names 0 firsts nexts sizes →

@@ -1,4 +1,4 @@
--- What a change is given: a table that passed and a listing that passed, as the automaton and the tree in the bytes.
+-- What a change is given: the automaton of a table that passed intake, and the tree of a listing that passed.
 use mathlib.Core.Bool.{true}
 use mathlib.Core.List.{List}
 use mathlib.Core.Path.{_∙_, _≡_, ap₂, subst, subst₂, sym}

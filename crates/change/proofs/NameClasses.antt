@@ -1,4 +1,4 @@
--- The class of a number among those of states and subtrees is the class of the name in the changed set.
+-- The class that the code gives a name, by its number, is the class of the name in the changed set.
 use mathlib.Core.Bool.{Bool, _&&_, _||_, cond, false, not, true}
 use mathlib.Core.List.{List}
 use mathlib.Core.Path.{_∙_, _≡_, ap, ap₂, refl, sym}

@@ -1,4 +1,4 @@
--- Renumbered transitions ask for the classes of their outputs only.
+-- Renumbering uses the classes of outputs only.
 use mathlib.Core.Bool.{Bool}
 use mathlib.Core.List.{List, [], _∷_, map}
 use mathlib.Core.Logic.{inl, inr}

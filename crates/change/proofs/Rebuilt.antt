@@ -1,4 +1,4 @@
--- The new table, written at once or through the scratch.
+-- The new table, by guessed numbers or through the scratch.
 use Rattle.subtrees.specs.Store.{Subtrees}
 use mathlib.Core.Bool.{Bool, cond, false}
 use mathlib.Core.List.{List}
@@ -37,7 +37,7 @@ module _ {inserting : Bool} {t : Tree} {b : List ℕ} {k n : ℕ} {r : Subtrees}
       (ap (renumbered f) (R .list) ∙ fitting-changed F f (λ x h l. viewed-class cl s (n + r .count) c x h l))
       ∙ ap (λ (x : Bool). cond x (encode (changedAutomaton inserting t (decode b))) b) (F .fits)
 
--- the same with a table that is left as it was
+-- `Fitting` holds of an unchanged table
 pub fitting-same : {inserting : Bool} {t : Tree} {b b' : List ℕ} {k n : ℕ} {r : Subtrees}
     {o names firsts nexts cl : List ℕ} → b' ≡ b → Fitting inserting t b k n r o names firsts nexts cl →
     Fitting inserting t b' k n r o names firsts nexts cl

@@ -85,7 +85,7 @@ module _ {inserting : Bool} {t : Tree} {b : List ℕ} {k n : ℕ} {r : Subtrees}
   named-changed =
       searched-changed inserting A (given-canonical (N .given)) t ts (given-listed (N .given)) ν (N .searched)
 
--- with any classes that are those of the numbers
+-- the same for classes that agree with those of the names
 pub fitting-changed : {inserting : Bool} {t : Tree} {b : List ℕ} {k n : ℕ} {r : Subtrees}
     {o names firsts nexts cl : List ℕ} → Fitting inserting t b k n r o names firsts nexts cl → (f : ℕ → Bool) →
     ((x : ℕ) → 1 ≤ x → x ≤ n + r .count → f x ≡ classAt cl x) →

@@ -1,4 +1,4 @@
--- Transitions of two lists of numbers, written as a run of bytes.
+-- Packed transitions written as bytes, one after another.
 use mathlib.Core.Bool.{Bool, false, true}
 use mathlib.Core.List.{List, map}
 use mathlib.Core.Path.{_∙_, _≡_, ap, refl, subst, sym}

@@ -16,12 +16,12 @@ use Rattle.trees.specs.Tree.{Tree}
 abbrev pub betweenNames : Tree → List ℕ → List ℕ → List Transition
 betweenNames t b names = quotientList (decode b) t (bottomUp t) (nameIn (bottomUp t) names)
 
--- the first c entries of two lists are these transitions
+-- the first c entries of two lists are these transitions, packed
 pub record Packed (t : Tree) (b names heads args : List ℕ) (c : ℕ) : Type 0 where
   pub holds : HoldsPacked heads args c
   pub list : packedIn heads args c ≡ betweenNames t b names
 
--- the first c transitions of a run are these, over so many states
+-- the first c transitions in the bytes s are these, with states 1 to `states`
 pub record Run (t : Tree) (b names s : List ℕ) (c states : ℕ) : Type 0 where
   pub over : HoldsTransitionsOver s c states
   pub list : transitionsIn s c ≡ betweenNames t b names

@@ -1,4 +1,4 @@
--- What a change answers and leaves, once nothing but 16 and 17 can refuse it.
+-- What a change answers and leaves if only 16 and 17 can still refuse it.
 use mathlib.Core.Bool.{Bool, cond}
 use mathlib.Core.List.{List}
 use mathlib.Core.Path.{_≡_}
@@ -20,7 +20,7 @@ changeOf inserting t = cond inserting (insert t) (delete t)
 abbrev pub resultOf : Answer → List ℕ → List ℕ → Result
 resultOf a b w = record { answer = a; table = b; scratch = w }
 
--- 16, 17 or 0
+-- the refusal by size: 16, 17 or 0
 unfoldable pub sizeRefusal : Change → Automaton → ℕ
 sizeRefusal c A = firstBroken (sizeConditions c A)
 

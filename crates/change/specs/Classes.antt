@@ -10,8 +10,8 @@ use Rattle.quotient.specs.Kept.{stateOf}
 use Rattle.table.specs.Layout.{classAt}
 use Rattle.format.specs.Format.{byteValues}
 
--- the class of the name p, where q has the states of the subtrees: that of the tree itself is given,
--- every other name has the class of its state
+-- the class of the name p; q has the states of the subtrees. The tree's own name has the class `inserting`, every
+-- other name the class of its state
 unfoldable pub classOfName : List ℕ → ℕ → List ℕ → ℕ → Bool → ℕ → Bool
 classOfName b n q own inserting p = cond (eqb p own) inserting (classIn b (stateOf n q p))
 

@@ -1,5 +1,5 @@
--- What a change works on: a table that passed and a tree with its subtrees, their names after the change, and what is
--- known once a table has room for the changed automaton.
+-- What a change works on: a table that passed intake, a tree and its subtrees; then the names of the subtrees after
+-- the change; then what holds if a table has room for the changed automaton.
 use mathlib.Core.Bool.{Bool, _&&_, true}
 use mathlib.Core.List.{List}
 use mathlib.Core.Path.{_≡_}
@@ -22,7 +22,7 @@ use Rattle.trees.specs.Tree.{Tree}
 use Rattle.change.specs.Between.{betweenNames}
 use Rattle.change.specs.Classes.{Classed, classOfName}
 
--- the table b passed, with k transitions over n states, and r has the subtrees of the legal tree t
+-- the table b passed intake and has k transitions and n states, and r has the subtrees of the legal tree t
 pub record Given (t : Tree) (b : List ℕ) (k n : ℕ) (r : Subtrees) : Type 0 where
   pub passed : tableRefusal b ≡ 0
   pub bytes : AllBytes b
@@ -31,11 +31,11 @@ pub record Given (t : Tree) (b : List ℕ) (k n : ℕ) (r : Subtrees) : Type 0 w
   pub lists : Lists (decode b) t (bottomUp t) r
   pub legal : Legal t
 
--- some tree does
+-- the same for some tree
 abbrev pub SomeGiven : List ℕ → ℕ → ℕ → Subtrees → Type 0
 SomeGiven b k n r = (t : Tree) × Given t b k n r
 
--- o marks the open states, and the names of the subtrees in the set with the tree put in or taken out are found
+-- o marks the open states, and `names` has the names of the subtrees in the set with the tree put in or taken out
 pub record Named (inserting : Bool) (t : Tree) (b : List ℕ) (k n : ℕ) (r : Subtrees) (o names : List ℕ) : Type 0 where
   pub given : Given t b k n r
   pub opens : Open (decode b) t o
@@ -50,7 +50,7 @@ fitsWithin limit A = leb (states A) maxStates && leb (length (A .transitions)) l
 abbrev pub smallTransitions : ℕ
 smallTransitions = 64
 
--- a table has room for an automaton, and small arrays have
+-- `fits` says whether a table has room for A; if `small`, small arrays are long enough for its transitions
 pub record Fits (fits small : Bool) (A : Automaton) : Type 0 where
   pub table : fits ≡ fitsTable A
   pub few : small ≡ true → fitsWithin smallTransitions A ≡ true
@@ -63,7 +63,7 @@ pub record Fitting (inserting : Bool) (t : Tree) (b : List ℕ) (k n : ℕ) (r :
   pub classed : Classed (classOfName b n (r .states) (n + r .count) inserting) (n + r .count) cl
   pub fits : fitsTable (changedAutomaton inserting t (decode b)) ≡ true
 
--- some change of some tree does, with no more transitions between names than a limit
+-- the same for some change of some tree, with at most `limit` transitions between names
 abbrev pub SomeFitting : List ℕ → ℕ → ℕ → Subtrees → List ℕ → List ℕ → List ℕ → ℕ → Type 0
 SomeFitting b k n r names firsts nexts limit =
     (inserting : Bool) × (t : Tree) × (o : List ℕ) × (cl : List ℕ) ×

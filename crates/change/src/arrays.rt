@@ -2,20 +2,20 @@
 // numbers.
 use format::MAX_TRANSITIONS;
 
-// The length of small arrays. Most changes need no more, and an array is cleared before it is used.
+// The length of small arrays. Most changes need no more, and clearing a longer array takes time.
 pub const SMALL: usize = 64;
 
-// No entries.
+// An array for entries, all 0.
 pub fn no_entries() -> [u64; MAX_TRANSITIONS] {
     [0u64; MAX_TRANSITIONS]
 }
 
-// No links.
+// An array for links, all 0.
 pub fn no_links() -> [u16; MAX_TRANSITIONS] {
     [0u16; MAX_TRANSITIONS]
 }
 
-// The same for small changes.
+// The same two of length `SMALL`.
 pub fn few_entries() -> [u64; SMALL] {
     [0u64; SMALL]
 }

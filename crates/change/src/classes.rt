@@ -1,4 +1,5 @@
-// The classes of names after a change: those of their states, but that of the tree itself is set or cleared.
+// The classes of names after a change. Each name has the class of its state, except that the class of the tree itself
+// is set or cleared.
 ghost use mathlib.Core.Path.{_≡_};
 ghost use Prim.Native.Nat.{_+_, _≤_};
 ghost use lib.Dec.{eqb};
@@ -10,7 +11,7 @@ use format::BYTE_VALUES;
 use format::MAX_NODES;
 use format::wide;
 
-// The state that the name p stems from.
+// The state of the name p: p itself, or the state of the subtree whose own name p is.
 fn state_of(n: usize, states: &[u8; MAX_NODES], p: usize) -> u8
     requires { ⌜ n ≤ maxStates ⌝ }
     requires { ⌜ p ≤ n + maxNodes ⌝ }
@@ -46,7 +47,7 @@ fn class_of(
     table[q]
 }
 
-// A class as its byte.
+// The byte of a class.
 fn own_class(accepting: bool) -> u8
     ensures { λ r. ⌜ eqb r 1 ≡ accepting ⌝ }
 {

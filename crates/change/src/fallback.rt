@@ -1,5 +1,5 @@
-// The new table if its numbers are not found at once: the transitions between names go through the scratch, and the
-// numbers are found by a plain search. It exists so that every change is answered.
+// The new table if no guess of the numbers is right. The transitions between names go through the scratch, and a
+// plain search finds the numbers. It exists so that every change is answered.
 ghost use mathlib.Core.Bool.{Bool};
 ghost use mathlib.Core.List.{List};
 ghost use mathlib.Core.Path.{_≡_};
@@ -21,7 +21,7 @@ use minimize::write::write;
 use numbering::write_run;
 use subtrees::CHILD_NUMBERS;
 
-// Writes the transitions between names into the scratch. Returns how many they are.
+// Writes the transitions between names into the scratch. Returns how many there are.
 fn write_scratch(
     table: &[u8],
     count: usize,

@@ -18,8 +18,8 @@ use format::MAX_TRANSITIONS;
 use quotient::table_fits;
 use subtrees::CHILD_NUMBERS;
 
-// Whether the changed automaton has no more states than a table and no more transitions than the limit. `sizes` has the
-// number of kept names of each state.
+// Whether the changed automaton has at most as many states as a table can have, and at most `limit` transitions.
+// `sizes` has the number of kept names of each state.
 fn fits(
     table: &[u8],
     count: usize,
@@ -60,7 +60,8 @@ fn fits(
     )
 }
 
-// The same for small arrays, which are not asked if the table has more transitions.
+// The same with `SMALL` as the limit. Also false if the old table has more transitions than that, because one of the
+// small arrays has an entry for each of them.
 fn fits_small(
     table: &[u8],
     count: usize,
@@ -101,7 +102,7 @@ fn fits_small(
     )
 }
 
-// Whether a table has room for the changed automaton, and whether small arrays have.
+// Whether a table has room for the changed automaton, and whether small arrays are long enough for its transitions.
 pub struct Fit {
     pub fits: bool,
     pub small: bool,

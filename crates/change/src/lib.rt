@@ -1,5 +1,6 @@
-// A tree put into the set of a table, or taken out. Its subtrees get names after the change, and the new transitions stand
-// between names. Refusals 16 and 17 are found by counting, before anything is written.
+// A tree put into the set of a table, or taken out. Each distinct subtree of the tree gets a name, which stands for
+// its state in the new automaton. The new transitions are made between names, then the names get numbers. Refusals 16
+// and 17 are found by counting, before anything is written.
 mod arrays; // the arrays that a change works in
 mod classes; // a class for each name
 mod fallback; // the new table by a plain search, as a last resort
@@ -107,7 +108,7 @@ fn done(table: &[u8]) -> Answer
     }
 }
 
-// Puts the tree in or takes it out once refusal 16 is past.
+// Puts the tree in or takes it out, after refusal 16 was checked.
 fn apply(
     table: &mut [u8],
     scratch: &mut [u8],
@@ -196,7 +197,8 @@ fn apply(
     done(table)
 }
 
-// Puts the tree in or takes it out, and leaves anything in the scratch. `reached` has the states of the tree's nodes.
+// Puts the tree in or takes it out. `reached` has the states of the tree's nodes. The scratch holds anything
+// afterwards.
 fn work(
     tree: &[u8],
     reached: &[u8; MAX_NODES],
@@ -253,7 +255,8 @@ fn work(
     )
 }
 
-// Puts the tree in or takes it out. `reached` has the states of the tree's nodes. The scratch is all zeros after that.
+// Puts the tree in or takes it out. `reached` has the states of the tree's nodes. The scratch is all zeros
+// afterwards, whatever the answer is.
 pub fn change(
     tree: &[u8],
     reached: &[u8; MAX_NODES],

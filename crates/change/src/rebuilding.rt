@@ -1,6 +1,6 @@
-// The table of the changed set. Its transitions are made between names. If the numbers of the names are found at once,
-// from few transitions or from all, they are written with them; else they go through the scratch, and the numbers are
-// found by the rule.
+// The table of the changed set. Its transitions are made between names. The numbers of the names are guessed, from
+// few transitions first and then from all. If a guess is right, the table is written. If none is, the transitions go
+// through the scratch, and a search by the rule finds the numbers.
 ghost use mathlib.Core.Bool.{Bool, cond, false, true};
 ghost use mathlib.Core.List.{List};
 ghost use mathlib.Core.Path.{_≡_};
@@ -27,8 +27,8 @@ use numbering::rebuild;
 use quotient::make;
 use subtrees::CHILD_NUMBERS;
 
-// The transitions between names, as two numbers each, and how many they are. `ends` gets their number after each
-// transition of the table.
+// Writes the transitions between names to `heads` and `args`, as two numbers each. Returns how many there are. `ends`
+// gets, for each transition of the table, how many there are after it.
 pub fn make_all(
     table: &[u8],
     count: usize,
@@ -71,8 +71,8 @@ pub fn make_all(
     )
 }
 
-// Writes the new table if the numbers of the names are found at once; else leaves the table as it is. The arrays are
-// lent, and have other numbers afterwards. `few` says whether the numbers are sought from few transitions first.
+// Writes the new table if the guessed numbers are right; else leaves the table as it is. Returns whether it wrote.
+// The lent arrays are overwritten. `few` says whether the guess is made from few transitions first.
 fn attempt(
     table: &mut [u8],
     count: usize,
@@ -142,8 +142,8 @@ fn attempt(
     )
 }
 
-// The same, from few transitions first, and if that fails from all. The second attempt makes the transitions anew: the
-// first leaves other numbers in the arrays.
+// Attempts it from few transitions and, if that fails, from all. The second attempt makes the transitions anew,
+// because the first has overwritten the arrays.
 fn rebuild_in(
     table: &mut [u8],
     count: usize,
@@ -224,7 +224,7 @@ fn rebuild_in(
     )
 }
 
-// The same with small arrays.
+// The same with arrays of length `SMALL`.
 fn rebuild_small(
     table: &mut [u8],
     count: usize,
@@ -277,7 +277,7 @@ fn rebuild_small(
     )
 }
 
-// The same with arrays for all transitions of a table.
+// The same with arrays of 1,024 entries, enough for every table.
 fn rebuild_large(
     table: &mut [u8],
     count: usize,
@@ -330,7 +330,7 @@ fn rebuild_large(
     )
 }
 
-// The same with the arrays that are needed.
+// The same with small arrays if `small`, else with large ones.
 fn rebuild_table(
     table: &mut [u8],
     count: usize,
@@ -391,7 +391,7 @@ fn rebuild_table(
     )
 }
 
-// Writes the new table. If `small`, its transitions fit small arrays.
+// Writes the new table, through the scratch if no guess is right. If `small`, its transitions fit small arrays.
 pub fn replace(
     table: &mut [u8],
     scratch: &mut [u8],

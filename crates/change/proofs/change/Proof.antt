@@ -1,4 +1,4 @@
--- `change::change` meets its contract: what was worked out, with the scratch cleared.
+-- `change::change` meets its contract: the result of `work`, with the scratch cleared.
 use lib.ListN.{replicate}
 use Rattle.trees.specs.Listing.{readTree}
 use Rattle.change.specs.Changing.{changeOf}

@@ -1,4 +1,4 @@
--- `change::clear` meets its contract: the first `i` bytes are 0.
+-- `change::clear` meets its contract: in the loop the first `i` bytes are 0.
 use mathlib.Core.Path.{refl}
 use native.Mathlib.Omega.{arith}
 use Prim.Native.Nat.{_-_}

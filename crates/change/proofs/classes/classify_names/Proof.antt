@@ -1,4 +1,4 @@
--- `change::classes::classify_names` meets its contract: the first classes stand at their numbers.
+-- `change::classes::classify_names` meets its contract: in the loop the classes of the names below p are there.
 use Prim.Native.Nat.{_+_, _-_, _≤_}
 use native.Mathlib.Omega.{arith}
 use Rattle.change.specs.Classes.{classOfName}

@@ -1,4 +1,5 @@
--- `change::fallback::renumber_table` meets its contract: the run numbered by the rule is the changed automaton.
+-- `change::fallback::renumber_table` meets its contract: the transitions in the scratch, numbered by the rule, are
+-- the changed automaton.
 use mathlib.Core.Path.{_≡_}
 use native.Mathlib.Omega.{arith}
 use lib.ListN.{length}

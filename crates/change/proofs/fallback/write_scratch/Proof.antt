@@ -1,4 +1,4 @@
--- `change::fallback::write_scratch` meets its contract: the transitions between names as a run of bytes.
+-- `change::fallback::write_scratch` meets its contract: the transitions between names as bytes.
 use native.Mathlib.Omega.{arith}
 use Rattle.change.proofs.Runs.{run-put}
 use borrow.Author.Needs.{needs}

@@ -1,4 +1,4 @@
--- `change::fitting::fits_small` meets its contract: it answers yes only if `fits` does.
+-- `change::fitting::fits_small` meets its contract: it returns true only if `fits` does.
 use mathlib.Core.Path.{_∙_, sym}
 use mathlib.Core.Path.{_≡_}
 use native.Mathlib.Omega.{arith}

@@ -1,4 +1,4 @@
--- `change::rebuilding::rebuild_in` meets its contract: the first attempt leaves what the second starts from.
+-- `change::rebuilding::rebuild_in` meets its contract: a failed first attempt leaves the table as it was.
 use native.Mathlib.Omega.{arith}
 use mathlib.Core.Path.{_∙_}
 use Rattle.change.proofs.Rebuilt.{fitting-same, some-same}

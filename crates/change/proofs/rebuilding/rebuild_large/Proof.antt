@@ -1,4 +1,4 @@
--- `change::rebuilding::rebuild_large` meets its contract: the arrays that are lent are of one length.
+-- `change::rebuilding::rebuild_large` meets its contract: the arrays it lends have one length.
 use native.Mathlib.Omega.{arith}
 use borrow.Author.Needs.{needs}
 use Rattle.change.proofs.rebuilding.rebuild_large.Statement.{statement}

@@ -1,4 +1,4 @@
--- `change::rebuilding::rebuild_table` meets its contract: small arrays are lent if the transitions fit them.
+-- `change::rebuilding::rebuild_table` meets its contract: small arrays are used only if the transitions fit them.
 use borrow.Author.Needs.{needs}
 use Rattle.change.proofs.rebuilding.rebuild_table.Statement.{statement}
 use Rattle.change.proofs.rebuilding.rebuild_table.Tie as tie

@@ -1,4 +1,4 @@
--- `change::rebuilding::replace` meets its contract: the last resort starts from the table that was left as it is.
+-- `change::rebuilding::replace` meets its contract: the last resort starts from the unchanged table.
 use Rattle.change.proofs.Rebuilt.{fitting-same, some-same}
 use borrow.Author.Needs.{needs}
 use Rattle.change.proofs.rebuilding.replace.Statement.{statement}
