@@ -1,4 +1,4 @@
--- Tests that compare two numbers first: what each return of the code answers.
+-- Tests that compare two numbers first: the value of each return of the code.
 use mathlib.Core.Bool.{Bool, _&&_, _||_, false, true}
 use mathlib.Core.Path.{_∙_, _≡_}
 use Prim.Native.Nat.{ℕ}

@@ -1,4 +1,4 @@
--- Loops that count and multiply: what is there and what is left is the whole.
+-- Loops that count and multiply: what is done and what is left make up the whole.
 use mathlib.Core.Bool.{Bool, false, true}
 use mathlib.Core.List.{List, _∷_}
 use mathlib.Core.Path.{_∙_, _≡_, ap, refl, subst, sym}
@@ -17,7 +17,7 @@ use Rattle.pairs.proofs.Products.{cap-step}
 
 -- ---- how many numbers pass a test
 
--- n numbers below i passed, and with those left they are s; i may be beyond the end
+-- n numbers below i pass, and n and those from i on that pass add up to s; i may be beyond the end
 pub record CountFrom (s : ℕ) (p : ℕ → Bool) (m n i : ℕ) : Type 0 where
   pub within : n ≤ m
   pub small : n ≤ i
@@ -76,7 +76,7 @@ module _ {p : ℕ → Bool} {m : ℕ} where
           let z = ap (λ (ks : List ℕ). length (filter p ks)) (upFrom-none (i + 1) m (omega arith)) in
           omega (arith, inv .left, y, z)
 
-  -- none of the next d numbers passes
+  -- the count stays if none of the next d numbers passes
   pub count-past : {s n i : ℕ} (d : ℕ) → CountFrom s p m n i → ((x : ℕ) → i ≤ x → x < i + d → x < m → p x ≡ false) →
       CountFrom s p m n (i + d)
   count-past {s} {n} {i} zero inv f = subst (CountFrom s p m n) (sym (add-zero i)) inv
@@ -128,7 +128,7 @@ module _ {g : ℕ → ℕ} {n : ℕ} where
       let one : min productCap (p * 1) ≡ p = ap (min productCap) (mul-one p) ∙ omega (arith, inv .small) in
       sym one ∙ sym e ∙ inv .left
 
--- a number below the cap is the product if it is the capped one
+-- a number below the cap equals the product if and only if it equals the capped product
 pub cap-equal : (p n : ℕ) → n < productCap → eqb (min productCap p) n ≡ eqb p n
 cap-equal p n h = go (eqb p n) refl
   where

@@ -1,5 +1,5 @@
--- A slot of a transition is covered as the arrays show it: the nodes that are counted are, one for each, the frames at
--- the slot.
+-- The arrays show whether a slot is covered: the nodes that are counted correspond one to one to the frames at the
+-- slot.
 use mathlib.Core.Bool.{Bool, _&&_, false, not, true, true≢false}
 use mathlib.Core.List.{List, map}
 use mathlib.Core.Logic.{_⊎_, inl, inr}
@@ -83,7 +83,7 @@ module _ {A : Automaton} {t : Tree} {ts : List Tree} {s : List ℕ} {c n : ℕ} 
   abbrev counted : ℕ → Bool
   counted = framed s at k l r h q m j v
 
-  -- a frame of a subtree at the slot is at place k of a node
+  -- the frame f is that at place k of node x, whose child there is subtree u
   abbrev Located : Frame → ℕ → ℕ → Type 0
   Located f u x = (x < m) × (k < getD r x 0) × (childAt h x k ≡ u) × (f ≡ frame x)
 
@@ -156,7 +156,7 @@ module _ {A : Automaton} {t : Tree} {ts : List Tree} {s : List ℕ} {c n : ℕ} 
       (subst (λ (y : Tree). y ∈ subtrees t) (sym (fill-at (holds .stored) k x z p))
       (holds .subtree _ (getD-in ts x noTree (omega (arith, holds .stored .size)))))
 
-  -- two nodes with the same child there and the same frame are one
+  -- two nodes with the same child at place k and the same frame there are the same node
   same-node : (x y : ℕ) → x < m → y < m → k < getD r x 0 → k < getD r y 0 → childAt h x k ≡ childAt h y k →
       frame x ≡ frame y → x ≡ y
   same-node x y bx by dx dy e f =
@@ -166,7 +166,7 @@ module _ {A : Automaton} {t : Tree} {ts : List Tree} {s : List ℕ} {c n : ℕ} 
       ∙ ap₂ (λ (g : Frame) (z : ℕ). fill g (treeNumbered ts z)) f e
       ∙ fill-at (holds .stored) k y by dy)
 
-  -- what it means that a node is counted
+  -- a node x that is counted
   record Counted (x : ℕ) : Type 0 where
     known : x < m
     inside : k < getD r x 0

@@ -1,5 +1,5 @@
--- The scan of the transitions answers whether the uses agree: a slot that takes the two states to different ones is that
--- of a transition which has one of them there.
+-- The scan of the transitions is exact. A slot that takes the two states to different states is the slot of some
+-- transition that has one of the two as an argument.
 use mathlib.Core.Bool.{Bool, _||_, cond, false, true}
 use mathlib.Core.List.{List, [], _++_, _∷_}
 use mathlib.Core.Logic.{_⊎_, inl, inr}
@@ -79,7 +79,7 @@ module _ {A : Automaton} {t : Tree} {ts : List Tree} {s : List ℕ} {c n : ℕ} 
       (argOf s (transitionBytes * i) k) (slotAt s (transitionBytes * i) k .after) (in-transitionsIn s c i b)
       (args-around s (transitionBytes * i) k d))
 
-  -- a step that is taken is a transition with this argument at this place
+  -- a step to a state is that of a transition with this argument at this place
   through : (π : Slot) (x : ℕ) → Taken A (π .label) (π .before ++ (x ∷ π .after)) →
       (i : ℕ) × (i < c) × (k : ℕ) × (k < arityOf s (transitionBytes * i)) ×
       (slotAt s (transitionBytes * i) k ≡ π) × (argOf s (transitionBytes * i) k ≡ x)

@@ -1,4 +1,4 @@
--- The product of the numbers of pairs over the arguments but for one.
+-- The product of the numbers of pairs over all arguments but one.
 use mathlib.Core.List.{List}
 use mathlib.Core.Path.{_∙_, _≡_, ap}
 use Prim.Native.Nat.{ℕ}

@@ -1,4 +1,4 @@
--- Where parents stand is where frames are: a count from the first of them to the last is the count of all.
+-- Only parents have frames, so counting from the first parent to the last counts all frames.
 use mathlib.Core.List.{List}
 use mathlib.Core.Path.{_≡_, subst}
 use Prim.Native.Nat.{_-_, _<_, _≤_, ℕ}

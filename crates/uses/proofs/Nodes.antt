@@ -81,7 +81,7 @@ module _ (s : List ℕ) (at k : ℕ) (l r c q : List ℕ) (m j v i : ℕ) where
       1 ≡ bit (framed s at k l r c q m j v i)
   framed-both e d f g = rw (← e, d, ← f, g)
 
--- a node that no parent of j or v stands at has no frame
+-- a node outside the bounds of the parents of j and v has no frame
 pub framed-outside : (s : List ℕ) (at k : ℕ) (l r c q : List ℕ) (m j v : ℕ) → k < arityOf s at → (i : ℕ) →
     (k < getD r i 0 → childAt c i k ≡ j → ⊥) → (k < getD r i 0 → childAt c i k ≡ v → ⊥) →
     framed s at k l r c q m j v i ≡ false

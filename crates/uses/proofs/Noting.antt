@@ -1,4 +1,4 @@
--- A use that is noted stands between the first and the last of its state.
+-- A use that is noted lies between the bounds of its state.
 use mathlib.Core.Bool.{Bool, false, true}
 use mathlib.Core.List.{List}
 use mathlib.Core.Path.{_∙_, _≡_, ap, refl, subst, sym}
@@ -74,7 +74,7 @@ entry-set P xs q x h new y old = go (eqb y q) refl
 
 module _ {s : List ℕ} {c n : ℕ} {lows lasts : List ℕ} (t : NotedTo s c n lows lasts) {q : ℕ} (byte : q < byteValues)
     (arg : q ≡ argOf s (transitionBytes * c) n) where
-  -- the first use of no other state is changed, and of none that has uses
+  -- one more argument is noted, if the first uses of states that had uses stay
   noted-next : {firsts : List ℕ} → length firsts ≡ byteValues →
       ((y : ℕ) → 1 ≤ getD lasts y 0 → getD firsts y 0 ≡ getD lows y 0) → getD firsts q 0 ≤ c →
       NotedTo s c (n + 1) firsts (set lasts q (c + 1))

@@ -1,4 +1,4 @@
--- What each return of the scan answers: one slot, one place, one transition, all of them, and the look at a hint.
+-- The value of each return of the scan: for one slot, one place, one transition, all transitions, and the hint.
 use mathlib.Core.Bool.{Bool, _&&_, cond, false, not, true, true≢false}
 use mathlib.Core.List.{List}
 use mathlib.Core.Path.{_∙_, _≡_, ap, ap₂, refl, sym}
@@ -54,12 +54,12 @@ module _ (a : Arrays) (s : List ℕ) (c at p q k : ℕ) {x y : ℕ} (e : x ≡ a
     place-neither o =
         rw (ne-eqb (argOf s at k) p (λ i. n (e ∙ i ∙ sym f)), ne-eqb (argOf s at k) q (λ i. o (e ∙ i ∙ sym h)))
 
--- of two states, one of which is x
+-- x is p or q
 module _ (x p q : ℕ) (n : (not (eqb x p) && not (eqb x q)) ≡ false) where
   not-first : eqb x p ≡ false → x ≡ q
   not-first i = eqb-true x q (not-false (eqb x q) (sym (ap (λ (d : Bool). not d && not (eqb x q)) i) ∙ n))
 
-  -- the one that it is
+  -- y is x
   pub own-either : {y : ℕ} → y ≡ cond (eqb x p) p q → y ≡ x
   own-either {y} g = go (eqb x p) refl
     where
@@ -91,7 +91,7 @@ module _ (a : Arrays) (s : List ℕ) (c p q i : ℕ) where
   unfolding transitionAgrees
   agrees-start = every-start (arityOf s (transitionBytes * i)) (zero-add (arityOf s (transitionBytes * i)))
 
-  -- a transition that has neither state as an argument
+  -- a transition that has neither state as an argument agrees
   pub agrees-unused : ((k : ℕ) → k < arityOf s (transitionBytes * i) → argOf s (transitionBytes * i) k ≡ p → ⊥) →
       ((k : ℕ) → k < arityOf s (transitionBytes * i) → argOf s (transitionBytes * i) k ≡ q → ⊥) →
       transitionAgrees a s c p q i ≡ true

@@ -1,4 +1,4 @@
--- Where the uses of two states stand is all that a scan looks at: any other transition agrees.
+-- A scan looks only between the first and the last use of two states, because any other transition agrees.
 use mathlib.Core.Bool.{Bool, false, true}
 use mathlib.Core.List.{List}
 use mathlib.Core.Path.{_∙_, _≡_, ap, refl, sym}

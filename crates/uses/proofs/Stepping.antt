@@ -1,4 +1,4 @@
--- A search for a transition with another state for one of its arguments gives the state that it steps to.
+-- The search for a transition with another state for one of its arguments finds what the step gives.
 use mathlib.Core.List.{List}
 use mathlib.Core.Path.{_∙_, _≡_, ap, ap₂, subst}
 use Prim.Native.Nat.{_*_, _+_, _-_, _<_, _^_, _≤_, ℕ}

@@ -1,4 +1,4 @@
--- A state that is used as another is takes the slot of each use that is not covered.
+-- If a state is used as another is, it has the same output in each slot of the other that is not covered.
 use mathlib.Core.Bool.{false, true, true≢false}
 use mathlib.Core.List.{List, [], _++_, _∷_}
 use mathlib.Core.Logic.{_⊎_, inl, inr}
@@ -26,7 +26,7 @@ use Rattle.lists.proofs.Tests.{or-cases}
 use Rattle.packed.proofs.Exchange.{exchanged-here, exchanged-number, exchanged-size, exchangedArgs}
 use Rattle.packed.proofs.Walks.{slot-takes}
 
--- a step that is not 0 is a transition's
+-- a step to a state is that of a transition
 pub step-has : (A : Automaton) (b : ℕ) (qs : List ℕ) {v : ℕ} → step A b qs ≡ v → 1 ≤ v → Has (A .transitions) b qs v
 step-has A b qs {v} e some = go (step-view A b qs)
   where
@@ -34,7 +34,7 @@ step-has A b qs {v} e some = go (step-view A b qs)
     go (inl z) = absurd (omega arith)
     go (inr (_, has)) = subst (Has (A .transitions) b qs) e has
 
--- a slot without output
+-- a slot without output meets `SlotUsed`
 pub used-none : (a : Arrays) (s : List ℕ) (c p : ℕ) (z : Slot) → z .place ≡ 0 → z .out ≡ 0 → SlotUsed a s c p z
 used-none a s c p z place out = record { place = omega arith; takes = λ some q agree. absurd (omega arith) }
 

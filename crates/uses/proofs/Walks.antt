@@ -1,4 +1,4 @@
--- A state stands only at the places of a transition's arguments: beyond them there is 0.
+-- A state stands only at the places of a transition's arguments, because the places beyond them are 0.
 use mathlib.Core.Bool.{Bool, false, true}
 use mathlib.Core.List.{List}
 use mathlib.Core.Path.{_≡_, refl}

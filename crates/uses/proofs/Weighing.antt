@@ -18,7 +18,7 @@ product-all w f g d zero e = refl
 product-all w f g d (suc n) e =
     ap₂ _*_ (e d (omega arith) (omega arith)) (product-all w f g (suc d) n (λ x a b. e x (omega arith) (omega arith)))
 
--- place d + k counts once
+-- place d + k has factor 1
 product-around : (w f g : ℕ → ℕ) (d k n : ℕ) → k < n → g (d + k) ≡ 1 →
     ((x : ℕ) → d ≤ x → x < d + n → (x ≡ d + k → ⊥) → g x ≡ w (f x)) →
     productOver g (upFrom d n) ≡ productOver w (map f (upFrom d k) ++ map f (upFrom (d + k + 1) (n - (k + 1))))

@@ -1,4 +1,4 @@
--- Between which indices the transitions stand that have a state as an argument.
+-- Bounds of the indices of the transitions that have a state as an argument.
 use mathlib.Core.List.{List}
 use mathlib.Core.Path.{_≡_}
 use Prim.Native.Nat.{_*_, _+_, _<_, _≤_, ℕ}
@@ -6,8 +6,8 @@ use lib.ListN.{getD, length}
 use Rattle.format.specs.Format.{byteValues, transitionBytes}
 use Rattle.table.specs.Layout.{argOf, arityOf}
 
--- every transition that has a state as an argument stands from the state's entry of one list on, and before that of
--- another
+-- every transition that has a state as an argument has an index from the state's entry of lows on and below its entry
+-- of lasts
 pub record UsesWithin (s : List ℕ) (c : ℕ) (lows lasts : List ℕ) : Type 0 where
   pub above : (i k : ℕ) → i < c → k < arityOf s (transitionBytes * i) →
       getD lows (argOf s (transitionBytes * i) k) 0 ≤ i
@@ -15,7 +15,7 @@ pub record UsesWithin (s : List ℕ) (c : ℕ) (lows lasts : List ℕ) : Type 0 
       i < getD lasts (argOf s (transitionBytes * i) k) 0
   pub known : (q : ℕ) → getD lasts q 0 ≤ c
 
--- lists with an entry for each byte; a state that has uses has its first before its last
+-- lists with an entry for each byte; for a state with uses, the bounds are in order
 pub record Spans (lows lasts : List ℕ) : Type 0 where
   pub lows-size : length lows ≡ byteValues
   pub lasts-size : length lasts ≡ byteValues
@@ -26,7 +26,7 @@ pub record Noted (s : List ℕ) (c : ℕ) (lows lasts : List ℕ) : Type 0 where
   pub spans : Spans lows lasts
   pub within : UsesWithin s c lows lasts
 
--- and so are those in the first n arguments of the next
+-- the same, and the uses in the first n arguments of transition c are noted too
 pub record NotedTo (s : List ℕ) (c n : ℕ) (lows lasts : List ℕ) : Type 0 where
   pub spans : Spans lows lasts
   pub above : (i k : ℕ) → i < c → k < arityOf s (transitionBytes * i) →

@@ -51,7 +51,7 @@ arrays l r c q w m j v = record {
 
 -- ---- covered slots
 
--- a product counts up to one more than there are frames
+-- products are cut at one more than there can be frames
 abbrev pub productCap : ℕ
 productCap = maxNodes + 1
 
@@ -62,7 +62,7 @@ factorAt w s at k x = cond (eqb x k) 1 (getD w (argOf s at x) 0)
 abbrev pub productAt : List ℕ → List ℕ → ℕ → ℕ → ℕ
 productAt w s at k = productOver (factorAt w s at k) (upFrom 0 (arityOf s at))
 
--- the frames at the slot of argument k are as many as the choices of pairs for the other arguments
+-- there are as many frames at the slot of argument k as choices of pairs for the other arguments
 unfoldable pub coveredAt : Arrays → List ℕ → ℕ → ℕ → Bool
 coveredAt a s at k =
     eqb (productAt (a .weights) s at k)
@@ -70,17 +70,17 @@ coveredAt a s at k =
 
 -- ---- uses
 
--- with q for argument k the transition gives what it gave, or the slot is covered
+-- with q for argument k the transition has the same output, or the slot is covered
 unfoldable pub swapAgrees : Arrays → List ℕ → ℕ → ℕ → ℕ → ℕ → Bool
 swapAgrees a s c at k q = eqb (stepAt s c at k q) (outOf s at) || coveredAt a s at k
 
--- if argument k is one of two states, the other one agrees
+-- if argument k is p or q, the transition agrees with the other one in its place
 abbrev pub placeAgrees : Arrays → List ℕ → ℕ → ℕ → ℕ → ℕ → ℕ → Bool
 placeAgrees a s c at p q k =
     cond (eqb (argOf s at k) p) (swapAgrees a s c at k q)
     (cond (eqb (argOf s at k) q) (swapAgrees a s c at k p) true)
 
--- for each argument of a transition, for each transition
+-- the same for each argument of transition i, and for each transition
 unfoldable pub transitionAgrees : Arrays → List ℕ → ℕ → ℕ → ℕ → ℕ → Bool
 transitionAgrees a s c p q i =
     every (placeAgrees a s c (transitionBytes * i) p q) (upFrom 0 (arityOf s (transitionBytes * i)))
@@ -92,19 +92,19 @@ transitionsAgree a s c p q = every (transitionAgrees a s c p q) (upFrom 0 c)
 abbrev pub neitherAt : List ℕ → ℕ → ℕ → ℕ → ℕ → Bool
 neitherAt s at p q k = not (eqb (argOf s at k) p) && not (eqb (argOf s at k) q)
 
--- a look at one transition: a refusal is right
+-- b may be true for no reason, but if it is false some transition does not agree
 pub record Hinted (a : Arrays) (s : List ℕ) (c p q : ℕ) (b : Bool) : Type 0 where
   pub refused : b ≡ false → transitionsAgree a s c p q ≡ false
 
--- a slot that every state takes that is used as p is, if it has an output
+-- if the slot z has an output, every state that is used as p is has that output in z
 pub record SlotUsed (a : Arrays) (s : List ℕ) (c p : ℕ) (z : Slot) : Type 0 where
   pub place : z .place < maxArity
   pub takes : 1 ≤ z .out → (q : ℕ) → transitionsAgree a s c p q ≡ true → SlotTakes s c z q
 
 -- ---- what is read
 
--- transitions over n states that can be searched, and m nodes of which those between two indices are the parents of
--- subtrees j and v
+-- transitions over n states that can be searched, and m nodes; the parents of subtrees j and v have indices from
+-- start on and below end
 pub record Scannable (s : List ℕ) (c n m : ℕ) (r h : List ℕ) (j v start end : ℕ) : Type 0 where
   pub searchable : Searchable s c
   pub over : HoldsTransitionsOver s c n
@@ -114,7 +114,7 @@ pub record Scannable (s : List ℕ) (c n m : ℕ) (r h : List ℕ) (j v start en
 
 -- ---- what the arrays hold
 
--- the run has the transitions of A, over n states, and the arrays hold the subtrees of t and the numbers of pairs
+-- the bytes s hold the transitions of A, over n states, and the arrays the subtrees of t and the numbers of pairs
 pub record Holds (A : Automaton) (t : Tree) (ts : List Tree) (s : List ℕ) (c n : ℕ) (l r h q w : List ℕ) (m : ℕ) : Type 0
   where
     pub transitions : A .transitions ≡ transitionsIn s c

@@ -1,4 +1,5 @@
-// Covered slots: the frames at a slot are as many as the choices of pairs for its arguments.
+// Covered slots. A slot is covered if there are as many frames at it as choices of pairs for its arguments. The
+// frames then take all choices.
 ghost use mathlib.Core.Path.{_≡_};
 ghost use Prim.Native.Nat.{_*_, _<_, _≤_, min};
 ghost use Rattle.fields.specs.Fields.{Readable};
@@ -31,7 +32,7 @@ fn factor(transitions: &[u8], at: usize, k: usize, weights: &[u8; BYTE_VALUES], 
     index(weights[q])
 }
 
-// A product, up to its cap.
+// A product, at most one more than there can be frames.
 fn capped(product: usize) -> usize
     ensures { λ r. ⌜ r ≡ min productCap product ⌝ }
 {
@@ -41,7 +42,7 @@ fn capped(product: usize) -> usize
     product
 }
 
-// The number of choices of pairs for the arguments but for argument k.
+// The number of choices of pairs for the arguments other than argument k, up to that cap.
 fn choices(transitions: &[u8], at: usize, k: usize, weights: &[u8; BYTE_VALUES]) -> usize
     requires { ⌜ Readable (now transitions) at ⌝ }
     ensures { λ r. ⌜ r ≡ min productCap (productAt (now (weights .entry)) (now (transitions .entry)) at k) ⌝ }

@@ -1,4 +1,4 @@
-// Frames over a transition's slot: node i of the arrays that hold the subtrees, with child k left out.
+// Frames at a transition's slot. A frame is a node i of the arrays that hold the subtrees, with child k left out.
 ghost use mathlib.Core.Path.{_≡_};
 ghost use Prim.Native.Nat.{_*_, _+_, _<_, _≤_};
 ghost use lib.ListN.{getD};
@@ -43,7 +43,7 @@ fn same_sibling(
     wide(states[child - 1]) == arg_of(transitions, at, x)
 }
 
-// Whether this holds of each of its children.
+// Whether each child of node i other than child k runs to the transition's argument at its place.
 fn same_siblings(
     transitions: &[u8],
     at: usize,
@@ -112,7 +112,7 @@ fn same_child(children: &[u8; CHILD_NUMBERS], k: usize, i: usize, h: usize, x: u
     children[MAX_ARITY * h + x] == children[MAX_ARITY * i + x]
 }
 
-// Whether the first children are, but for child k.
+// Whether the first `arity` children of nodes i and h are the same, child k left out.
 fn same_children(children: &[u8; CHILD_NUMBERS], k: usize, i: usize, h: usize, arity: usize) -> bool
     requires { ⌜ i < maxNodes ⌝ }
     requires { ⌜ h < maxNodes ⌝ }
@@ -129,7 +129,7 @@ fn same_children(children: &[u8; CHILD_NUMBERS], k: usize, i: usize, h: usize, a
     true
 }
 
-// Whether node h has subtree j as child k, and is node i but for that child.
+// Whether node h has subtree j as child k and is otherwise the same as node i.
 fn is_twin(
     labels: &[u16; MAX_NODES],
     arities: &[u8; MAX_NODES],
@@ -157,7 +157,8 @@ fn is_twin(
     same_children(children, k, i, h, wide(arities[i]))
 }
 
-// Whether some node does: then the frame at place k of node i is a frame of subtree j.
+// Whether some node has subtree j as child k and is otherwise the same as node i. Then the frame at place k of node i
+// is a frame of subtree j.
 fn has_twin(
     labels: &[u16; MAX_NODES],
     arities: &[u8; MAX_NODES],
@@ -184,7 +185,7 @@ fn has_twin(
     false
 }
 
-// Whether place k of node i is a frame of subtree j, or one of subtree v and none of j.
+// Whether the frame at place k of node i counts: it is one of subtree j, or one of subtree v and not of j.
 fn frame_of(
     labels: &[u16; MAX_NODES],
     arities: &[u8; MAX_NODES],
@@ -210,7 +211,7 @@ fn frame_of(
     !has_twin(labels, arities, children, m, j, k, i)
 }
 
-// 1 if it is and runs to the transition's slot, else 0.
+// 1 if the frame at place k of node i counts and runs to the transition's slot, else 0.
 fn framed_at(
     transitions: &[u8],
     at: usize,
@@ -240,8 +241,8 @@ fn framed_at(
     1
 }
 
-// The number of frames of subtrees j and v at the slot of the transition with argument k left out. Their
-// parents stand from `start` on and before `end`.
+// The number of frames of subtrees j and v at the slot of the transition with argument k left out. The parents of j
+// and v have indices from `start` on and below `end`.
 pub fn frame_count(
     transitions: &[u8],
     at: usize,

@@ -1,11 +1,11 @@
-// Whether two states are used alike: from every slot of a transition that the frames of given subtrees do not cover
-// they go to the same state. `transitions` has transition i at byte 12 i, sorted; the arrays of the m subtrees are
-// those of crate subtrees, and `weights` has the number of pairs of each state. `lows` and `lasts` say where a state's
-// uses stand, `start` and `end` where the parents of the subtrees do.
-mod spans; // where the uses of a state stand
+// Whether two states are used alike: every slot of a transition takes both to the same state, unless the frames of
+// the given subtrees cover the slot. `transitions` has transition i at byte 12 i, sorted. The arrays of the m
+// subtrees are those of crate subtrees. `weights` has the number of pairs of each state. The uses of a state lie
+// between its entries of `lows` and `lasts`, the parents of the given subtrees between `start` and `end`.
+mod spans; // for each state, its first and last use
 mod frames; // frames over a slot, counted
 mod covering; // covered slots
-mod swapping; // another state for an argument
+mod swapping; // a transition with another state for an argument
 mod scanning; // each use of a state
 mod walking; // the uses of two states in step
 mod using; // a use as a slot
@@ -36,9 +36,9 @@ use walking::walk_agrees;
 
 const CHILD_NUMBERS: usize = MAX_NODES * MAX_ARITY;
 
-// Whether states p and q, or 0, are used alike but for the frames of subtrees j and v; v is 0 for none. The last use of
-// each is looked at first, because most states that differ do so there. Then the uses are walked in step, and each is
-// searched for only if that fails.
+// Whether p and q, each a state or 0, are used alike but for the slots that the frames of subtrees j and v cover; v
+// is 0 for none. The last use of each is tried first, because most states that differ do so there. Then the uses are
+// walked in step. Only if the walk fails, each use is looked up.
 fn uses_agree(
     transitions: &[u8],
     count: usize,
@@ -154,7 +154,7 @@ fn uses_agree(
     )
 }
 
-// Whether the state of subtree j and state q, or 0, are used alike but for the frames of j.
+// The same for the state of subtree j and a q, but for the slots that the frames of j cover.
 pub fn state_uses_agree(
     transitions: &[u8],
     count: usize,
@@ -206,7 +206,7 @@ pub fn state_uses_agree(
     )
 }
 
-// Whether the states of subtrees j and v are used alike but for the frames of both.
+// The same for the states of subtrees j and v, but for the slots that the frames of both cover.
 pub fn subtree_uses_agree(
     transitions: &[u8],
     count: usize,

@@ -1,5 +1,5 @@
-// Each use of two states in the transitions: with the other one in its place the transition gives the same output, or
-// the slot is covered.
+// The uses of two states, one after another. A use agrees if the transition with the other state in its place has the
+// same output, or if the slot is covered.
 ghost use mathlib.Core.Bool.{_&&_, not};
 ghost use mathlib.Core.Path.{_≡_};
 ghost use Prim.Native.Nat.{_*_, _+_, _<_, _≤_, max, min};
@@ -31,8 +31,8 @@ fn is_neither(x: u8, p: u8, q: u8) -> bool
     (x != p) & (x != q)
 }
 
-// Whether neither state stands at a place for arguments of the transition that starts at a byte. Always eight places
-// and no early exit, so that they are compared at once.
+// Whether none of the eight places for arguments of the transition that starts at a byte holds p or q. No early exit,
+// so the loop vectorises.
 fn has_neither(transitions: &[u8], at: usize, p: u8, q: u8) -> bool
     requires { ⌜ at + transitionBytes ≤ length (now transitions) ⌝ }
     ensures { λ r. ⌜ r ≡ every (neitherAt (now (transitions .entry)) at p q) (upFrom 0 maxArity) ⌝ }
@@ -46,7 +46,7 @@ fn has_neither(transitions: &[u8], at: usize, p: u8, q: u8) -> bool
     neither
 }
 
-// Whether this holds of each argument of transition i.
+// Whether exchanging p and q in any argument of transition i keeps the output, or the slot is covered.
 fn transition_agrees(
     transitions: &[u8],
     count: usize,
@@ -105,7 +105,7 @@ fn transition_agrees(
     true
 }
 
-// Whether transition i has neither state as an argument, or agrees. A small function of its own, because most
+// The same with a test first whether transition i has p or q at all. A small function of its own, because most
 // transitions of a scan end here.
 fn unused_or_agrees(
     transitions: &[u8],
@@ -172,7 +172,7 @@ pub fn greater(x: usize, y: usize) -> usize
     x
 }
 
-// Whether this holds of each transition. Only those between the first use of the two states and the last are looked at.
+// Whether every transition agrees. Only those from the first use of p or q to the last are looked at.
 pub fn transitions_agree(
     transitions: &[u8],
     count: usize,
@@ -226,7 +226,7 @@ pub fn transitions_agree(
     true
 }
 
-// Whether it holds of the last transition that uses state x; true if there is none.
+// Whether the last transition that uses state x agrees; true if there is none.
 pub fn hint_agrees(
     transitions: &[u8],
     count: usize,

@@ -1,4 +1,4 @@
-// For each state, between which indices the transitions stand that have it as an argument.
+// For each state, the first and the last transition that have it as an argument.
 ghost use mathlib.Core.Path.{_≡_};
 ghost use Prim.Native.Nat.{_*_, _+_, _<_};
 ghost use lib.ListN.{getD};
@@ -56,8 +56,8 @@ fn note_args(
     }
 }
 
-// One pass over the arguments. `lows` gets the index of the first transition that has a state as an argument, above every
-// index for none, `lasts` the number, from 1, of the last; 0 for none.
+// One pass over the arguments. For each state `lows` gets the index of the first transition that has it as an
+// argument, or 65,535 if there is none. `lasts` gets the index of the last one plus 1, or 0 if there is none.
 pub fn note_uses(
     transitions: &[u8],
     count: usize,

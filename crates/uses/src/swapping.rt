@@ -1,4 +1,4 @@
-// A transition with another state for one of its arguments: what it gives, and whether that is what it gave.
+// A transition with another state for one of its arguments: what its output is, and whether it is still the same.
 ghost use mathlib.Core.Bool.{_&&_, cond, not};
 ghost use mathlib.Core.Path.{_≡_};
 ghost use Prim.Native.Nat.{_*_, _+_, _-_, _<_, _^_, _≤_};
@@ -32,8 +32,8 @@ fn exchanged(args: u64, k: usize, x: u8, y: u8) -> u64
     args - at_place(wide(x), k) + at_place(wide(y), k)
 }
 
-// The output of the transition that is transition i with y for x as argument k; 0 for none. The numbers of transition
-// i are handed in.
+// The output of the transition that is transition i with y for x as argument k; 0 if there is none. `meta` and `args`
+// are the two numbers of transition i.
 fn swapped_out(
     transitions: &[u8],
     count: usize,
@@ -65,7 +65,7 @@ fn swapped_out(
     out_of(transitions, TRANSITION_BYTES * (number - 1))
 }
 
-// Whether transition i gives the same output with y for its argument k, or the slot is covered.
+// Whether transition i with y for its argument k has the same output, or the slot is covered.
 fn swap_agrees(
     transitions: &[u8],
     count: usize,
@@ -125,7 +125,7 @@ fn is_neither(arg: usize, p: u8, q: u8) -> bool
     (arg != wide(p)) & (arg != wide(q))
 }
 
-// The first of two states if an argument is p, else the second.
+// `first` if an argument is p, else `second`.
 fn either(arg: usize, p: u8, first: u8, second: u8) -> u8
     ensures { λ r. ⌜ r ≡ cond (eqb arg p) first second ⌝ }
 {
@@ -135,8 +135,8 @@ fn either(arg: usize, p: u8, first: u8, second: u8) -> u8
     second
 }
 
-// Whether argument k of transition i is neither p nor q, or the other one agrees. One call for both, so that it is
-// inlined.
+// Whether argument k of transition i is neither p nor q, or agrees with the other one in its place. Both cases share
+// one call of `swap_agrees`, so that it is inlined.
 pub fn place_agrees(
     transitions: &[u8],
     count: usize,

@@ -1,5 +1,5 @@
-// A use of a subtree's state that the subtree's frames do not cover, as a slot: every state that is used alike takes
-// it.
+// A slot in which a subtree's state is used and which the subtree's frames do not cover. Every state that is used
+// alike has the same output in this slot.
 ghost use mathlib.Core.List.{List};
 ghost use mathlib.Core.Bool.{true};
 ghost use mathlib.Core.Path.{_≡_};
@@ -34,7 +34,7 @@ use packed::no_slot;
 
 const CHILD_NUMBERS: usize = MAX_NODES * MAX_ARITY;
 
-// The slot of transition i with p left out, its argument k.
+// The slot of transition i without its argument k, which is p.
 fn slot_at(transitions: &[u8], count: usize, i: usize, k: usize, p: u8) -> Slot
     requires { ⌜ Searchable (now transitions) count ⌝ }
     requires { ⌜ i < count ⌝ }
@@ -57,7 +57,7 @@ fn slot_at(transitions: &[u8], count: usize, i: usize, k: usize, p: u8) -> Slot
     }
 }
 
-// The same if p is the argument and the frames of subtree j do not cover the slot; none else.
+// The same, but no slot if argument k is not p or the frames of subtree j cover the slot.
 fn place_slot(
     transitions: &[u8],
     count: usize,
@@ -105,7 +105,7 @@ fn place_slot(
     slot_at(transitions, count, i, k, p)
 }
 
-// The slot of the first place of transition i that has one.
+// That of the first place of transition i that gives one.
 fn transition_slot(
     transitions: &[u8],
     count: usize,
@@ -155,8 +155,8 @@ fn transition_slot(
     no_slot()
 }
 
-// The slot of a use of the state of subtree j that the frames of j do not cover; none if the last use of the state has
-// no such slot.
+// A slot in which the state of subtree j is used and which the frames of j do not cover. Only the last transition
+// that uses the state is tried; no slot if it gives none.
 pub fn use_slot(
     transitions: &[u8],
     count: usize,

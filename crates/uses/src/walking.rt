@@ -1,5 +1,6 @@
-// The uses of two states walked in step, one place after another. The uses of most states that are used alike come in
-// pairs, in the same order, so that nothing has to be searched for. A walk that stops before its end says nothing.
+// The uses of two states walked in step, one argument place after another. If two states are used alike, their uses
+// mostly come in pairs, in the same order. Then no use has to be looked up. A walk that stops before its end shows
+// nothing.
 ghost use mathlib.Core.Bool.{true};
 ghost use mathlib.Core.Path.{_≡_};
 ghost use Prim.Native.Nat.{_*_, _+_, _-_, _<_, _^_, _≤_, ℕ};
@@ -28,8 +29,8 @@ use packed::meta_at;
 
 const CHILD_NUMBERS: usize = MAX_NODES * MAX_ARITY;
 
-// Where a step leaves the walk: at transition i for the first state and at x for the second. The step is not right if
-// neither could be passed.
+// Where a step leaves the walk: at transition i for the first state and at x for the second. `right` is false if the
+// step could pass neither use.
 struct Stand {
     i: usize,
     x: usize,
@@ -53,7 +54,7 @@ fn next_with(transitions: &[u8], k: usize, p: u8, from: usize, to: usize) -> usi
     i
 }
 
-// The packed arguments of the transition that starts at a byte without p, its argument k.
+// The packed arguments of the transition that starts at a byte, without argument k, which is p.
 fn args_without(transitions: &[u8], at: usize, k: usize, p: u8) -> u64
     requires { ⌜ at + transitionBytes ≤ length (now transitions) ⌝ }
     requires { ⌜ k < maxArity ⌝ }
@@ -63,7 +64,7 @@ fn args_without(transitions: &[u8], at: usize, k: usize, p: u8) -> u64
     args_at(transitions, at) - at_place(wide(p), k)
 }
 
-// Whether transitions i and x are the same but for their arguments k, which are p and q.
+// Whether transitions i and x, which have p and q as argument k, are otherwise the same.
 fn pair_agrees(
     transitions: &[u8],
     count: usize,
@@ -97,7 +98,7 @@ fn pair_agrees(
     args_without(transitions, first, k, p) == args_without(transitions, second, k, q)
 }
 
-// Whether the walk is at a transition, and its slot with argument k left out is covered.
+// Whether the walk is not at its end, and the slot of transition i without argument k is covered.
 fn use_covered(
     transitions: &[u8],
     count: usize,
@@ -144,7 +145,7 @@ fn use_covered(
     )
 }
 
-// One step of the walk: past two uses that are a pair, else past one that is covered.
+// One step of the walk: past two uses that are a pair, else past one whose slot is covered.
 fn step(
     transitions: &[u8],
     count: usize,
@@ -236,7 +237,7 @@ fn step(
     }
 }
 
-// Whether the walk over the uses of p and q as argument k, from an index on, goes to its end.
+// Whether the walk over the uses of p and q as argument k, from an index on, reaches its end.
 fn place_agrees_in_step(
     transitions: &[u8],
     count: usize,
@@ -299,8 +300,8 @@ fn place_agrees_in_step(
     true
 }
 
-// The most arguments that a transition before an index has: those of the last, because transitions rise by their
-// number of arguments first.
+// The greatest number of arguments of a transition before an index. It is that of the last, because transitions are
+// sorted by their number of arguments first.
 fn width(transitions: &[u8], count: usize, to: usize) -> usize
     requires { ⌜ Searchable (now transitions) count ⌝ }
     requires { ⌜ to ≤ count ⌝ }
@@ -313,8 +314,8 @@ fn width(transitions: &[u8], count: usize, to: usize) -> usize
     arity_of(transitions, TRANSITION_BYTES * (to - 1))
 }
 
-// Whether the walk goes to its end at each place: then p and q are used alike. It may say no of states that are. It
-// does not look for 0, which stands at each place beyond the arguments.
+// Whether the walk reaches its end at each place. Then p and q are used alike; if not, they may still be. False if p
+// or q is 0, because 0 stands at each place beyond the arguments.
 pub fn walk_agrees(
     transitions: &[u8],
     count: usize,

@@ -1,4 +1,4 @@
--- Each answer is that of the scan, which is exact.
+-- Each result is that of the scan, which is exact.
 use mathlib.Core.Path.{_∙_, sym}
 use borrow.Author.Tests.{not-true}
 use Rattle.uses.proofs.Exact.{uses-exact, uses-same}

@@ -1,4 +1,4 @@
--- What is there times what is left is the product.
+-- In the loop the product so far times the product of the rest is the whole.
 use mathlib.Core.Path.{_≡_}
 use Prim.Native.Nat.{_-_, _≤_}
 use native.Mathlib.Nat.{mul-le-mul}

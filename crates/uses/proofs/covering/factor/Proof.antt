@@ -1,4 +1,4 @@
--- The argument that is left out counts once.
+-- The argument that is left out has factor 1.
 use Rattle.uses.proofs.Factors.{factor-out, factor-there}
 use native.Mathlib.Omega.{arith}
 use borrow.Author.Needs.{needs}

@@ -1,4 +1,4 @@
--- The product is compared below its cap.
+-- The count of frames is below the cap, so comparing with the capped product is exact.
 use Rattle.uses.specs.Uses.{arrays}
 use Rattle.uses.proofs.Scanned.{covered-is}
 use borrow.Author.Needs.{needs}

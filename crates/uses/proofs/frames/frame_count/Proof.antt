@@ -1,4 +1,4 @@
--- The nodes counted so far and those left are all.
+-- In the loop the count so far and the count of the rest add up to the whole.
 use Prim.Native.Nat.{_-_}
 use native.Mathlib.Omega.{arith}
 use Rattle.uses.specs.Frames.{frameCount, framed}

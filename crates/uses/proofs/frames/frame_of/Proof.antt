@@ -1,4 +1,4 @@
--- A child is j, or neither, or v; then twins decide.
+-- Child k is j, or neither j nor v, or v. If it is v, twins decide.
 use native.Mathlib.Omega.{arith}
 use Rattle.uses.proofs.Nodes.{of-first, of-none, of-second}
 use borrow.Author.Needs.{needs}

@@ -1,4 +1,4 @@
--- The loop at h answers for the nodes from h on.
+-- At h the loop's result is that for the nodes from h on.
 use mathlib.Core.Path.{_∙_, sym}
 use Prim.Native.Nat.{_-_}
 use native.Mathlib.Nat.{zero-add}

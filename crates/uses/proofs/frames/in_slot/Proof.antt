@@ -1,4 +1,4 @@
--- A node differs in its label, in its number of children, or where its children do.
+-- If a node is not in the slot, it differs in its label, its number of children or a child.
 use mathlib.Core.Path.{_∙_, sym}
 use Rattle.uses.proofs.Nodes.{arity-differs, in-siblings, label-differs}
 use borrow.Author.Needs.{needs}

@@ -1,4 +1,4 @@
--- Two nodes differ in child k, in the label, in the number of children, or where the others do.
+-- If two nodes are no twins, they differ in child k, the label, the number of children or another child.
 use mathlib.Core.Path.{_∙_, ap}
 use Prim.Native.Nat.{ℕ}
 use Rattle.lists.specs.Positions.{upFrom}

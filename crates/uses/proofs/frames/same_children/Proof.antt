@@ -1,4 +1,4 @@
--- The loop at x answers for the children from x on.
+-- At x the loop's result is that for the children from x on.
 use Prim.Native.Nat.{_-_}
 use native.Mathlib.Nat.{zero-add}
 use native.Mathlib.Omega.{arith}

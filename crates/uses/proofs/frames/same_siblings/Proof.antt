@@ -1,4 +1,4 @@
--- The loop at x answers for the children from x on.
+-- At x the loop's result is that for the children from x on.
 use lib.ListN.{getD}
 use Prim.Native.Nat.{_-_, _<_}
 use native.Mathlib.Nat.{zero-add}

@@ -1,4 +1,4 @@
--- Whatever transition the hint names, a refusal there is one of the scan.
+-- If the transition of the hint does not agree, the scan does not either.
 use native.Mathlib.Omega.{arith}
 use Prim.Native.Nat.{_-_}
 use Rattle.uses.specs.Uses.{arrays}

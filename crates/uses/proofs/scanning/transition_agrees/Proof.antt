@@ -1,4 +1,4 @@
--- The loop at k answers for the arguments from k on.
+-- At k the loop's result is that for the arguments from k on.
 use native.Mathlib.Omega.{arith}
 use mathlib.Core.Path.{_∙_, sym}
 use Prim.Native.Nat.{_*_, _-_}

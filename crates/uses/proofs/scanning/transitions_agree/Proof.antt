@@ -1,4 +1,4 @@
--- The transitions below the loop's index agree, and those beyond its end do.
+-- In the loop the transitions below i agree. Those after its end have no use and agree too.
 use native.Mathlib.Omega.{arith}
 use mathlib.Core.Path.{_∙_, ap₂}
 use Prim.Native.Nat.{_-_, max, min}

@@ -1,4 +1,4 @@
--- The entry of a byte is that of its index.
+-- A byte is widened before it is an index.
 use mathlib.Core.Path.{_∙_, ap}
 use Prim.Native.Nat.{ℕ}
 use lib.ListN.{getD}

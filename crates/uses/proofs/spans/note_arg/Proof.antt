@@ -1,4 +1,4 @@
--- The use stands between the first and the last of its state.
+-- The use lies between the bounds of its state.
 use native.Mathlib.Omega.{arith}
 use Rattle.uses.proofs.Noting.{noted-first, noted-again}
 use borrow.Author.Needs.{needs}

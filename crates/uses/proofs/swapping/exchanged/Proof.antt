@@ -1,4 +1,4 @@
--- What the old argument adds is taken away, and what the new one adds is put there.
+-- The old argument's digit is taken away and the new one's is added.
 use native.Mathlib.Omega.{arith}
 use mathlib.Core.Path.{_∙_, ap}
 use Prim.Native.Nat.{_*_, _-_, _^_, ℕ}

@@ -1,4 +1,4 @@
--- What is found by the numbers of the transition with y for x is what it steps to.
+-- The search by the two numbers of the transition with y for x finds what the step gives.
 use native.Mathlib.Omega.{arith}
 use mathlib.Core.Path.{_∙_, ap, sym}
 use Prim.Native.Nat.{_*_}

@@ -1,4 +1,4 @@
--- What the argument adds is taken away.
+-- The argument's digit is taken away.
 use native.Mathlib.Omega.{arith}
 use mathlib.Core.Path.{_∙_, ap, refl}
 use Prim.Native.Nat.{_*_, _-_, _^_, ℕ}

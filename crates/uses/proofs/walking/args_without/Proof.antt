@@ -1,4 +1,4 @@
--- What the argument adds is taken away.
+-- The argument's digit is taken away.
 use mathlib.Core.Path.{_∙_, ap}
 use Prim.Native.Nat.{_*_, _-_, _^_, ℕ}
 use native.Mathlib.Omega.{arith}

@@ -1,4 +1,4 @@
--- None of the transitions that were passed has the state.
+-- None of the transitions passed has the state as argument k.
 use mathlib.Core.Bool.{Bool, false, true}
 use mathlib.Core.List.{List}
 use mathlib.Core.Path.{_≡_, refl, subst}

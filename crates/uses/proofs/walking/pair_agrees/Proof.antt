@@ -1,4 +1,4 @@
--- Each of the two transitions is what a search finds for the other one with the other state.
+-- Each of the two transitions is the one that a search finds for the other with its state exchanged.
 use mathlib.Core.Bool.{false≢true}
 use mathlib.Core.List.{List}
 use mathlib.Core.Path.{_∙_, _≡_, ap, refl, sym}

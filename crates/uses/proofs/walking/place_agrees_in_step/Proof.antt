@@ -1,4 +1,5 @@
--- Between two uses there is none, so that what was passed agrees. At the end that is every use.
+-- No use lies between two uses that the walk finds one after the other, so all that it has passed agree. At the end
+-- that is every use.
 use mathlib.Core.Bool.{Bool, false, false≢true, true}
 use mathlib.Core.List.{List}
 use mathlib.Core.Path.{_≡_, refl, subst}

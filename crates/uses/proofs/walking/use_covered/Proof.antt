@@ -1,4 +1,4 @@
--- A use before the end is inside the transitions, where the test is exact.
+-- A use before the end is one of the transitions, so the test is exact.
 use mathlib.Core.Bool.{false≢true}
 use mathlib.Core.Path.{_∙_, sym}
 use native.Mathlib.Omega.{arith}

@@ -1,4 +1,4 @@
--- What stands outside the walk uses neither state, so that every place of every transition agrees.
+-- Transitions outside the walk use neither state, so every place of every transition agrees.
 use mathlib.Core.Bool.{Bool, false, false≢true, true}
 use mathlib.Core.List.{List}
 use mathlib.Core.Path.{_∙_, _≡_, ap, ap₂, refl, subst, sym}
@@ -20,7 +20,7 @@ use borrow.Author.Needs.{needs}
 use Rattle.uses.proofs.walking.walk_agrees.Statement.{statement}
 use Rattle.uses.proofs.walking.walk_agrees.Tie as tie
 
--- the first places are walked to the end
+-- the first k places are walked to the end
 record PlacesWalked (a : Arrays) (s : List ℕ) (c p q to k : ℕ) : Type 0 where
   each : (h : ℕ) → h < k → Walked a s c h p q to to
 

@@ -1,4 +1,4 @@
--- The numbers of a transition rise, and the higher part of the first is its number of arguments.
+-- Transitions rise by their two numbers, and the high part of the first is the number of arguments.
 use mathlib.Core.Bool.{Bool, false, true}
 use mathlib.Core.List.{List}
 use mathlib.Core.Path.{_≡_, ap, refl}
