@@ -1,4 +1,4 @@
--- What the arrays hold, as the parts of the criterion ask for it.
+-- What the arrays hold, in the form that each part of the criterion requires.
 use mathlib.Core.List.{List}
 use Prim.Native.Nat.{ℕ}
 use native.Mathlib.Omega.{arith}

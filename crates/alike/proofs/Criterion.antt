@@ -39,14 +39,14 @@ class-unset b = go (eqb b 1)
     go true = refl
     go false = refl
 
--- a number as an index
+-- the class of subtree j by a number that equals j
 pub numbered-class : (cl : List ℕ) {j w : ℕ} {b : Bool} → w ≡ j → eqb (getD cl (j - 1) 0) 1 ≡ b →
     eqb (getD cl (w - 1) 0) 1 ≡ b
 numbered-class cl e d = ap (λ x. eqb (getD cl (x - 1) 0) 1) e ∙ d
 
 -- ---- names
 
--- a frame gives two trees one name
+-- a frame gives two trees the same name
 abbrev pub agree : (Tree → ℕ) → Tree → Tree → Frame → Bool
 agree N u v f = eqb (N (fill f u)) (N (fill f v))
 
@@ -67,13 +67,13 @@ eqb-turned x y = go (eqb x y) refl
 
 module _ {A : Automaton} {t : Tree} {ts : List Tree} {m : ℕ} {l r c q : List ℕ} (holds : Holds A t ts m l r c q)
     (N : Tree → ℕ) (j : ℕ) (some : 1 ≤ j) (known : j ≤ m) where
-  -- the parent is the frame with its own child
+  -- the parent's name is that of the frame filled with the parent's own child
   pub own-name : (i k : ℕ) → i < m → k < getD r i 0 → childAt c i k ≡ j →
       N (getD ts i noTree) ≡ N (fill (frameAt ts l r c i k) (treeNumbered ts j))
   own-name i k h g e =
       ap N (sym (fill-own (holds .stored) i k h g) ∙ ap (λ x. fill (frameAt ts l r c i k) (treeNumbered ts x)) e)
 
-  -- b is the answer of the loops over the parents of the subtree with number w
+  -- b is the result of the loop over the parents of subtree w
   pub state-names : (x : ℕ) {w : ℕ} {b : Bool} → w ≡ j →
       b ≡ every (parentAgrees A N ts l r c w true x) (upFrom 0 m) →
       b ≡ every (λ f. eqb (N (fill f (treeNumbered ts j))) (stepFrame A f x)) (framesOf t (treeNumbered ts j))
@@ -100,7 +100,7 @@ module _ {A : Automaton} {t : Tree} {ts : List Tree} {m : ℕ} {l r c q : List �
       ∙ ap (λ p. every p (framesOf t (treeNumbered ts j)))
       (λ i f. eqb-turned (N (fill f (treeNumbered ts j))) (N (fill f (treeNumbered ts x))) i)
 
--- ---- the criterion but for the uses
+-- ---- the criterion without its part about uses
 
 module _ (A : Automaton) (t : Tree) (S : Tree → Bool) (N : Tree → ℕ) (u : Tree) (q a b : ℕ) {e : Bool}
     (mine : eqb a 1 ≡ S u) (other : eqb b 1 ≡ accepting A q) (same : e ≡ Bool·beq (eqb a 1) (eqb b 1)) where
@@ -149,7 +149,7 @@ module _ (A : Automaton) (t : Tree) (S : Tree → Bool) (N : Tree → ℕ) (u : 
   unfolding likeSubtree namedLikeSubtree
   like-subtree-parts v = refl
 
--- a first part that fails decides, else the second does
+-- if the first part fails the result is false, else it is that of the second
 pub first-fails : (y : Bool) {b x z : Bool} → b ≡ x → (x && y) ≡ z → b ≡ false → false ≡ z
 first-fails y e d h = ap (λ c. c && y) (sym h ∙ e) ∙ d
 

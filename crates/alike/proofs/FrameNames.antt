@@ -1,4 +1,4 @@
--- The name of a candidate in the frames over a subtree, and loops over parents and their places.
+-- The name that a candidate gives a frame over a subtree, and loops over parents and their places.
 use mathlib.Core.Bool.{Bool, _||_, false, not, true}
 use mathlib.Core.List.{List, map}
 use mathlib.Core.Path.{_∙_, _≡_, ap, ap₂, refl, subst, sym}
@@ -93,12 +93,12 @@ Given s n m l r c q names a state x P =
     (A : Automaton) (t : Tree) (ts : List Tree) (N : Tree → ℕ) (j : ℕ) → A .transitions ≡ transitionsIn s n →
     Holds A t ts m l r c q → NamedAbove A t ts m j names N → j ≤ a → (state ≡ false → j ≤ x) → P A N ts
 
--- a subtree that is known by another number
+-- the bounds of the parents of a subtree whose number equals j
 pub numbered-parents : {m : ℕ} {r c : List ℕ} {j w from to : ℕ} → w ≡ j → ParentsWithin m r c j from to →
     ParentsWithin m r c w from to
 numbered-parents {m} {r} {c} {j} {w} {from} {to} e p = subst (λ (x : ℕ). ParentsWithin m r c x from to) (sym e) p
 
--- the parents of a subtree stand between two indices
+-- a loop between the bounds of the parents sees every parent
 pub parents-within : (A : Automaton) (N : Tree → ℕ) (ts : List Tree) (l r c : List ℕ) (a : ℕ) (state : Bool) (x : ℕ)
     {m from to : ℕ} → ParentsWithin m r c a from to →
     EveryFrom (every (parentAgrees A N ts l r c a state x) (upFrom 0 m)) (parentAgrees A N ts l r c a state x)

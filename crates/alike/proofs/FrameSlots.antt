@@ -1,4 +1,4 @@
--- A frame over a subtree as a slot: the parent's name is that of each state that the subtree is like.
+-- A frame over a subtree as a slot: each state that the subtree is like steps to the parent's name.
 use mathlib.Core.Bool.{Bool, Bool·beq, true}
 use mathlib.Core.List.{List}
 use mathlib.Core.Path.{_∙_, _≡_, ap, refl, subst, sym}
@@ -107,7 +107,7 @@ module _ (r c : List ℕ) (i : ℕ) {w : ℕ} {ns : List ℕ} (width : w ≡ get
           ∙ ap (λ x. x + p * 2 ^ (8 * (7 - z .place))) (sym args)
           ∙ ap (λ x. z .args + x * 2 ^ (8 * (7 - z .place))) (sym (here p))
 
--- a slot without output
+-- a slot without output meets `SlotOf`
 pub slot-none : (m j : ℕ) (l r c q names : List ℕ) (z : Slot) → z .place ≡ 0 → z .out ≡ 0 → SlotOf m j l r c q names z
 slot-none m j l r c q names z place out = record {
   place = omega arith;

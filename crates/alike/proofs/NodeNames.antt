@@ -70,7 +70,7 @@ module _ {f : ℕ → ℕ} {n : ℕ} {r : List ℕ} (filled : Filled f n r) (nar
     beyond = filled .beyond;
   }
 
--- one of the children is another
+-- the same with child x at place k
 pub put-children : {r : List ℕ} {n m : ℕ} → Children r n m → length r ≡ maxArity → (k x : ℕ) → k < n → 1 ≤ x → x ≤ m →
     Children (set r k x) n m
 put-children {r} {n} {m} ch size k x h some known = record {
@@ -94,7 +94,7 @@ children-more l ch = record {
   beyond = ch .beyond;
 }
 
--- a byte as an index
+-- the same for a width that equals n
 pub widened-children : {r : List ℕ} {n w m : ℕ} → w ≡ n → Children r n m → Children r w m
 widened-children {r} {n} {w} {m} e ch = subst (λ (k : ℕ). Children r k m) (sym e) ch
 
@@ -160,7 +160,7 @@ widened-step A ts b ns qs e d f =
 module _ {A : Automaton} {t : Tree} {ts : List Tree} {m j : ℕ} {l r c q names : List ℕ} {N : Tree → ℕ}
     (holds : Holds A t ts m l r c q) (known : NamedAbove A t ts m j names N) {b n : ℕ} {ns : List ℕ}
     (eight : length ns ≡ maxArity) (ch : Children ns n m) {i : ℕ} (first : First (sameNode l r c b n ns) m i) where
-  -- it is the subtree at index i, which is above j
+  -- the name if the node is the subtree at index i
   pub name-found : (k : ℕ) → k < n → j ≤ getD ns k 0 → i < m → getD names i 0 ≡ N (node b (treesNumbered ts (take n ns)))
   name-found k h a inside =
       let st = holds .stored in
@@ -174,7 +174,7 @@ module _ {A : Automaton} {t : Tree} {ts : List Tree} {m j : ℕ} {l r c q names 
       ap (λ x. getD names x 0) (sym z) ∙ sym (known .named (i + 1) (omega arith) (omega arith))
       ∙ ap N (ap (λ x. getD ts x noTree) z ∙ same-tree st b ch eight i inside same)
 
-  -- it is no subtree
+  -- the name if the node is no subtree
   pub name-missing : {x : ℕ} → m ≤ i → x ≡ step A b (runs A (treesNumbered ts (take n ns))) →
       x ≡ N (node b (treesNumbered ts (take n ns)))
   name-missing h e =

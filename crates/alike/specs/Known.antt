@@ -1,4 +1,5 @@
--- What arrays hold while subtrees are named, and which names are known: those of the subtrees above one.
+-- What the arrays hold while subtrees are named, and which names are known: those of the subtrees with numbers above
+-- j.
 use mathlib.Core.Bool.{Bool, false}
 use mathlib.Core.List.{List}
 use mathlib.Core.Path.{_≡_}
@@ -12,7 +13,7 @@ use Rattle.lists.specs.Tests.{_∈_}
 use Rattle.subtrees.specs.Store.{Stored, childAt, treeNumbered}
 use Rattle.trees.specs.Tree.{Tree}
 
--- arrays of numbers of children and child numbers of m subtrees can be read: children come before parents
+-- arrays of the numbers of children and the child numbers of m subtrees; children come before parents
 pub record Shaped (m : ℕ) (r c : List ℕ) : Type 0 where
   pub few : m ≤ maxNodes
   pub narrow : (i : ℕ) → i < m → getD r i 0 ≤ maxArity
@@ -25,7 +26,7 @@ pub record Holds (A : Automaton) (t : Tree) (ts : List Tree) (m : ℕ) (l r c q 
   pub subtree : (x : Tree) → x ∈ ts → x ∈ subtrees t
   pub every-subtree : (x : Tree) → x ∈ subtrees t → x ∈ ts
 
--- N names the trees that are no subtrees of t by their states, and subtree x above j by entry x - 1
+-- N gives a tree that is no subtree of t its state as its name, and subtree x above j entry x - 1 of names
 pub record NamedAbove (A : Automaton) (t : Tree) (ts : List Tree) (m j : ℕ) (names : List ℕ) (N : Tree → ℕ) : Type 0 where
   pub others : (u : Tree) → isSubtree t u ≡ false → N u ≡ run A u
   pub named : (x : ℕ) → j < x → x ≤ m → N (treeNumbered ts x) ≡ getD names (x - 1) 0

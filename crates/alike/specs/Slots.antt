@@ -1,4 +1,4 @@
--- The slots in which the states that a subtree is like must be found.
+-- Slots in which every state that a subtree is like must be found.
 use mathlib.Core.Bool.{Bool, true}
 use mathlib.Core.List.{List}
 use mathlib.Core.Path.{_≡_}
@@ -14,7 +14,7 @@ use Rattle.table.specs.Layout.{transitionsIn}
 use Rattle.trees.specs.Tree.{Tree}
 use Rattle.alike.specs.Known.{Holds, NamedAbove}
 
--- the slot takes each state that subtree j is like; without output it says nothing
+-- if the slot z has an output, each state that subtree j is like has that output in z
 pub record SlotOf (m j : ℕ) (l r c q names : List ℕ) (z : Slot) : Type 0 where
   pub place : z .place < maxArity
   pub takes : (s : List ℕ) (n : ℕ) (A : Automaton) (t : Tree) (ts : List Tree) (S : Tree → Bool) (N : Tree → ℕ) →

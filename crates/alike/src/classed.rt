@@ -1,4 +1,4 @@
-// The criterion but for the uses: the class first, then the names in the frames.
+// The criterion without its part about uses: the class first, then the names in the frames.
 ghost use mathlib.Core.Bool.{Bool, Bool·beq};
 ghost use mathlib.Core.List.{List};
 ghost use mathlib.Core.Path.{_≡_};
@@ -18,7 +18,7 @@ use format::MAX_NODES;
 use format::wide;
 use subtrees::CHILD_NUMBERS;
 
-// Whether two bytes stand for the same class.
+// Whether two bytes are the same class; only 1 is accepting.
 fn same_class(a: u8, b: u8) -> bool
     ensures { λ r. ⌜ r ≡ Bool·beq (eqb a 1) (eqb b 1) ⌝ }
 {
@@ -28,8 +28,8 @@ fn same_class(a: u8, b: u8) -> bool
     b != 1
 }
 
-// Whether subtree j has the class of state q, or 0, which is `class`, and in each of its frames the name that q has.
-// `from` and `to` bound the indices of its parents.
+// Whether subtree j has class `class`, which is that of state q or of 0, and in each of its frames the name that q
+// has there. `from` and `to` bound the indices of its parents.
 pub fn named_like_state(
     transitions: &[u8],
     count: usize,
@@ -79,8 +79,8 @@ pub fn named_like_state(
     )
 }
 
-// Whether subtrees j and v have one class and, in each frame of both, one name. `from` and `to` bound the indices of the
-// parents of both.
+// Whether subtrees j and v have the same class and, in each frame of either, the same name. `from` and `to` bound the
+// indices of the parents of both.
 pub fn named_like_subtree(
     transitions: &[u8],
     count: usize,

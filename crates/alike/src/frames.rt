@@ -1,5 +1,5 @@
-// The frames over a subtree: its parents with their places for it. A candidate is a state or another subtree; it must have
-// in each frame the name that the parent has.
+// The frames over a subtree: its parents, each with the place of the subtree among its children. A candidate is a
+// state or another subtree. In the subtree's place it must give each parent the name that the parent has.
 ghost use mathlib.Core.Path.{_≡_};
 ghost use mathlib.Core.Bool.{false};
 ghost use mathlib.Core.List.{List};
@@ -27,7 +27,7 @@ use format::MAX_NODES;
 use format::wide;
 use subtrees::CHILD_NUMBERS;
 
-// The step of state x at place k of the subtree at index i.
+// The state of the subtree at index i if its child k had state x.
 fn frame_step(
     transitions: &[u8],
     count: usize,
@@ -56,7 +56,7 @@ fn frame_step(
     step_node(transitions, count, labels[i], arity, qs)
 }
 
-// The name of the subtree at index i with subtree x for its child k.
+// The name of the subtree at index i if its child k were subtree x.
 fn frame_node(
     transitions: &[u8],
     count: usize,
@@ -101,7 +101,7 @@ fn frame_node(
     )
 }
 
-// The name of a candidate at place k of the subtree at index i: of a state its step, of a subtree that of the node.
+// The name that the subtree at index i would have with the candidate x, a state or a subtree, for its child k.
 fn frame_name(
     transitions: &[u8],
     count: usize,
@@ -157,7 +157,8 @@ fn frame_name(
     )
 }
 
-// Whether the subtree at index i has the candidate's name at place k, if subtree a is its child there.
+// Whether the subtree at index i keeps its name with the candidate for its child k. True if that child is not subtree
+// a.
 fn place_agrees(
     transitions: &[u8],
     count: usize,
@@ -204,7 +205,7 @@ fn place_agrees(
     names[i] == name
 }
 
-// The same at every place of the subtree at index i.
+// The same for every child of the subtree at index i.
 fn parent_agrees(
     transitions: &[u8],
     count: usize,
@@ -254,8 +255,8 @@ fn parent_agrees(
     true
 }
 
-// Whether a candidate has the parent's name in every frame over subtree a. Its parents stand from `from` on and before
-// `to`.
+// Whether every parent of subtree a keeps its name with the candidate in a's place. The parents have indices from
+// `from` on and below `to`.
 pub fn frames_agree(
     transitions: &[u8],
     count: usize,

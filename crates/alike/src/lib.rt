@@ -1,5 +1,5 @@
 // The local criterion: whether a subtree can stand for a state or for another subtree after a change of the set. The
-// arrays of the m subtrees are those of crate subtrees; names above the subtree are known.
+// arrays of the m subtrees are those of crate subtrees. The names of subtrees with greater numbers are known.
 mod classed; // the class and the names in the frames
 mod frames; // the names in the frames over a subtree
 mod nodes; // the name of a node over subtrees
@@ -30,7 +30,7 @@ use subtrees::CHILD_NUMBERS;
 use uses::state_uses_agree;
 use uses::subtree_uses_agree;
 
-// Whether subtree j can stand for state q, or for 0, whose class is `class`. The uses of a state stand between its
+// Whether subtree j can stand for q, a state or 0, whose class is `class`. The uses of a state lie between its
 // entries of `lows` and `lasts`, the parents of j between `from` and `to`.
 pub fn like_state(
     transitions: &[u8],
@@ -103,7 +103,8 @@ pub fn like_state(
     )
 }
 
-// Whether subtree j can stand for subtree v, which comes after it. The parents of both stand between `from` and `to`.
+// Whether subtree j can stand for subtree v, which has a greater number. The parents of both lie between `from` and
+// `to`.
 pub fn like_subtree(
     transitions: &[u8],
     count: usize,

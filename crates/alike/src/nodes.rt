@@ -37,7 +37,7 @@ pub fn children_of(children: &[u8; CHILD_NUMBERS], i: usize, arity: usize) -> [u
     numbers
 }
 
-// The states of the subtrees with these numbers, and zeros after them.
+// The states of the subtrees with the first `arity` numbers, and zeros after them.
 pub fn states_of(
     states: &[u8; MAX_NODES],
     numbers: [u8; MAX_ARITY],
@@ -56,7 +56,7 @@ pub fn states_of(
     qs
 }
 
-// Whether one of the first bytes is 0.
+// Whether one of the first `arity` bytes is 0.
 fn some_zero(qs: [u8; MAX_ARITY], arity: usize) -> bool
     requires { ⌜ arity ≤ maxArity ⌝ }
     ensures { λ r. ⌜ r ≡ any (eqb 0) (take arity qs) ⌝ }
@@ -71,7 +71,7 @@ fn some_zero(qs: [u8; MAX_ARITY], arity: usize) -> bool
     false
 }
 
-// The state of a node over children with these states; 0 if one has none.
+// The state of a node over children with these states; 0 if one of them has none.
 pub fn step_node(
     transitions: &[u8],
     count: usize,
@@ -90,7 +90,8 @@ pub fn step_node(
     output(transitions, count, label, arity, qs)
 }
 
-// The name of a node over the subtrees with these numbers, if one of them is at least j and the names above j are known.
+// The name of a node over the subtrees with these numbers. One of them must be at least j, and the names above j must
+// be known. A node that is no subtree has its state as its name.
 pub fn node_name(
     transitions: &[u8],
     count: usize,

@@ -1,5 +1,5 @@
-// A frame over a subtree as a slot: a state that the subtree is like has the parent's name there, so it is the argument
-// of a transition in the slot.
+// A frame over a subtree as a slot. A state that the subtree is like steps to the parent's name there, so it is the
+// argument of a transition in the slot.
 ghost use Prim.Native.Nat.{_<_, _≤_};
 ghost use lib.ListN.{getD};
 ghost use Rattle.subtrees.specs.Store.{childAt};
@@ -48,7 +48,7 @@ fn frame_slot(
     }
 }
 
-// The slot of subtree j under the subtree at index i; none if j is not its child or its name is 0.
+// The slot of subtree j in the subtree at index i; no slot if j is not its child or if its name is 0.
 fn parent_slot(
     m: usize,
     labels: &[u16; MAX_NODES],
@@ -78,8 +78,8 @@ fn parent_slot(
     no_slot()
 }
 
-// The slot of a frame over subtree j whose parent stands from index `from` on and before `to` and has a name that is
-// not 0; none if there is no such frame.
+// The slot of a frame over subtree j whose parent has a name other than 0; no slot if there is none. The parents of j
+// have indices from `from` on and below `to`.
 pub fn frame_slot_of(
     m: usize,
     labels: &[u16; MAX_NODES],

@@ -12,14 +12,12 @@ use Rattle.alike.proofs.like_state.Reads as reads
 use Rattle.alike.proofs.like_state.Lts as lts
 use Rattle.alike.proofs.classed.named_like_state.Reads as named-like-state-reads
 
--- src/lib.rt:60:9
 named-like-state-requires : tie.Need-named-like-state-requires
 named-like-state-requires c κs =
     let p = c .before .pre in
     let q = p .1 .1 in
     (p .0, (q .0, (q .1 .0, (q .1 .1 .0, q .1 .1 .1 .1))))
 
--- src/lib.rt:74:9
 returns : tie.Need-returns
 returns c =
     let a = c .before .before .before .args in
@@ -28,13 +26,11 @@ returns c =
     first-fails (usesAgree A t (framesOf t u) (run A u) (a .q)) (c .before .named-like-state .ensures A t ts S N (holds .transitions) (holds-subtrees holds) known mine other)
     (like-state-parts A t S N u (a .q)) (not-true _ (c .if1 .taken))
 
--- src/lib.rt:76:5
 state-uses-agree-requires : tie.Need-state-uses-agree-requires
 state-uses-agree-requires c κs =
     let p = c .before .before .before .pre in
     (p .0, (p .1 .0, (shaped-nodes (p .1 .1 .0), p .1 .1 .1)))
 
--- src/lib.rt:31:1
 returns-2 : tie.Need-returns-2
 returns-2 c =
     let a = c .before .before .before .before .args in

@@ -13,14 +13,12 @@ use Rattle.alike.proofs.like_subtree.Reads as reads
 use Rattle.alike.proofs.like_subtree.Lts as lts
 use Rattle.alike.proofs.classed.named_like_subtree.Reads as named-like-subtree-reads
 
--- src/lib.rt:123:9
 named-like-subtree-requires : tie.Need-named-like-subtree-requires
 named-like-subtree-requires c κs =
     let p = c .before .pre in
     let q = p .1 .1 in
     (p .0, (q .0, (q .1 .0, (q .1 .1 .0, (q .1 .1 .1 .0, q .1 .1 .1 .1 .1)))))
 
--- src/lib.rt:136:9
 returns : tie.Need-returns
 returns c =
     let a = c .before .before .before .args in
@@ -30,14 +28,12 @@ returns c =
     first-fails (usesAgree A t (framesOf t u ++ framesOf t v) (run A u) (run A v)) (c .before .named-like-subtree .ensures A t ts S N (holds .transitions) (holds-subtrees holds) known mine other)
     (like-subtree-parts A t S N u v) (not-true _ (c .if1 .taken))
 
--- src/lib.rt:138:5
 subtree-uses-agree-requires : tie.Need-subtree-uses-agree-requires
 subtree-uses-agree-requires c κs =
     let p = c .before .before .before .pre in
     let q = p .1 .1 .1 in
     (p .0, (p .1 .0, (shaped-nodes (p .1 .1 .0), (q .0, (omega arith, (omega arith, (q .1 .1 .0, ((λ z. omega arith), q .1 .1 .1))))))))
 
--- src/lib.rt:93:1
 returns-2 : tie.Need-returns-2
 returns-2 c =
     let a = c .before .before .before .before .args in

@@ -1,4 +1,4 @@
--- `alike::frames::frame_node` meets its contract: the other children around x.
+-- `alike::frames::frame_node` meets its contract: x stands at place k among the other children.
 use lib.ListN.{getD, set, take}
 use Rattle.subtrees.specs.Store.{treesNumbered}
 use Rattle.trees.specs.Tree.{node}

@@ -1,4 +1,4 @@
--- `alike::frames::frame_step` meets its contract: the states of the other children around x.
+-- `alike::frames::frame_step` meets its contract: x stands at place k among the states of the other children.
 use native.Mathlib.Omega.{arith}
 use Rattle.alike.proofs.FrameNames.{frame-children, frame-stepped}
 use Rattle.alike.proofs.NodeNames.{children-more, put-places}

@@ -1,4 +1,4 @@
--- The loop at i has passed the parents before i; the answer is that of the parents left.
+-- At i the loop's result is that for the parents from i on.
 use native.Mathlib.Omega.{arith}
 use mathlib.Core.Path.{_∙_, _≡_, sym}
 use Prim.Native.Nat.{_+_, _-_, _≤_}

@@ -1,4 +1,4 @@
--- The loop at k has passed k places; the answer is that of the places left.
+-- At k the loop's result is that for the places from k on.
 use native.Mathlib.Omega.{arith}
 use mathlib.Core.Path.{_∙_, _≡_, sym}
 use Prim.Native.Nat.{_-_}

@@ -1,4 +1,5 @@
--- `alike::frames::place_agrees` meets its contract: another child asks nothing, and the parent is above j.
+-- `alike::frames::place_agrees` meets its contract: true for another child; else the parent's number is above j, so
+-- its name is known.
 use native.Mathlib.Omega.{arith}
 use mathlib.Core.Path.{_∙_, refl, sym}
 use Rattle.alike.proofs.FrameNames.{place-other, place-own}

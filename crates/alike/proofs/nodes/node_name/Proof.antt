@@ -1,4 +1,4 @@
--- `alike::nodes::node_name` meets its contract: the node is a subtree above j, or its name is its state.
+-- `alike::nodes::node_name` meets its contract: the node is a subtree above j, or else its name is its state.
 use native.Mathlib.Omega.{arith}
 use mathlib.Core.Path.{_∙_, _≡_, ap, sym}
 use lib.ListN.{length}

@@ -1,4 +1,4 @@
--- `alike::nodes::step_node` meets its contract: a child without state leaves none, else the transition is searched.
+-- `alike::nodes::step_node` meets its contract: 0 if a child has no state, else the transition is searched for.
 use native.Mathlib.Omega.{arith}
 use mathlib.Core.Path.{_∙_, ap, sym}
 use lib.ListN.{take}

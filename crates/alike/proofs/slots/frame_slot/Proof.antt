@@ -1,4 +1,4 @@
--- `alike::slots::frame_slot` meets its contract: the states of the other children around 0.
+-- `alike::slots::frame_slot` meets its contract: 0 stands at place k among the states of the other children.
 use mathlib.Core.Path.{refl}
 use native.Mathlib.Omega.{arith}
 use borrow.Author.Needs.{needs}
