@@ -1,6 +1,6 @@
--- What the names of its parents say of a subtree. If some parent's name is no state, no state is like the subtree:
--- every step is a state. If a parent is alone with its own name, no later subtree is like it: in the parent's frame
--- that subtree would make another tree with the parent's name.
+-- What the names of its parents imply for a subtree. If some parent's name is no state, the subtree is like no state,
+-- because every step is a state. If a parent's own name is unshared, the subtree is like no greater subtree, because
+-- in the parent's frame that subtree would make another tree with the parent's name.
 use mathlib.Core.Bool.{Bool, Bool·beq, _&&_, false, true, true≢false}
 use mathlib.Core.List.{List, _++_, _∷_}
 use mathlib.Core.Logic.{_≢_}
@@ -36,7 +36,7 @@ frame-fits : (A : Automaton) → Fits A → (f : Frame) (p : ℕ) → stepFrame 
 frame-fits A fit f p = step-fits A fit (f .label) (runs A (f .before) ++ (p ∷ runs A (f .after)))
 
 module _ (A : Automaton) (t : Tree) (S : Tree → Bool) (N : Tree → ℕ) where
-  -- what is like a state or a subtree has its names in each frame of the one
+  -- a subtree that is like a state or a subtree has the same name in each of its frames
   like-step : (u : Tree) (q : ℕ) → likeState A t S N u q ≡ true → (f : Frame) → f ∈ framesOf t u →
       N (fill f u) ≡ stepFrame A f q
   unfolding likeState
@@ -57,7 +57,7 @@ module _ (A : Automaton) (t : Tree) (S : Tree → Bool) (N : Tree → ℕ) where
 module _ {A : Automaton} {t : Tree} {ts : List Tree} {n m : ℕ} {l r c q : List ℕ} (S : Tree → Bool)
     (h : Holds A t ts m l r c q) (fit : Fits A) (size : states A ≡ n) {j : ℕ} {names : List ℕ} {N : Tree → ℕ}
     (X : NamedAbove A t ts m j names N) where
-  -- a child stands in a frame that its parent's number names
+  -- a child is in a frame whose whole is the parent
   parent-frame : (i : ℕ) → j < i → i ≤ m → isChild r c i j ≡ true →
       (f : Frame) × (f ∈ framesOf t (treeNumbered ts j)) × (fill f (treeNumbered ts j) ≡ treeNumbered ts i) ×
       (N (fill f (treeNumbered ts j)) ≡ getD names (i - 1) 0)
@@ -88,7 +88,7 @@ module _ {A : Automaton} {t : Tree} {ts : List Tree} {n m : ℕ} {l r c q : List
       ))
 
   module _ {shared : List ℕ} (alone : Shared n m j names shared) where
-    -- a tree with the own name of a subtree that is alone with it is that subtree
+    -- a tree with the unshared own name of a subtree is that subtree
     alone-same : (i : ℕ) → j < i → i ≤ m → getD shared (i - 1) 0 ≡ 0 → (f : Frame) (v : ℕ) → j < v → v ≤ m →
         N (fill f (treeNumbered ts v)) ≡ n + i → fill f (treeNumbered ts v) ≡ treeNumbered ts i
     alone-same i low high z f v a b e = go (isSubtree t (fill f (treeNumbered ts v))) refl
@@ -167,7 +167,7 @@ module _ {A : Automaton} {t : Tree} {ts : List Tree} {n m : ℕ} {l r c q : List
               (fill-same f (treeNumbered ts j) (treeNumbered ts v) (d ∙ sym same)),
         ))
 
-    -- so it has its own name
+    -- so the subtree has its own name
     pub anchored-own : any (anchors n r c names shared j) (upFrom (j + 1) (m - j)) ≡ true → 1 ≤ j →
         OwnChosen A t S ts n m N j (n + j)
     anchored-own e s = record {

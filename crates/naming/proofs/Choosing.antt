@@ -29,7 +29,7 @@ not-zero (suc x) = rw (ne-eqb (suc x) 0 (λ e. omega arith))
 
 -- ---- states
 
--- what the marks say is free is so
+-- the marks show which states are free
 module _ {A : Automaton} {t : Tree} {n : ℕ} {o : List ℕ} (size : states A ≡ n) (O : Open A t o) {q : ℕ}
     (h : q ≤ n) where
   marked-free : (eqb q 0 || marked o q) ≡ true → Free A t q

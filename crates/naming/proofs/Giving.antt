@@ -1,4 +1,4 @@
--- Names are given from the last subtree to the first, and what the search chose for each is what the criterion asks.
+-- Names are given from the last subtree to the first, and the name chosen for each is one that the criterion allows.
 use mathlib.Core.Bool.{Bool, cond, false, true}
 use mathlib.Core.List.{List}
 use mathlib.Core.Logic.{_≢_, _⊎_, inl, inr}
@@ -56,7 +56,7 @@ module _ {b s : List ℕ} {count n m : ℕ} {l r c q w cl o : List ℕ} where
     above : (x : ℕ) → j < x → getD more (x - 1) 0 ≡ getD names (x - 1) 0
     above x h = getD-set-other names (j - 1) (x - 1) y 0 (λ e. omega arith)
 
-    -- what holds at j and above holds above j - 1
+    -- what holds at j and above j holds above j - 1
     from : (P : ℕ → Type 0) → P j → ((x : ℕ) → j < x → x ≤ m → P x) → (x : ℕ) → j - 1 < x → x ≤ m → P x
     from P a k x h e = go (eqb x j) refl
       where

@@ -30,7 +30,7 @@ pub refuted : (b : Bool) → (b ≡ true → ⊥) → b ≡ false
 refuted true h = absurd (h refl)
 refuted false h = refl
 
--- one frame with two trees in it
+-- filling a frame is injective
 before-same : (b : Forest) (u v : Tree) (c : Forest) → b ⧺ cons u c ≡ b ⧺ cons v c → u ≡ v
 before-same nil u v c e = cons-tree _ _ _ _ e
 before-same (cons w b) u v c e = before-same b u v c (cc)

@@ -1,4 +1,4 @@
--- All names given: each subtree has the name that the search asks for, over the names of all trees.
+-- With all names given, each subtree has the name that `Searched` requires.
 use mathlib.Core.Bool.{Bool, cond, false, true}
 use mathlib.Core.List.{List}
 use mathlib.Core.Logic.{_≢_, _⊎_, inl, inr}

@@ -1,4 +1,4 @@
--- Marks for the subtrees whose own names others have, while names are given from the last to the first.
+-- Marks for the subtrees whose own names are shared, while names are given from the last to the first.
 use mathlib.Core.List.{List}
 use mathlib.Core.Logic.{_≢_}
 use mathlib.Core.Path.{_∙_, _≡_, sym}
@@ -13,7 +13,7 @@ use borrow.Author.Tests.{eqb-false, eqb-true}
 use Rattle.naming.specs.Parents.{Marked, Shared}
 
 module _ {n j name : ℕ} {m : List ℕ} where
-  -- a state is no subtree's name, and a subtree's own name is not shared by that
+  -- a name that is a state marks nothing, nor does the subtree's own name
   pub marked-none : name ≤ n → Marked n j name m m
   marked-none h = record { kept = λ i e. e; new = λ i a e d. absurd (omega arith) }
 

@@ -1,4 +1,4 @@
--- The states in a slot tried one after another: none that is like the subtree stands elsewhere.
+-- The states in a slot tried one after another. Every state that the subtree is like is among them.
 use mathlib.Core.Bool.{Bool, false, true, true≢false}
 use mathlib.Core.List.{List}
 use mathlib.Core.Path.{_∙_, _≡_, refl, sym}
@@ -40,7 +40,7 @@ place-state {s} {c} {n} sorted over i k h g = go (ltb k (arityOf s (transitionBy
     go false e =
         omega (arith, sorted .padded .each i h .rest k (ltb-false k (arityOf s (transitionBytes * i)) e) g)
 
--- no free state in the slot is like subtree j, if a transition before i has it
+-- subtree j is like no free state that a transition of the slot before index i has
 pub record NoneSlotted (A : Automaton) (t : Tree) (S : Tree → Bool) (ts : List Tree) (s : List ℕ) (N : Tree → ℕ)
     (j : ℕ) (z : Slot) (i : ℕ) : Type 0 where
   pub each : (x : ℕ) → x < i → InSlot s z x → Free A t (argOf s (transitionBytes * x) (z .place)) →
@@ -51,7 +51,7 @@ module _ {A : Automaton} {t : Tree} {S : Tree → Bool} {ts : List Tree} {s : Li
     pub none-first : {i : ℕ} → ((x : ℕ) → x < i → InSlot s z x → ⊥) → NoneSlotted A t S ts s N j z i
     none-first out = record { each = λ x h d. absurd (out x h d) }
 
-    -- the state at index i is not like the subtree, and the next in the slot stands at index l
+    -- the same up to index l, the next in the slot, if the subtree is not like the state at index i
     pub none-next : {i l q : ℕ} → NoneSlotted A t S ts s N j z i → q ≡ argOf s (transitionBytes * i) (z .place) →
         StateTried A t S ts N j q false → ((x : ℕ) → i + 1 ≤ x → x < l → InSlot s z x → ⊥) →
         NoneSlotted A t S ts s N j z l
@@ -100,7 +100,7 @@ module _ {A : Automaton} {t : Tree} {ts : List Tree} {S : Tree → Bool} {N : Tr
     each = λ p e. slot .takes s count A t ts S N sorted (holds .transitions) (holds-subtrees holds) X some p e;
   }
 
-  -- what is like a state is used like it
+  -- a state that the subtree is like is used as the state of the subtree is
   pub use-slotted : ((p : ℕ) →
       usesAgree A t (framesOf t (treeNumbered ts j)) (run A (treeNumbered ts j)) p ≡ true → SlotTakes s count z p) →
       StatesSlotted A t S ts s count N j z

@@ -1,4 +1,4 @@
--- Spans of parents: how they are noted child by child, and that tests of parents need look no further.
+-- Spans of parents: they are noted child by child, and tests of parents need not look outside them.
 use mathlib.Core.Bool.{Bool, _&&_, cond, false, true}
 use mathlib.Core.List.{List}
 use mathlib.Core.Logic.{_≢_, _⊎_, inl, inr}
@@ -220,7 +220,7 @@ module _ {m j from to : ℕ} {r c : List ℕ} (shaped : Shaped m r c) (within : 
       let (_, s) = upFrom-in 0 (getD r (i - 1) 0) k w in
       (k, omega arith, eqb-true (childAt c (i - 1) k) j d)
 
-  -- the parents stand after j, and within the span
+  -- the parents have numbers above j, and lie within the span
   pub parents-tested : AnyFrom (any p (upFrom (j + 1) (m - j))) p (from + 1 + (to - from)) (from + 1)
   parents-tested = record {
     within = omega arith;

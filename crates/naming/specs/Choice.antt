@@ -1,5 +1,6 @@
--- The name that the search gives a subtree, if N names those above it: a free state that it is like, else the own name
--- of a subtree above that it is like, else its own.
+-- The name that the search gives subtree j, if N has the names of the subtrees with greater numbers: a free state
+-- that j is like, else the own name of a greater subtree that j is like, else its own. Free are 0 and the open
+-- states.
 use mathlib.Core.Bool.{Bool, false, true}
 use mathlib.Core.List.{List}
 use mathlib.Core.Logic.{_⊎_}
@@ -27,7 +28,7 @@ pub record SubtreeChosen (A : Automaton) (t : Tree) (S : Tree → Bool) (ts : Li
   pub own : N (treeNumbered ts v) ≡ n + v
   pub like : likeSubtree A t S N (treeNumbered ts j) (treeNumbered ts v) ≡ true
 
--- y is the name of a subtree above that j can stand for
+-- y is the own name of a greater subtree that j can stand for
 pub record SharedChosen (A : Automaton) (t : Tree) (S : Tree → Bool) (ts : List Tree) (n m : ℕ) (N : Tree → ℕ)
     (j y : ℕ) : Type 0 where
   pub model : ℕ
@@ -36,17 +37,17 @@ pub record SharedChosen (A : Automaton) (t : Tree) (S : Tree → Bool) (ts : Lis
   pub same : y ≡ n + model
   pub chosen : SubtreeChosen A t S ts n N j model
 
--- no free state below p is like subtree j
+-- subtree j is like no free state below p
 pub record NoState (A : Automaton) (t : Tree) (S : Tree → Bool) (ts : List Tree) (N : Tree → ℕ) (j p : ℕ) : Type 0 where
   pub each : (q : ℕ) → q < p → Free A t q → likeState A t S N (treeNumbered ts j) q ≡ false
 
--- no subtree above j and below p that has its own name is like subtree j
+-- subtree j is like no subtree between j and p that has its own name
 pub record NoSubtree (A : Automaton) (t : Tree) (S : Tree → Bool) (ts : List Tree) (n : ℕ) (N : Tree → ℕ) (j p : ℕ) :
     Type 0 where
   pub each : (v : ℕ) → j < v → v < p → N (treeNumbered ts v) ≡ n + v →
       likeSubtree A t S N (treeNumbered ts j) (treeNumbered ts v) ≡ false
 
--- y is j's own name, and it can stand for nothing
+-- y is j's own name, and j can stand for no free state and no greater subtree
 pub record OwnChosen (A : Automaton) (t : Tree) (S : Tree → Bool) (ts : List Tree) (n m : ℕ) (N : Tree → ℕ) (j y : ℕ) :
     Type 0 where
   pub same : y ≡ n + j
@@ -57,42 +58,42 @@ abbrev pub Chosen : Automaton → Tree → (Tree → Bool) → List Tree → ℕ
 Chosen A t S ts n m N j y =
     StateChosen A t S ts N j y ⊎ (SharedChosen A t S ts n m N j y ⊎ OwnChosen A t S ts n m N j y)
 
--- a free state is like subtree j, or it is not
+-- r says whether q is a free state that subtree j is like
 pub record StateTried (A : Automaton) (t : Tree) (S : Tree → Bool) (ts : List Tree) (N : Tree → ℕ) (j q : ℕ)
     (r : Bool) : Type 0 where
   pub yes : r ≡ true → StateChosen A t S ts N j q
   pub no : r ≡ false → Free A t q → likeState A t S N (treeNumbered ts j) q ≡ false
 
--- a subtree with its own name is like subtree j, or it is not
+-- r says whether v is a subtree with its own name that subtree j is like
 pub record SubtreeTried (A : Automaton) (t : Tree) (S : Tree → Bool) (ts : List Tree) (n : ℕ) (N : Tree → ℕ) (j v : ℕ)
     (r : Bool) : Type 0 where
   pub yes : r ≡ true → SubtreeChosen A t S ts n N j v
   pub no : r ≡ false → N (treeNumbered ts v) ≡ n + v →
       likeSubtree A t S N (treeNumbered ts j) (treeNumbered ts v) ≡ false
 
--- if the test passes, q is a free state that subtree j is like
+-- if r is true, q is a free state that subtree j is like
 pub record StateTaken (A : Automaton) (t : Tree) (S : Tree → Bool) (ts : List Tree) (N : Tree → ℕ) (j q : ℕ)
     (r : Bool) : Type 0 where
   pub yes : r ≡ true → StateChosen A t S ts N j q
 
--- of the transitions in a slot, one has each state that is like subtree j as its argument
+-- every state that subtree j is like is the argument of a transition in the slot z
 pub record StatesSlotted (A : Automaton) (t : Tree) (S : Tree → Bool) (ts : List Tree) (s : List ℕ) (count : ℕ)
     (N : Tree → ℕ) (j : ℕ) (z : Slot) : Type 0 where
   pub each : (p : ℕ) → likeState A t S N (treeNumbered ts j) p ≡ true → SlotTakes s count z p
 
--- p is a free state up to n that is like subtree j; above n if there is none
+-- p is a free state that subtree j is like, or p is above n and there is none
 pub record StateSought (A : Automaton) (t : Tree) (S : Tree → Bool) (ts : List Tree) (n : ℕ) (N : Tree → ℕ) (j p : ℕ) :
     Type 0 where
   pub none : n < p → NoState A t S ts N j (n + 1)
   pub there : p ≤ n → StateChosen A t S ts N j p
 
--- p is a subtree above j up to m with its own name that is like it; above m if there is none
+-- p is a subtree above j with its own name that j is like, or p is above m and there is none
 pub record SubtreeSought (A : Automaton) (t : Tree) (S : Tree → Bool) (ts : List Tree) (n m : ℕ) (N : Tree → ℕ)
     (j p : ℕ) : Type 0 where
   pub none : m < p → NoSubtree A t S ts n N j (m + 1)
   pub there : p ≤ m → SubtreeChosen A t S ts n N j p
 
--- the name of a subtree in an array by numbers
+-- the name of a subtree, from an array indexed by subtree numbers
 abbrev pub nameIn : List Tree → List ℕ → Tree → ℕ
 nameIn ts names u = getD names (subtreeNumber ts u - 1) 0
 

@@ -26,11 +26,11 @@ pub record Rooted (t : Tree) (ts : List Tree) (m root : ℕ) : Type 0 where
   pub known : root ≤ m
   pub whole : treeNumbered ts root ≡ t
 
--- the class that a table has for a state; no state is not accepting
+-- the class of a state in a table; 0, no state, is not accepting
 abbrev pub classIn : List ℕ → ℕ → Bool
 classIn b q = cond (eqb q 0) false (classAt b q)
 
--- the class of subtree j, if q has the states of the subtrees
+-- the class of subtree j; q has the states of the subtrees, and the tree itself, number `root`, has class `inserting`
 unfoldable pub subtreeClass : List ℕ → List ℕ → ℕ → Bool → ℕ → Bool
 subtreeClass b q root inserting j = cond (eqb j root) inserting (classIn b (getD q (j - 1) 0))
 

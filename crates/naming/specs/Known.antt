@@ -1,4 +1,4 @@
--- What code may rely on while subtrees are named, and what the arrays then hold.
+-- What the code requires while subtrees are named, and what the arrays hold.
 use mathlib.Core.Bool.{Bool}
 use mathlib.Core.List.{List}
 use mathlib.Core.Path.{_≡_}
@@ -14,8 +14,7 @@ use Rattle.trees.specs.Tree.{Tree}
 use Rattle.uses.specs.Spans.{UsesWithin}
 use Rattle.uses.specs.Uses.{Holds}
 
--- a table b, its run s of sorted transitions over n states, m subtrees, and between which transitions the uses of a
--- state stand
+-- a table b, the bytes s of its sorted transitions over n states, m subtrees, and bounds of the uses of each state
 pub record Sized (b s : List ℕ) (count n m : ℕ) (r c lows lasts : List ℕ) : Type 0 where
   pub table : length b ≡ tableBytes
   pub searchable : Searchable s count
@@ -24,8 +23,8 @@ pub record Sized (b s : List ℕ) (count n m : ℕ) (r c lows lasts : List ℕ) 
   pub shaped : Shaped m r c
   pub uses : UsesWithin s count lows lasts
 
--- a table b with n states, whose transitions are s, and the m subtrees of t with their classes in S; w has the number
--- of pairs of each state
+-- the table b has the n states of A, and s its transitions; the arrays have the m subtrees of t with their classes in
+-- S, and w the number of pairs of each state
 pub record Known (A : Automaton) (t : Tree) (ts : List Tree) (S : Tree → Bool) (b s : List ℕ) (count n m : ℕ)
     (l r c q w cl : List ℕ) : Type 0 where
   pub holds : Holds A t ts s count n l r c q w m

@@ -1,4 +1,5 @@
-// The class of each subtree after a change: that of its state, but that of the tree itself is set or cleared.
+// The class of each subtree after a change. It is the class of its state, except that the class of the tree itself is
+// set or cleared.
 ghost use mathlib.Core.Bool.{Bool};
 ghost use mathlib.Core.List.{List};
 ghost use mathlib.Core.Path.{_≡_};
@@ -13,7 +14,7 @@ ghost use Rattle.alike.specs.Known.{Holds};
 use format::MAX_NODES;
 use pairs::index;
 
-// A class as its byte.
+// The byte of a class.
 fn own_class(accepting: bool) -> u8
     ensures { λ r. ⌜ eqb r 1 ≡ accepting ⌝ }
 {
@@ -48,7 +49,7 @@ fn class_of(table: &[u8], states: &[u8; MAX_NODES], root: usize, inserting: bool
     class_in(table, index(states[j - 1]))
 }
 
-// Fills in the classes of the m subtrees, if `root` is the number of the tree itself.
+// Fills in the classes of the m subtrees. `root` is the number of the tree itself.
 pub fn classify(
     table: &[u8],
     m: usize,

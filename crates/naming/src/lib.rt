@@ -1,11 +1,12 @@
-// Names of the distinct subtrees of a tree after a change of the set by that tree. Two trees have one name exactly if
-// they are equivalent then: 0 for none, q for the other trees of open state q, and n + j for subtree j, counted from 1.
+// Names of the distinct subtrees of a tree after that tree is put into the set or taken out. Two trees have the same
+// name if and only if they are equivalent for the new set. A name is 0 for a tree that is no subtree of the new set,
+// q if the subtree joins the other trees of open state q, or n + j, the own name of subtree j, counted from 1.
 mod classes; // the class of each subtree after the change
 mod models; // subtrees that a subtree can stand for
-mod parents; // what the names of parents say of a child
+mod parents; // parents of subtrees, and what their names imply
 mod seeking; // the state that a subtree can stand for
-mod slots; // where the states that a subtree is like are found
-mod states; // states held against a subtree
+mod slots; // slots that hold every state that a subtree is like
+mod states; // states that a subtree is compared with
 
 ghost use mathlib.Core.Bool.{Bool};
 ghost use mathlib.Core.List.{List};
@@ -32,7 +33,7 @@ use parents::note_parents;
 use seeking::find_state;
 use subtrees::CHILD_NUMBERS;
 
-// The name of subtree j, from those above it.
+// The name of subtree j, from the names of the subtrees with greater numbers.
 fn name_subtree(
     table: &[u8],
     transitions: &[u8],
@@ -120,7 +121,7 @@ fn name_subtree(
     (n + j) as u8
 }
 
-// Marks the subtree whose own name subtree j has, if that is another.
+// Marks subtree i if subtree j has the own name of i and is not i itself.
 fn mark_shared(n: usize, m: usize, shared: &mut [u8; MAX_NODES], j: usize, name: u8)
     requires { ⌜ n ≤ maxStates ⌝ }
     requires { ⌜ m ≤ maxNodes ⌝ }

@@ -1,4 +1,4 @@
-// The subtrees above with their own names that a subtree can stand for.
+// Subtrees with greater numbers and with their own names that a subtree can stand for.
 ghost use mathlib.Core.Bool.{Bool};
 ghost use mathlib.Core.List.{List};
 ghost use mathlib.Core.Path.{_≡_};
@@ -38,7 +38,7 @@ fn greatest(a: u8, b: u8) -> u8
     a
 }
 
-// Whether subtree v has its own name and subtree j is like it. The parents of both stand within both spans together.
+// Whether subtree v has its own name and subtree j is like it. The span that is looked at has the parents of both.
 fn fits_subtree(
     table: &[u8],
     transitions: &[u8],
@@ -99,7 +99,7 @@ fn fits_subtree(
     )
 }
 
-// The first subtree above j that has its own name and that j is like; above m if there is none.
+// The first subtree after j that has its own name and that j is like; m + 1 if there is none.
 pub fn find_subtree(
     table: &[u8],
     transitions: &[u8],

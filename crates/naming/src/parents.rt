@@ -1,5 +1,5 @@
-// Between which indices the parents of each subtree stand, and what their names say of it. A parent that is alone with
-// its own name keeps its child alone, and a parent whose name is no state keeps its child from every state.
+// The first and the last parent of each subtree, and what the names of its parents imply. A child of a parent whose
+// own name is unshared gets its own name. A child of a parent whose name is no state gets no state as its name.
 ghost use mathlib.Core.Path.{_≡_};
 ghost use Prim.Native.Nat.{_*_, _+_, _-_, _<_, _≤_};
 ghost use lib.ListN.{length};
@@ -14,7 +14,7 @@ use format::MAX_NODES;
 use format::wide;
 use subtrees::CHILD_NUMBERS;
 
-// Notes the subtree at index i as a parent of subtree j: the last so far.
+// Notes the subtree at index i as the last parent of subtree j so far.
 fn note_child(froms: &mut [u8; MAX_NODES], tos: &mut [u8; MAX_NODES], i: usize, j: usize)
     requires { ⌜ i < maxNodes ⌝ }
     requires { ⌜ 1 ≤ j ⌝ }
@@ -55,8 +55,8 @@ fn note_children(
     }
 }
 
-// Between which indices the parents of each of the m subtrees stand: that of the first, and the one after that of the
-// last; both 0 if there is none.
+// For each of the m subtrees, the index of its first parent and the index of its last parent plus 1; both 0 if it has
+// none.
 pub fn note_parents(
     m: usize,
     arities: &[u8; MAX_NODES],
@@ -100,7 +100,7 @@ fn is_child(
     false
 }
 
-// Whether subtree i is a parent of subtree j and the only one with its own name.
+// Whether subtree i is a parent of subtree j, has its own name and no other subtree has that name.
 fn anchors_child(
     n: usize,
     m: usize,
@@ -127,8 +127,8 @@ fn anchors_child(
     is_child(m, arities, children, i, j)
 }
 
-// Whether some parent of subtree j is the only one with its own name. `shared` marks the subtrees whose own names
-// others have too. The parents of j stand from index `from` on and before `to`.
+// Whether some parent of subtree j has its own name and shares it with no other subtree. `shared` marks the subtrees
+// whose own names others have too. The parents of j have indices from `from` on and below `to`.
 pub fn anchored(
     n: usize,
     m: usize,

@@ -1,4 +1,4 @@
-// The state that a subtree can stand for. If a slot takes all that there can be, most states need not be tried.
+// The state that a subtree can stand for. If every candidate must fit one slot, only the slot's arguments are tried.
 ghost use mathlib.Core.Bool.{Bool};
 ghost use mathlib.Core.List.{List};
 ghost use Prim.Native.Nat.{_≤_, ℕ};
@@ -20,8 +20,8 @@ use format::MAX_NODES;
 use format::wide;
 use subtrees::CHILD_NUMBERS;
 
-// A state, or 0, that subtree j is like; above n if there is none. If a slot takes all that there can be, only those in
-// it are tried.
+// A state, or 0, that subtree j is like; n + 1 if there is none. If every candidate must fit one slot, only the
+// slot's arguments are tried.
 fn other_state(
     table: &[u8],
     transitions: &[u8],
@@ -114,8 +114,9 @@ fn other_state(
     )
 }
 
-// A state, or 0, that subtree j is like; above n if there is none. There is none if some parent's name is no state.
-// The own state is tried first, and then 0: most subtrees stay with the one or have lost it.
+// A state, or 0, that subtree j is like; n + 1 if there is none. There is none if the name of some parent is no
+// state. The subtree's own state is tried first and then 0, because most subtrees keep their state or occur in no
+// tree any more.
 pub fn find_state(
     table: &[u8],
     transitions: &[u8],

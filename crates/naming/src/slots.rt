@@ -1,4 +1,4 @@
-// Slots that take every state that a subtree is like, and the states in a slot tried one after another.
+// Slots that hold every state that a subtree is like, and the search among the states in such a slot.
 ghost use mathlib.Core.Bool.{Bool};
 ghost use mathlib.Core.List.{List};
 ghost use Prim.Native.Nat.{_<_, _≤_, ℕ};
@@ -25,7 +25,7 @@ use packed::next_in_slot;
 use subtrees::CHILD_NUMBERS;
 use uses::use_slot;
 
-// The first state in slot z that subtree j is like; above n if there is none.
+// The first state in slot z that subtree j is like; n + 1 if there is none.
 pub fn state_in_slot(
     table: &[u8],
     transitions: &[u8],
@@ -91,8 +91,8 @@ pub fn state_in_slot(
     n + 1
 }
 
-// A slot that takes every state that subtree j is like: that of a frame whose parent has a name, else that of a use of
-// j's state that its frames do not cover; none if neither is found.
+// A slot that holds every state that subtree j is like. It is the slot of a frame whose parent has a name other than
+// 0, else a slot in which j's state is used and which the frames of j do not cover. No slot if neither is found.
 pub fn slot_of(
     transitions: &[u8],
     count: usize,

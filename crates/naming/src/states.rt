@@ -1,4 +1,4 @@
-// States held against a subtree one by one: it can stand for 0, and for those that are open.
+// States compared with a subtree one by one. A subtree can stand for 0 and for open states only.
 ghost use mathlib.Core.Bool.{Bool};
 ghost use mathlib.Core.List.{List};
 ghost use mathlib.Core.Path.{_≡_};
@@ -33,7 +33,7 @@ fn is_free(marks: &[u8; BYTE_VALUES], q: usize) -> bool
     marks[q] != 0
 }
 
-// Whether q is 0 or open and subtree j is like it.
+// Whether q is 0 or open, and subtree j is like it.
 pub fn fits_state(
     table: &[u8],
     transitions: &[u8],
@@ -95,7 +95,7 @@ pub fn fits_state(
     )
 }
 
-// The first state, 0 included, that subtree j is like; above n if there is none.
+// The first of 0 and the open states that subtree j is like; n + 1 if there is none.
 pub fn first_state(
     table: &[u8],
     transitions: &[u8],
@@ -157,7 +157,7 @@ pub fn first_state(
     q
 }
 
-// Whether the own state of subtree j is 0 or open and j is like it.
+// The same as `fits_state` for the state that subtree j has.
 pub fn fits_own_state(
     table: &[u8],
     transitions: &[u8],

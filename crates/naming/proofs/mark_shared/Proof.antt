@@ -1,4 +1,4 @@
--- `naming::mark_shared` meets its contract: a state and an own name mark nothing, any other name its subtree.
+-- `naming::mark_shared` meets its contract: a state or j's own name marks nothing, any other name marks its subtree.
 use mathlib.Core.Path.{_∙_}
 use Prim.Native.Nat.{_-_}
 use native.Mathlib.Omega.{arith}

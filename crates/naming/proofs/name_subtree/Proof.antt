@@ -1,5 +1,5 @@
--- `naming::name_subtree` meets its contract: a parent keeps the subtree apart, or what it can stand
--- for is found, or nothing is.
+-- `naming::name_subtree` meets its contract: a parent's name gives the subtree its own name, or a state or subtree
+-- that it can stand for is found, or none is.
 use mathlib.Core.Logic.{inl, inr}
 use mathlib.Core.Path.{_∙_, refl, sym}
 use native.Mathlib.Omega.{arith}

@@ -1,4 +1,4 @@
--- `naming::classes::class_in` meets its contract: no state has class 0, any other that of the table.
+-- `naming::classes::class_in` meets its contract: 0 has class 0, a state its class in the table.
 use borrow.Author.Needs.{needs}
 use borrow.Author.Tests.{eq-eqb, ne-eqb}
 use Rattle.naming.proofs.classes.class_in.Statement.{statement}

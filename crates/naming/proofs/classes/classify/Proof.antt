@@ -1,4 +1,4 @@
--- `naming::classes::classify` meets its contract: the first classes stand at their indices.
+-- `naming::classes::classify` meets its contract: in the loop the classes below index `j` are there.
 use Prim.Native.Nat.{_-_, _≤_}
 use native.Mathlib.Omega.{arith}
 use borrow.Author.Needs.{needs}

@@ -1,4 +1,4 @@
--- `naming::parents::anchored` meets its contract: the answer is that of the parents left.
+-- `naming::parents::anchored` meets its contract: at `i` the loop's result is that for the parents left.
 use mathlib.Core.Path.{_∙_, sym, _≡_}
 use Prim.Native.Nat.{_+_, _-_, _≤_}
 use native.Mathlib.Omega.{arith}

@@ -1,4 +1,4 @@
--- `naming::parents::anchors_child` meets its contract: each test that fails decides.
+-- `naming::parents::anchors_child` meets its contract: the result is false as soon as one test fails.
 use mathlib.Core.Path.{_∙_, sym}
 use Prim.Native.Nat.{_+_, _-_}
 use lib.ListN.{getD}

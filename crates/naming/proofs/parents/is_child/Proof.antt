@@ -1,4 +1,4 @@
--- `naming::parents::is_child` meets its contract: the answer is that of the places left.
+-- `naming::parents::is_child` meets its contract: at `k` the loop's result is that for the places left.
 use mathlib.Core.Path.{_≡_, _∙_, ap, refl, sym}
 use Prim.Native.Nat.{_-_, _≤_}
 use native.Mathlib.Omega.{arith}

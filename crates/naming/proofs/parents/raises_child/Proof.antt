@@ -1,4 +1,4 @@
--- `naming::parents::raises_child` meets its contract: each test that fails decides.
+-- `naming::parents::raises_child` meets its contract: the result is false as soon as one test fails.
 use Prim.Native.Nat.{_-_}
 use native.Mathlib.Omega.{arith}
 use lib.ListN.{getD}

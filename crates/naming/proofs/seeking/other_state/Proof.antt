@@ -1,4 +1,5 @@
--- `naming::seeking::other_state` meets its contract: a slot takes all that there can be, else all are tried.
+-- `naming::seeking::other_state` meets its contract: every candidate must fit the slot; without a slot all states are
+-- tried.
 use native.Mathlib.Omega.{arith}
 use borrow.Author.Needs.{needs}
 use Rattle.naming.proofs.seeking.other_state.Statement.{statement}

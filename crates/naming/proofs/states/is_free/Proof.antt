@@ -1,4 +1,4 @@
--- `naming::states::is_free` meets its contract: 0 is free, any other state by its mark.
+-- `naming::states::is_free` meets its contract: 0 is free, a state if it is marked.
 use lib.ListN.{getD}
 use borrow.Author.Needs.{needs}
 use borrow.Author.Tests.{eq-eqb, ne-eqb}
