@@ -1,4 +1,4 @@
--- Entries put into two arrays one after another: those made, and those left to make.
+-- Entries appended to two arrays: those made, and those left to make.
 use mathlib.Core.List.{List, [], _++_, _∷_, append-assoc, append-nil, map, map-append}
 use mathlib.Core.Path.{_∙_, _≡_, ap, refl, subst, sym}
 use Prim.Native.Nat.{_+_, _≤_, ℕ}
@@ -54,7 +54,7 @@ appended-then {h} {a} {h'} {a'} {h''} {a''} {n} {n'} {n''} {ps} {qs} X Y = recor
       ∙ ap (λ (l : List ℕ). take n a ++ l) (sym (map-append snd ps qs));
 }
 
--- there is as much room after it
+-- the room is the same afterwards
 pub appended-room : {h a h' a' : List ℕ} {n n' k j : ℕ} {ps : List Pair} → Appended h a n ps h' a' n' → Room h a k →
     j ≤ length h → Room h' a' j
 appended-room X R l = record {
@@ -63,7 +63,7 @@ appended-room X R l = record {
   within = omega (arith, X .heads-size);
 }
 
--- of all entries some are made and the rest are left
+-- all entries are those made and `rest`, those left
 pub record Making (h a : List ℕ) (n : ℕ) (all rest : List Pair) (h' a' : List ℕ) (n' : ℕ) : Type 0 where
   pub done : List Pair
   pub appended : Appended h a n done h' a' n'

@@ -71,7 +71,7 @@ module _ (nexts : List ℕ) (R : Rises nexts) where
   unfolding chainFrom
   chain-end x e = chain-none nexts byteValues x e
 
--- names above x do not see what stands at x
+-- the chains of names above x do not depend on the entry of x
 module _ (nexts nexts' : List ℕ) (x : ℕ) (R : Rises nexts)
     (same : (y : ℕ) → (y ≡ x → ⊥) → entry nexts' y ≡ entry nexts y) where
   chain-same : (d y : ℕ) → Above x y → chain nexts' d y ≡ chain nexts d y
@@ -110,7 +110,7 @@ module _ (n m : ℕ) (o s v : List ℕ) where
       keptAbove n m o s v q (x - 1) ≡ keptAbove n m o s v q x
   kept-not q x h l e = kept-step q x h l ∙ rw e
 
-  -- how many they are
+  -- there are at most as many as numbers above x
   pub kept-few : (q x : ℕ) → length (keptAbove n m o s v q x) ≤ n + m - x
   kept-few q x =
       omega (
@@ -140,7 +140,7 @@ module _ (n m : ℕ) (o s v : List ℕ) where
       none : (q : ℕ) → keptAbove n m o s v q (n + m) ≡ []
       none q = let e : n + m - (n + m) ≡ 0 = omega arith in rw e
 
-  -- x is not kept
+  -- one step down if x is not kept
   pub kept-skip : {x : ℕ} {f nx z : List ℕ} → 1 ≤ x → x ≤ n + m → keptName n o v x ≡ false →
       KeptAbove n m o s v x f nx z → KeptAbove n m o s v (x - 1) f nx z
   kept-skip {x} {f} {nx} {z} h l e K = record {
@@ -161,7 +161,7 @@ module _ (n m : ℕ) (o s v : List ℕ) where
           not-kept true = e
           not-kept false = refl
 
-  -- x is put before the others of its state
+  -- one step down if x is put at the head of the chain of its state
   pub kept-put : {x q : ℕ} {f nx z f' nx' z' : List ℕ} → 1 ≤ x → x ≤ n + m → x < byteValues → q < byteValues →
       keptName n o v x ≡ true → q ≡ stateOf n s x → PutFirst q x f nx z f' nx' z' →
       KeptAbove n m o s v x f nx z → KeptAbove n m o s v (x - 1) f' nx' z'

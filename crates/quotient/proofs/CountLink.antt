@@ -1,4 +1,4 @@
--- The numbers that code counts are those of kept names and of the transitions between them.
+-- What the code counts are the kept names and the transitions between them.
 use mathlib.Core.Bool.{Bool, _&&_, false, true}
 use mathlib.Core.List.{List, [], _∷_, map}
 use mathlib.Core.Logic.{inl, inr}
@@ -95,7 +95,7 @@ module _ {A : Automaton} {t : Tree} {ν : Tree → ℕ} {s : List ℕ} {count n 
           let a = ranged-transition A (H .setting .ranged) τ i .args p j in
           K .count p (omega (arith, a .1, H .setting .few)) ∙ ap length (kept-link H p a)
 
-  -- too many names
+  -- there are too many names
   pub fits-not : {x : ℕ} (b : Bool) → x ≡ length (filter (keptName n o v) (upFrom 1 (n + m))) → maxStates < x →
       false ≡ (leb (keptCount A t (bottomUp t) ν) maxStates && b)
   fits-not {x} b e h =

@@ -46,7 +46,7 @@ filter-none p zero k h = refl
 filter-none p (suc n) k h =
     rw (h k (omega arith) (omega arith)) (filter-none p n (suc k) (λ x a b. h x (omega arith) (omega arith)))
 
--- of the numbers only q can pass
+-- a filter that only q can pass
 filter-one : (p g : ℕ → Bool) (q n k : ℕ) → k ≤ q → q < k + n →
     ((x : ℕ) → k ≤ x → x < k + n → p x ≡ (eqb x q && g x)) → filter p (upFrom k n) ≡ filter g (q ∷ [])
 filter-one p g q zero k a b h = absurd (omega arith)

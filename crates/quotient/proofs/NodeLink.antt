@@ -1,4 +1,4 @@
--- The subtree that code finds for a choice of names is the one of the definition.
+-- The subtree that the code finds for a choice of names is that of the definition.
 use mathlib.Core.Bool.{Bool, _&&_, cond, false, true}
 use mathlib.Core.List.{List, map}
 use mathlib.Core.Path.{_∙_, _≡_, ap, refl, subst, sym}

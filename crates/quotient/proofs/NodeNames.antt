@@ -1,5 +1,5 @@
--- The two numbers of each subtree, and the search for the subtree that has them: what is found in the whole is found in
--- what is left.
+-- The two numbers of each subtree, and the search for the subtree that has them. In the loop the result for the rest
+-- is the result for the whole.
 use mathlib.Core.Bool.{Bool, false, true}
 use mathlib.Core.List.{List}
 use mathlib.Core.Path.{_∙_, _≡_, ap, refl, sym}

@@ -1,5 +1,5 @@
--- Transitions with no choice or one: some argument before place k has no name, or each has one and the entries are those
--- from place k on.
+-- Transitions with no choice or one. If some argument before place k has no name, there is no entry. If each has one
+-- name, the entries are those from place k on.
 use mathlib.Core.Bool.{Bool, _&&_, _||_, false, false≢true, true}
 use mathlib.Core.List.{List, [], _++_, _∷_, append-nil}
 use mathlib.Core.Logic.{_⊎_, inl, inr}

@@ -1,4 +1,4 @@
--- A transition over states that keep their names and have no others has one entry, with the arguments that it had.
+-- A transition over states that keep their names and have no others has one entry, with its old arguments.
 use mathlib.Core.Bool.{Bool, _&&_, and-false, false, false≢true, true}
 use mathlib.Core.List.{List}
 use mathlib.Core.Path.{_∙_, _≡_, ap, ap₂, refl, subst, sym}
@@ -81,7 +81,7 @@ odd-next {n} {firsts} {nexts} odd {q} O P p h e = go (eqb p q) refl
     go false t =
         O p h (ap nonzero (sym (getD-set-other odd q p 0 0 (eqb-false p q t))) ∙ e)
 
--- an argument without a mark is such a state
+-- an argument of a transition without marked arguments is not marked
 pub unmarked-arg : (s : List ℕ) (at : ℕ) (odd : List ℕ) → any (marked odd) (transitionAt s at .args) ≡ false → (k : ℕ) →
     k < arityOf s at → marked odd (argOf s at k) ≡ false
 unmarked-arg s at odd e k h = go (marked odd (argOf s at k)) refl

@@ -78,7 +78,7 @@ module _ (s : List ℕ) (at k : ℕ) (firsts nexts : List ℕ) (n m : ℕ) (meta
       walk (namesOf firsts nexts) n (finished s at metas keys v m) (argsFrom s at (k + 1)) (own && ltb n x)
       (withName prefix x)
 
-  -- those over the names from x on
+  -- the entries over the names from x on in the chain
   unfoldable pub chosenLeft : Bool → ℕ → ℕ → List Pair
   chosenLeft own prefix x = concatMap (withNext own prefix) (chainFrom nexts x)
 

@@ -1,4 +1,5 @@
--- Subtrees as nodes over own names, in two numbers each: child count with label, and the children's own names packed.
+-- Subtrees as nodes over own names, as two numbers each: the child count with the label, and the children's own names
+-- packed.
 use mathlib.Core.Bool.{Bool, _&&_, cond, not}
 use mathlib.Core.List.{List, [], _∷_, map}
 use mathlib.Core.Path.{_≡_}
@@ -34,7 +35,7 @@ keyOf n c j = digits (placeDigit n c j) 0 maxArity 0
 abbrev pub metaOf : List ℕ → List ℕ → ℕ → ℕ
 metaOf l r j = bytePairs * getD r j 0 + getD l j 0
 
--- an array has a number for each of the m subtrees
+-- ks has f j for each subtree at an index j below m
 pub record EachNode (f : ℕ → ℕ) (m : ℕ) (ks : List ℕ) : Type 0 where
   pub size : length ks ≡ maxNodes
   pub each : (j : ℕ) → j < m → getD ks j 0 ≡ f j
@@ -53,14 +54,14 @@ namedBy metas keys v a x o (j ∷ js) =
 abbrev pub childOwn : ℕ → List ℕ → List ℕ → ℕ → ℕ → Bool
 childOwn n c v j k = eqb (getD v (childAt c j k - 1) 0) (n + childAt c j k)
 
--- all its children do
+-- all its children have their own names
 abbrev pub childrenOwnAt : ℕ → List ℕ → List ℕ → List ℕ → ℕ → Bool
 childrenOwnAt n r c v j = every (childOwn n c v j) (upFrom 0 (getD r j 0))
 
--- it runs to no state, has a name, and its children have their own
+-- the subtree at index j runs to no state and has a name, and its children have their own names
 abbrev pub newAt : ℕ → List ℕ → List ℕ → List ℕ → List ℕ → ℕ → Bool
 newAt n r c s v j = eqb (getD s j 0) 0 && not (eqb (getD v j 0) 0) && childrenOwnAt n r c v j
 
--- it runs to a state, has no name, and its children have their own
+-- the subtree at index j runs to a state and has no name, and its children have their own names
 abbrev pub goneAt : ℕ → List ℕ → List ℕ → List ℕ → List ℕ → ℕ → Bool
 goneAt n r c s v j = not (eqb (getD s j 0) 0) && eqb (getD v j 0) 0 && childrenOwnAt n r c v j

@@ -14,8 +14,8 @@ use Rattle.subtrees.specs.Store.{Stored, bottomUp}
 use Rattle.trees.specs.Tree.{Tree, noTree}
 use Rattle.quotient.specs.Kept.{Chained}
 
--- the run s has the n states and the transitions of A; l, r, c and q have the labels, child counts, child numbers and
--- states of the m subtrees of t, v their names by ν; o marks the open states
+-- A has n states, and the bytes s hold its transitions; l, r, c and q have the labels, child counts, child numbers
+-- and states of the m subtrees of t, v their names by ν; o marks the open states
 pub record Changed (A : Automaton) (t : Tree) (ν : Tree → ℕ) (s : List ℕ) (count n m : ℕ) (o l r c q v : List ℕ) :
     Type 0 where
   pub setting : Setting A s count
@@ -25,13 +25,13 @@ pub record Changed (A : Automaton) (t : Tree) (ν : Tree → ℕ) (s : List ℕ)
   pub opens : Open A t o
   pub named : (j : ℕ) → j < m → getD v j 0 ≡ ν (getD (bottomUp t) j noTree)
 
--- and the kept names as chains
+-- the same, with the kept names as chains
 pub record Chosen (A : Automaton) (t : Tree) (ν : Tree → ℕ) (s : List ℕ) (count n m : ℕ) (o l r c q v : List ℕ)
     (firsts nexts : List ℕ) : Type 0 where
   pub changed : Changed A t ν s count n m o l r c q v
   pub chained : Chained n m o q v 0 firsts nexts
 
--- the transitions between names are no more than a limit
+-- there are at most `limit` transitions between names
 abbrev pub FewChosen : List ℕ → ℕ → ℕ → ℕ → List ℕ → List ℕ → List ℕ → List ℕ → List ℕ → List ℕ → List ℕ → ℕ → Type 0
 FewChosen s count n m l r c q v firsts nexts limit =
     (A : Automaton) × (t : Tree) × (ν : (Tree → ℕ)) × (o : List ℕ) ×

@@ -1,5 +1,5 @@
-// All choices of kept names for the arguments of a transition, one place after another. The names chosen so far are one
-// number to base 256, the first the highest.
+// All choices of kept names for the arguments of a transition, one place after another. The names chosen so far are
+// the digits of one number to base 256, the first the highest.
 ghost use mathlib.Core.Bool.{false, true};
 ghost use mathlib.Core.List.{List, []};
 ghost use mathlib.Core.Path.{_≡_};
@@ -17,7 +17,8 @@ use format::BYTE_VALUES;
 use format::MAX_NODES;
 use pairs::index;
 
-// The entries of all choices for the last place, which is k: one for each name.
+// Appends the entries of all choices for the last place, k: one for each name. Like all functions here it returns how
+// many entries there are then.
 fn choose_last(
     transitions: &[u8],
     at: usize,
@@ -67,7 +68,7 @@ fn choose_last(
     made
 }
 
-// The entries of all choices from place k on.
+// Appends the entries of all choices for the places from k on.
 fn choose(
     transitions: &[u8],
     at: usize,
@@ -156,8 +157,8 @@ fn choose(
     made
 }
 
-// The first kept names of the arguments as one number, whether some argument has no name, whether each name is the last
-// of its state, and whether all are own names.
+// The first kept name of each argument, packed in `prefix`. `none`: some argument has no name. `only`: no argument
+// has a second one. `own`: all these names are own names of subtrees.
 struct Firsts {
     none: bool,
     only: bool,
@@ -165,8 +166,8 @@ struct Firsts {
     prefix: u64,
 }
 
-// The first names of the transition that starts at a byte. An argument without a name leaves no choice. If there is one
-// choice, it is theirs.
+// The first names for the transition that starts at a byte. If `none`, there is no choice. If `only` and not `none`,
+// there is one choice, and `prefix` is it.
 fn first_names(
     transitions: &[u8],
     at: usize,
@@ -206,8 +207,8 @@ fn first_names(
     }
 }
 
-// The entries of all choices. Most transitions have one or none: these are made without the recursion, which would go
-// through the choices of all places before one without a name.
+// Appends the entries of all choices. Most transitions have one choice or none, and these do without the recursion.
+// If an argument has no name, the recursion would go through all choices for the places before it.
 pub fn choose_names(
     transitions: &[u8],
     at: usize,

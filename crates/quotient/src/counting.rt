@@ -106,7 +106,7 @@ fn count_gone(
     sum
 }
 
-// Whether a table has room for the kept names, and an array of so many entries for the transitions between them.
+// Whether a table has room for the kept names, and an array of `limit` entries for the transitions between them.
 pub fn table_fits(
     transitions: &[u8],
     count: usize,

@@ -1,11 +1,11 @@
-// Transitions put into two arrays, two numbers each: 256 times the child count with label, and the output; and the
-// packed arguments.
+// Transitions appended to two arrays, as two numbers each. The first has the output in its lowest 8 bits, the label
+// in the 16 above and the child count above these. The second has the packed arguments.
 ghost use mathlib.Core.List.{[], _∷_};
 ghost use Prim.Native.Nat.{_+_, _<_, _^_};
 ghost use lib.ListN.{length};
 ghost use Rattle.quotient.specs.Making.{Appended, Room, entryOf};
 
-// One entry more.
+// Appends an entry. Returns how many there are then.
 pub fn push(heads: &mut [u64], args: &mut [u64], count: usize, head: u64, key: u64) -> usize
     requires { ⌜ Room (now heads) (now args) (count + 1) ⌝ }
     ensures { λ r. ⌜ Appended (now (heads .entry)) (now (args .entry)) count ((head, key) ∷ []) (now (heads .exit)) (now
@@ -16,7 +16,7 @@ pub fn push(heads: &mut [u64], args: &mut [u64], count: usize, head: u64, key: u
     count + 1
 }
 
-// The entry of a transition, none if its output is 0.
+// Appends the entry of a transition, unless its output is 0.
 pub fn emit(
     heads: &mut [u64],
     args: &mut [u64],

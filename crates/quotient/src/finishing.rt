@@ -1,5 +1,5 @@
-// The entry of a transition over one choice of names for its arguments, which are one number to base 256, the first the
-// highest.
+// The entry of a transition for one choice of names for its arguments. The names are the digits of one number to base
+// 256, the first the highest.
 ghost use Prim.Native.Nat.{_*_, _+_, _<_, _^_, _≤_};
 ghost use lib.ListN.{length};
 ghost use Rattle.fields.specs.Fields.{Readable};
@@ -14,8 +14,8 @@ use format::MAX_NODES;
 use packed::meta_at;
 use packed::padded;
 
-// The entry of the transition that starts at a byte, over chosen names. If all are own names, the output is the name of
-// the subtree that they make, if any.
+// Appends the entry of the transition that starts at a byte for the names in `prefix`. If all of them are own names
+// and they make a subtree, the output is the name of that subtree.
 pub fn finish(
     transitions: &[u8],
     at: usize,

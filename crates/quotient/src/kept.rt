@@ -1,4 +1,4 @@
-// The names that are kept, by state: chains that rise, from the first name of each state on.
+// The names that are kept, as one chain for each state. Names rise along a chain.
 ghost use mathlib.Core.Path.{_≡_};
 ghost use Prim.Native.Nat.{_+_, _-_, _<_, _≤_};
 ghost use lib.ListN.{length};
@@ -22,7 +22,7 @@ pub fn is_kept(n: usize, opens: &[u8; BYTE_VALUES], names: &[u8; MAX_NODES], x: 
     wide(names[x - n - 1]) == x
 }
 
-// The state that the name x stems from.
+// The state of the name x: x itself, or the state of the subtree whose own name x is.
 fn state_of(n: usize, states: &[u8; MAX_NODES], x: usize) -> usize
     requires { ⌜ n ≤ maxStates ⌝ }
     requires { ⌜ x ≤ n + maxNodes ⌝ }
@@ -35,7 +35,7 @@ fn state_of(n: usize, states: &[u8; MAX_NODES], x: usize) -> usize
     index(states[x - n - 1])
 }
 
-// Puts the name x before the others of q.
+// Puts the name x at the head of the chain of q.
 fn put_first(
     firsts: &mut [u8; BYTE_VALUES],
     nexts: &mut [u8; BYTE_VALUES],
@@ -57,7 +57,7 @@ fn put_first(
     sizes[q] = sizes[q] + 1;
 }
 
-// Puts the name x before the others of its state, if it is kept.
+// Puts the name x at the head of the chain of its state, if it is kept.
 fn keep_name(
     n: usize,
     m: usize,
@@ -84,9 +84,9 @@ fn keep_name(
     put_first(firsts, nexts, sizes, q, x);
 }
 
-// The first kept name of each state and the next one of each name, 0 for none; and how many each state has. `opens`
-// marks the open states, `states` and `names` are those of the m subtrees. The three arrays are lent because an array
-// that is returned is copied.
+// Fills in the chains: `firsts` has the first kept name of each state, `nexts` the name after each name, 0 for none,
+// and `sizes` how many each state has. `opens` marks the open states; `states` and `names` are those of the m
+// subtrees. The three arrays are lent, because an array that is returned is copied.
 pub fn keep(
     n: usize,
     m: usize,

@@ -1,5 +1,5 @@
-// All transitions between names: those of the table over all choices for their arguments, then those of subtrees that
-// run to no state.
+// All transitions between names: first those from the table's transitions, then those of subtrees that run to no
+// state.
 ghost use mathlib.Core.List.{List};
 ghost use Prim.Native.Nat.{_+_, _<_, _≤_, ℕ};
 ghost use lib.ListN.{length};
@@ -26,7 +26,7 @@ use format::MAX_NODES;
 use format::TRANSITION_BYTES;
 use pairs::index;
 
-// Notes how many entries there are after transition i, if there is room for it.
+// Notes how many entries there are after transition i, if the array has a place for i.
 fn note_end(ends: &mut [u16], i: usize, made: usize)
     requires { ⌜ made ≤ maxTransitions ⌝ }
 {
@@ -35,7 +35,7 @@ fn note_end(ends: &mut [u16], i: usize, made: usize)
     }
 }
 
-// The entries of the transitions of the table over all choices of kept names for their arguments.
+// Makes the entries of all transitions of the table. Returns how many there are.
 fn choose_all(
     transitions: &[u8],
     count: usize,
@@ -85,7 +85,8 @@ fn choose_all(
     made
 }
 
-// The entry of the subtree at index j, if it runs to no state, has a name, and its children have their own.
+// Appends the entry of the subtree at index j, if it runs to no state and has a name, and its children have their own
+// names.
 fn add_new(
     n: usize,
     m: usize,
@@ -118,7 +119,7 @@ fn add_new(
     push(heads, args, count, 256 * metas[j] + name as u64, keys[j])
 }
 
-// Those of all subtrees.
+// The same for all subtrees.
 fn add_lost(
     n: usize,
     m: usize,
@@ -165,7 +166,7 @@ fn add_lost(
     made
 }
 
-// The transitions between names, and how many they are.
+// Makes the transitions between names. Returns how many there are.
 pub fn make(
     transitions: &[u8],
     count: usize,

@@ -1,4 +1,5 @@
-// Subtrees as nodes over own names, two numbers each: child count with label, and the children's own names packed.
+// Subtrees as nodes over own names, as two numbers each: the child count with the label, and the children's own names
+// packed.
 ghost use mathlib.Core.Path.{_≡_};
 ghost use Prim.Native.Nat.{_*_, _+_, _-_, _<_, _^_, _≤_, ℕ};
 ghost use lib.Dec.{eqb};
@@ -68,7 +69,7 @@ fn key_of(
     with_child(v, n, children, j, 7)
 }
 
-// The packed own names of the children of each subtree. The array is lent because an array that is returned is copied.
+// The same for each subtree. The array is lent, because an array that is returned is copied.
 pub fn pack_keys(
     n: usize,
     m: usize,
@@ -89,7 +90,7 @@ pub fn pack_keys(
     }
 }
 
-// The child count and the label of the subtree at index j, the child count higher.
+// The child count and the label of the subtree at index j as one number, the child count in the high digits.
 fn meta_of(labels: &[u16; MAX_NODES], arities: &[u8; MAX_NODES], j: usize) -> u64
     requires { ⌜ j < maxNodes ⌝ }
     requires { ⌜ getD (now labels) j 0 ≤ maxLabel ⌝ }
@@ -100,7 +101,7 @@ fn meta_of(labels: &[u16; MAX_NODES], arities: &[u8; MAX_NODES], j: usize) -> u6
     65536 * arity as u64 + label as u64
 }
 
-// Those of each subtree.
+// The same for each subtree.
 pub fn pack_metas(
     m: usize,
     labels: &[u16; MAX_NODES],
@@ -119,7 +120,7 @@ pub fn pack_metas(
     }
 }
 
-// The name of the subtree that is the node with these two numbers; `out` if there is none.
+// The name of the subtree with these two numbers; `out` if there is none.
 pub fn node_name(
     m: usize,
     metas: &[u64; MAX_NODES],
@@ -181,7 +182,8 @@ fn children_own(
     true
 }
 
-// Whether the subtree at index j runs to no state, has a name, and its children have their own.
+// Whether the subtree at index j runs to no state and has a name, and its children have their own names. It then adds
+// a transition.
 pub fn is_new(
     n: usize,
     m: usize,
@@ -207,7 +209,8 @@ pub fn is_new(
     children_own(n, m, labels, arities, children, names, j)
 }
 
-// Whether it runs to a state, has no name, and its children have their own.
+// Whether the subtree at index j runs to a state and has no name, and its children have their own names. It then
+// takes a transition away.
 pub fn is_gone(
     n: usize,
     m: usize,

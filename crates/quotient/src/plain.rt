@@ -1,5 +1,5 @@
-// Transitions over states that keep their names and have no others, as most are after a change: each has one entry, with the
-// arguments that it had.
+// Plain transitions, as most are after a change: every argument is a state that keeps its name and has no other. Such
+// a transition has one entry, with its old arguments.
 ghost use mathlib.Core.Bool.{false, true};
 ghost use mathlib.Core.Path.{_≡_};
 ghost use Prim.Native.Nat.{_+_, _≤_};
@@ -23,7 +23,7 @@ use packed::meta_at;
 use pairs::index;
 use pairs::some_marked;
 
-// Takes the mark off the state q if its only name is its own.
+// Takes the mark off the state q if its only name is q itself.
 fn unmark(
     n: usize,
     firsts: &[u8; BYTE_VALUES],
@@ -48,7 +48,7 @@ fn unmark(
     odd[q] = 0;
 }
 
-// Takes the marks off all such states. All states are marked before.
+// The same for all states. At first all are marked.
 pub fn mark_odd(
     n: usize,
     firsts: &[u8; BYTE_VALUES],
@@ -79,7 +79,8 @@ fn is_plain(transitions: &[u8], at: usize, odd: &[u8; BYTE_VALUES]) -> bool
     !some_marked(transitions, at, odd)
 }
 
-// The entries of all choices for the arguments of the transition that starts at a byte.
+// Appends the entries of all choices for the arguments of the transition that starts at a byte. The test may miss a
+// plain transition; that costs only time.
 pub fn choose_at(
     transitions: &[u8],
     at: usize,

@@ -1,5 +1,5 @@
--- `quotient::choosing::choose_names` meets its contract: an argument without a name leaves no entry, and one
--- choice has one entry, which is finished at once.
+-- `quotient::choosing::choose_names` meets its contract: if an argument has no name there is no entry, and if there
+-- is one choice there is one entry.
 use native.Mathlib.Omega.{arith}
 use mathlib.Core.Path.{sym}
 use Rattle.quotient.proofs.Appending.{appended-none, appended-same, room-same}

@@ -1,4 +1,4 @@
--- `quotient::nodes::node_name` meets its contract: what is found in the whole is found in what is left.
+-- `quotient::nodes::node_name` meets its contract: in the loop the result for the rest is the result for the whole.
 use native.Mathlib.Omega.{arith}
 use Prim.Native.Nat.{_-_}
 use Rattle.quotient.proofs.NodeNames.{NamedFrom, named-end, named-found, named-next, named-start}

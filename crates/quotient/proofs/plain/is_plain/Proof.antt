@@ -1,4 +1,4 @@
--- `quotient::plain::is_plain` meets its contract: the arguments are some, and none is marked.
+-- `quotient::plain::is_plain` meets its contract: there are arguments, and none is marked.
 use mathlib.Core.Bool.{false≢true}
 use mathlib.Core.Path.{_∙_, sym}
 use native.Mathlib.Omega.{arith}

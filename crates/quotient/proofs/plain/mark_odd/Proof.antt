@@ -1,4 +1,4 @@
--- `quotient::plain::mark_odd` meets its contract: no other state loses its mark.
+-- `quotient::plain::mark_odd` meets its contract: only states with no name but their own lose their marks.
 use Prim.Native.Nat.{_-_, _≤_}
 use mathlib.Core.Path.{_≡_, subst, sym}
 use native.Mathlib.Omega.{arith}
