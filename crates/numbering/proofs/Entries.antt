@@ -1,4 +1,4 @@
--- Transitions of two lists by index.
+-- Packed transitions by index.
 use mathlib.Core.List.{List, [], _++_, _∷_, map}
 use mathlib.Core.Bool.{Bool, _&&_, false, true}
 use mathlib.Core.Path.{_∙_, _≡_, ap, refl, sym}

@@ -119,11 +119,11 @@ pub positive : (x : ℕ) → (x ≡ 0 → ⊥) → 1 ≤ x
 positive zero h = absurd (h refl)
 positive (suc x) h = omega arith
 
--- the digit by which w is longer than v is not 0
+-- w is v with one digit more, which is not 0
 abbrev pub adds : ℕ → ℕ → Bool
 adds v w = not (eqb w (256 * v))
 
--- the first k of n arguments have their numbers as digits, and each of them has one if `whole` says so
+-- v has the numbers of the first k of n arguments as digits; if `whole`, each of them has a number
 pub record ArgsRenamed (numbers : List ℕ) (a n : ℕ) (whole : Bool) (v k : ℕ) : Type 0 where
   pub within : k ≤ n
   pub packed : v ≡ digits (numberAt numbers a) 0 k 0
@@ -148,12 +148,12 @@ renamed-next {numbers} {a} {n} {whole} {v} {k} inv l {w} e small = record {
       (omega (arith, e, eqb-false w (256 * v) (not-true (eqb w (256 * v)) (and-right whole _ both))));
 }
 
--- four tests after others, in a row or by themselves
+-- conjunctions associate
 pub in-a-row : (p q r s t : Bool) → (p && (((q && r) && s) && t)) ≡ true → ((((p && q) && r) && s) && t) ≡ true
 in-a-row true q r s t e = e
 in-a-row false q r s t e = e
 
--- all of them do
+-- the same for all n arguments
 pub renamed-end : {numbers : List ℕ} {a n : ℕ} {whole : Bool} {v k : ℕ} → ArgsRenamed numbers a n whole v k → n ≤ k →
     ArgsRenamed numbers a n whole v n
 renamed-end {numbers} {a} {n} {whole} {v} {k} inv h =
@@ -162,7 +162,7 @@ renamed-end {numbers} {a} {n} {whole} {v} {k} inv h =
 
 -- ---- the transitions of two lists
 
--- i of n transitions have their numbers, the others stay
+-- the first i of n transitions have numbers for names, the others are unchanged
 pub record RenumberedTo (numbers hs us ts vs : List ℕ) (n i : ℕ) : Type 0 where
   pub within : i ≤ n
   pub room : Room ts vs

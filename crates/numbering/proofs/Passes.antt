@@ -1,4 +1,4 @@
--- The pass over transitions that are two numbers: what reading one of them gives.
+-- The pass over packed transitions: what reading one of them gives.
 use mathlib.Core.Bool.{Bool, false, false≢true, true}
 use mathlib.Core.List.{List, [], _++_, _∷_}
 use mathlib.Core.Logic.{_≢_}
@@ -49,7 +49,7 @@ module _ (hs us : List ℕ) (i : ℕ) (m : List ℕ) (passed : Passed (packedIn 
           (all (τ .out) (omega arith) h) (λ j n. refl)
 
   module _ (size : length m ≡ byteValues) (spans : Spans m) where
-    -- a state between has not been seen
+    -- some state between has not been seen
     pub read-broken : Read hs us i m m false
     read-broken = record { size = size; kept = λ q e. e; spans = spans; passed = λ e. absurd (false≢true e) }
 
@@ -62,7 +62,7 @@ module _ (hs us : List ℕ) (i : ℕ) (m : List ℕ) (passed : Passed (packedIn 
       passed = λ _. rw (packedIn-suc hs us i) (passed-low passed τ h);
     }
 
-    -- its output has one, and all between have theirs
+    -- its output has been seen, and so have all states between
     pub read-known : top (τ .args) < τ .out → 1 ≤ getD m (τ .out) 0 → getD m (τ .out) 0 ≤ top (τ .args) + 1 →
         Read hs us i m m true
     read-known h l k = record {
@@ -77,7 +77,7 @@ module _ (hs us : List ℕ) (i : ℕ) (m : List ℕ) (passed : Passed (packedIn 
         seen : marked m (τ .out) ≡ true
         seen = nonzero-true (getD m (τ .out) 0) (λ z. absurd (omega (arith, z, l)))
 
-    -- its output gets a number: all between have theirs
+    -- its output is new, and all states between have been seen
     pub read-next : top (τ .args) < τ .out → τ .out < byteValues →
         every (marked m) (upFrom (top (τ .args) + 1) (τ .out - (top (τ .args) + 1))) ≡ true →
         Read hs us i m (set m (τ .out) (top (τ .args) + 1)) true

@@ -1,4 +1,4 @@
--- Packed arguments and their eight places, and the order of transitions that are two numbers.
+-- Packed arguments and their eight places, and the order of packed transitions.
 use mathlib.Core.Bool.{Bool, false, true}
 use mathlib.Core.List.{List, _∷_, map}
 use mathlib.Core.Path.{_∙_, _≡_, ap, ap₂, refl, sym}
@@ -18,7 +18,7 @@ use Rattle.packed.proofs.Digits.{digits-lex}
 use Rattle.packed.proofs.Heads.{digits-last}
 use Rattle.packed.proofs.Order.{higher-decides, lower-decides}
 
--- a number of 64 bits is that of its eight places
+-- a number of 64 bits is made of its eight places as digits
 pub digits-place : (a : ℕ) → a < 2 ^ 64 → digits (placeOf a) 0 maxArity 0 ≡ a
 digits-place a h = go 8 (omega arith) ∙ omega arith
   where

@@ -1,4 +1,5 @@
--- From the parts to the whole: transitions that were renumbered, sorted, looked at and written are the automaton's table.
+-- From the parts to the whole: transitions that were renumbered, sorted, checked and written are the automaton's
+-- table.
 use mathlib.Core.Bool.{Bool, cond, false, true}
 use mathlib.Core.List.{List, map}
 use mathlib.Core.Path.{_∙_, _≡_, ap, ap₂, fun-ext, refl, subst, sym}
@@ -47,7 +48,7 @@ numbered-bytes {order} {numbers} {m} numbered long few q =
       length-take-le m order (omega arith),
     )
 
--- what was taken from transitions that fit a table fits a table
+-- transitions picked from transitions that fit a table fit a table
 pub settled-holds : {numbers hs us ts vs xs ys : List ℕ} {n : ℕ} → Renumbered numbers hs us ts vs n →
     Picked ts vs n xs ys n → HoldsPacked xs ys n
 settled-holds given taken = record {
@@ -56,7 +57,7 @@ settled-holds given taken = record {
   each = λ i h. let (j, l, p, q) = taken .each i h in rw (p, q) (given .holds .each j l);
 }
 
--- ---- what the look says
+-- ---- what the check shows
 
 module _ {hs us order numbers ts vs xs ys : List ℕ} {n m : ℕ} (long : length order ≡ byteValues) (few : m ≤ maxStates)
     (numbered : Numbered order m numbers) (given : Renumbered numbers hs us ts vs n) (taken : Picked ts vs n xs ys n)

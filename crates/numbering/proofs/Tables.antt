@@ -135,7 +135,7 @@ module _ (b t : List ℕ) (n c old high low : ℕ) {u v : List ℕ} {f : ℕ →
   length₂ : length (set (set t countAt high) (countAt + 1) low) ≡ tableBytes
   length₂ = length-set (set t countAt high) (countAt + 1) low ∙ length-set t countAt high ∙ length₁
 
-  -- a byte of the head is not written again
+  -- a byte of the head is not overwritten
   kept : (i : ℕ) → i < headBytes → getD v i 0 ≡ getD (set (set t countAt high) (countAt + 1) low) i 0
   kept i h = cleared .below i (omega arith) ∙ put .head i h
 

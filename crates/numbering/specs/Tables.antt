@@ -7,21 +7,21 @@ use Rattle.format.specs.Format.{countAt, headBytes, maxArity, maxStates, tableB
 use Rattle.table.specs.Layout.{argOf, arityOf, labelOf, outOf}
 use Rattle.packed.specs.Heads.{headArity, headLabel, headOut, placeOf}
 
--- the bytes from one on are those of the transition of two numbers
+-- the bytes from `at` on are those of the transition packed in h and a
 pub record EntryAt (t : List ℕ) (at h a : ℕ) : Type 0 where
   pub label : labelOf t at ≡ headLabel h
   pub arity : arityOf t at ≡ headArity h
   pub arg : (k : ℕ) → k < maxArity → argOf t at k ≡ placeOf a k
   pub out : outOf t at ≡ headOut h
 
--- t is b with the first n transitions of two lists from a byte on
+-- t is b with n transitions, packed in hs and us, from byte `start` on
 pub record RunPut (b t hs us : List ℕ) (start n : ℕ) : Type 0 where
   pub size : length t ≡ length b
   pub head : (i : ℕ) → i < start → getD t i 0 ≡ getD b i 0
   pub each : (i : ℕ) → i < n → EntryAt t (start + transitionBytes * i) (getD hs i 0) (getD us i 0)
   pub beyond : (i : ℕ) → start + transitionBytes * n ≤ i → getD t i 0 ≡ getD b i 0
 
--- t is b with zeros from a byte up to another, if that comes later
+-- t is b with zeros from byte `start` up to byte `end`
 pub record ZerosBetween (b t : List ℕ) (start end : ℕ) : Type 0 where
   pub size : length t ≡ length b
   pub below : (i : ℕ) → i < start → getD t i 0 ≡ getD b i 0

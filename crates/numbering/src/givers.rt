@@ -1,5 +1,6 @@
-// The few transitions that are placed first: those made from the transitions that gave the states their numbers in the old
-// table, and all whose outputs have none such. Mostly these number every output. Nothing is said of them.
+// The few transitions that are placed first. The giver of a state is the transition that gave it its number in the
+// old table. Placed are the transitions made from givers, and all whose outputs have none of these. Mostly they
+// number every output. Nothing is proved of the choice.
 ghost use mathlib.Core.Path.{_≡_};
 ghost use Prim.Native.Nat.{_*_, _+_, _<_, _≤_};
 ghost use lib.ListN.{length};
@@ -33,7 +34,7 @@ fn top_argument(transitions: &[u8], at: usize) -> usize
     top
 }
 
-// Notes transition i, counted from 1, if it is the first into its output with all arguments below it.
+// Notes transition i as the giver of its output, if it is the first into it with all arguments below the output.
 fn note_giver(transitions: &[u8], i: usize, givers: &mut [u16; BYTE_VALUES])
     requires { ⌜ transitionBytes * i + transitionBytes ≤ length (now transitions) ⌝ }
     requires { ⌜ i < 65535 ⌝ }
@@ -53,8 +54,8 @@ fn forget(givers: &mut [u16; BYTE_VALUES], q: u8) {
     givers[wide(q)] = 0;
 }
 
-// Forgets the givers of the states that are now names of subtrees of other states: what led to those states leads here, and
-// may come first.
+// Forgets the giver of each state that is now the name of a subtree of another state. Such a subtree merged into this
+// state, and its transition may come first.
 fn forget_givers(
     m: usize,
     states: &[u8; MAX_NODES],
@@ -72,8 +73,8 @@ fn forget_givers(
     }
 }
 
-// For each state the first transition into it whose arguments are all below it, counted from 1; 0 if there is none, or if
-// others may come before it. The m subtrees had these states and have these names.
+// For each state the number, from 1, of the first transition into it whose arguments are all below it; 0 if there is
+// none or if another may come before it now. `states` has the states of the m subtrees, `names` their names.
 pub fn givers_of(
     transitions: &[u8],
     count: usize,
@@ -94,7 +95,7 @@ pub fn givers_of(
     givers
 }
 
-// How many entries had been made after old transition g, counted from 1, and no more than a limit.
+// How many entries had been made after transition g of the old table, counted from 1; at most `limit`.
 pub fn end_of(ends: &[u16], g: usize, limit: usize) -> usize
     ensures { λ r. ⌜ r ≤ limit ⌝ }
 {
@@ -111,7 +112,7 @@ pub fn end_of(ends: &[u16], g: usize, limit: usize) -> usize
     end
 }
 
-// How many had been made before it.
+// How many entries had been made before it.
 fn start_of(ends: &[u16], g: usize, limit: usize) -> usize
     ensures { λ r. ⌜ r ≤ limit ⌝ }
 {
@@ -121,7 +122,7 @@ fn start_of(ends: &[u16], g: usize, limit: usize) -> usize
     end_of(ends, g - 1, limit)
 }
 
-// Places the entries from `start` to `end` into name q, but for leaves. Returns how many outputs are new.
+// Places the entries from `start` to `end` whose output is q, except leaves. Returns how many outputs are new.
 fn place_given(
     heads: &[u64],
     args: &[u64],
@@ -172,13 +173,14 @@ fn place_given(
     new
 }
 
-// Whether an entry is placed whatever it was made from: it is a leaf, or its output is new or has no giver.
+// Whether an entry is placed whatever it was made from: it is a leaf, its output is a subtree's own name, or no entry
+// into its output was made from a giver.
 fn stands_alone(head: u64, n: usize, given: &[u8; BYTE_VALUES]) -> bool {
     (arity_of(head) == 0) | (out_of(head) > n) | (given[out_of(head)] == 0)
 }
 
-// Places the entries that stand alone, and those of subtrees, which come after the first `old`. Returns how many outputs are
-// new. None of these is placed among those of a giver: an entry in two lists would close a circle.
+// Places the entries that stand alone, and those of subtrees, which come after the first `old`. Returns how many
+// outputs are new. No entry that `place_given` placed is placed again: linking an entry twice makes the list cyclic.
 fn place_others(
     heads: &[u64],
     args: &[u64],
@@ -224,7 +226,7 @@ fn place_others(
     new
 }
 
-// Places few transitions. Returns how many outputs are new.
+// Places the few transitions. Returns how many outputs are new.
 fn place_few(
     heads: &[u64],
     args: &[u64],
@@ -288,7 +290,7 @@ fn place_few(
     )
 }
 
-// Places few transitions, or all.
+// Places the few transitions if `few`, else all.
 pub fn place_first(
     heads: &[u64],
     args: &[u64],

@@ -1,14 +1,15 @@
-// Transitions over names turned into a table: an order of the names is guessed, the transitions get its numbers and are
-// sorted, and the result is looked at once. If it is right by the rule, it is the only one that is.
-mod reading; // the parts of a transition that is two numbers
+// Transitions over names turned into a table. An order of the names is guessed, the transitions get its numbers and
+// are sorted, and then the result is checked. Only one result is right by the rule, so if this one is, it is that
+// one.
+mod reading; // the parts of a packed transition
 mod renumbering; // names replaced by their numbers
 mod sorting; // sorting by merging runs
 mod looking; // whether the result is right
 mod writing; // the new table
 mod heap; // a heap of transitions
-mod placing; // transitions to their outputs, or to wait
+mod placing; // transitions offered to their outputs, or set waiting
 mod givers; // few transitions to place first
-mod leaves; // leaves, numbered at once
+mod leaves; // leaves, numbered without the heap
 mod order; // an order of the names, guessed
 
 ghost use mathlib.Core.Bool.{cond, true};
@@ -33,7 +34,8 @@ use format::BYTE_VALUES;
 use format::MAX_STATES;
 use minimize::renaming::no_names;
 
-// Gives the transitions the numbers of an order and sorts them. Returns whether they are right by the rule.
+// Gives the names in the transitions their numbers by an order, and sorts. Returns whether the result is right by the
+// rule.
 fn settle(
     heads: &mut [u64],
     args: &mut [u64],
@@ -62,10 +64,10 @@ fn settle(
     sound(heads, args, count, states)
 }
 
-// Writes the table of the automaton that the transitions and the classes of their names give. Returns whether it did: if the
-// order that was guessed is wrong, the table stays as it is. The lists and the room have other numbers afterwards. The old
-// table has n states and so many transitions, `ends` says how many entries had been made after each of them, and `few`
-// whether an order is sought from few entries first.
+// Writes the table of the automaton that the transitions and the classes of their names give. Returns whether it did:
+// if the guessed order is wrong, the table stays as it is. The lists and the room are overwritten. The old table has
+// n states and `old` transitions. `ends` says how many entries had been made after each of these, and `few` whether
+// the guess is made from few entries first.
 pub fn rebuild(
     heads: &mut [u64],
     args: &mut [u64],

@@ -1,4 +1,4 @@
-// Whether transitions rise and number their outputs by the rule, seen in two passes.
+// Whether transitions rise and number their outputs by the rule, in two passes.
 ghost use mathlib.Core.Bool.{true};
 ghost use mathlib.Core.Path.{_≡_};
 ghost use Prim.Native.Nat.{_+_, _<_, _≤_, ℕ};
@@ -43,7 +43,7 @@ fn rises(heads: &[u64], args: &[u64], count: usize) -> bool
     true
 }
 
-// The greatest of the first arguments.
+// The greatest of the first `arity` arguments; 0 for none.
 fn top_place(args: u64, arity: usize) -> usize
     requires { ⌜ arity ≤ maxArity ⌝ }
     ensures { λ r. ⌜ r ≡ top (map (placeOf args) (upFrom 0 arity)) ⌝ }
@@ -58,8 +58,9 @@ fn top_place(args: u64, arity: usize) -> usize
     t
 }
 
-// Reads transition i: whether every state strictly between its arguments and its output has been seen. Then the
-// output is seen, and its mark says so of them all. A mark that says more is kept.
+// Reads transition i. Returns whether every state strictly between its greatest argument and its output has been
+// seen. If so, an output above its arguments is seen too, and its mark is the state after the greatest argument: all
+// states from the mark up to the output have been seen. A lower mark is kept.
 fn read(heads: &[u64], args: &[u64], i: usize, count: usize, seen: &mut [u8; BYTE_VALUES]) -> bool
     requires { ⌜ HoldsPacked (now heads) (now args) count ⌝ }
     requires { ⌜ i < count ⌝ }
@@ -84,7 +85,7 @@ fn read(heads: &[u64], args: &[u64], i: usize, count: usize, seen: &mut [u8; BYT
     true
 }
 
-// How far all states have been seen, from a state up to which they have.
+// The greatest state up to which all have been seen; all up to `low` have.
 fn seen_up_to(seen: &[u8; BYTE_VALUES], low: usize, states: usize) -> usize
     requires { ⌜ low ≤ states ⌝ }
     requires { ⌜ states ≤ maxStates ⌝ }
@@ -102,8 +103,8 @@ fn seen_up_to(seen: &[u8; BYTE_VALUES], low: usize, states: usize) -> usize
     q
 }
 
-// Whether the transitions give each of the numbers by the rule. One whose output is below a state up to which all have been
-// seen says nothing new.
+// Whether the transitions give each of the numbers by the rule. A transition is skipped if all states up to its
+// output have been seen.
 fn ruled(heads: &[u64], args: &[u64], count: usize, states: usize) -> bool
     requires { ⌜ HoldsPacked (now heads) (now args) count ⌝ }
     requires { ⌜ states ≤ maxStates ⌝ }
@@ -126,7 +127,7 @@ fn ruled(heads: &[u64], args: &[u64], count: usize, states: usize) -> bool
     low == states
 }
 
-// The look at the result.
+// Whether the transitions rise and are numbered by the rule.
 pub fn sound(heads: &[u64], args: &[u64], count: usize, states: usize) -> bool
     requires { ⌜ HoldsPacked (now heads) (now args) count ⌝ }
     requires { ⌜ states ≤ maxStates ⌝ }

@@ -1,5 +1,5 @@
-// Transitions placed on the way to an order: each goes to its output if its arguments have numbers, and else waits in the list
-// of an argument that has none. Nothing is said of which does what.
+// Transitions placed on the way to an order. If all arguments have numbers, a transition is offered to its output;
+// else it waits in the list of an argument that has none. Nothing is proved of the choice.
 ghost use mathlib.Core.Path.{_≡_};
 ghost use Prim.Native.Nat.{_<_, _≤_};
 ghost use lib.ListN.{length};
@@ -13,7 +13,7 @@ use format::BYTE_VALUES;
 use format::MAX_ARITY;
 use format::widened;
 
-// The greater of two names, if the second has no number; else the first.
+// q if it is greater than `most` and has no number; else `most`.
 fn later(most: usize, q: usize, numbers: &[u8; BYTE_VALUES]) -> usize
     requires { ⌜ most < byteValues ⌝ }
     requires { ⌜ q < byteValues ⌝ }
@@ -46,7 +46,7 @@ fn waits_on(args: u64, numbers: &[u8; BYTE_VALUES]) -> usize
     most
 }
 
-// Whether transition i comes before the best one so far. Transitions are counted from 1 there, and 0 is none.
+// Whether transition i comes before the best one so far. `best` counts from 1; 0 is none.
 fn improves(heads: &[u64], args: &[u64], i: usize, numbers: &[u8; BYTE_VALUES], best: usize) -> bool
     requires { ⌜ i < length (now heads) ⌝ }
     requires { ⌜ Room (now heads) (now args) ⌝ }
@@ -70,8 +70,8 @@ fn improves(heads: &[u64], args: &[u64], i: usize, numbers: &[u8; BYTE_VALUES], 
     )
 }
 
-// Takes transition i, whose arguments have numbers, as the best one into its output o if it is. The first one into o makes o
-// new. Returns how many outputs are new.
+// Makes transition i, whose arguments have numbers, the best one into its output o if it comes before the best so
+// far. If o was not yet new, it is now. Returns how many outputs are new.
 fn offer(
     heads: &[u64],
     args: &[u64],
@@ -104,8 +104,8 @@ fn offer(
     new + 1
 }
 
-// Offers transition i to its output, or puts it in the list of an argument without a number. One into a name that has a
-// number is dropped. Returns how many outputs are new.
+// Offers transition i to its output, or puts it in the list of an argument without a number. It is dropped if its
+// output has a number. Returns how many outputs are new.
 pub fn place(
     heads: &[u64],
     args: &[u64],

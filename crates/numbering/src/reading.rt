@@ -1,4 +1,4 @@
-// The parts of a transition that is two numbers.
+// The parts of a packed transition: its head, which has child count, label and output, and its arguments.
 ghost use mathlib.Core.Path.{_≡_};
 ghost use Prim.Native.Nat.{_<_};
 ghost use lib.ListN.{getD, length};
@@ -9,7 +9,7 @@ ghost use Rattle.packed.specs.Heads.{headArity, headLabel, headMeta, headOut, p
 use format::BYTE_VALUES;
 use packed::comes_before;
 
-// Entry i of one of the two lists.
+// Entry i of a list of heads or arguments.
 pub fn word_at(list: &[u64], i: usize) -> u64
     requires { ⌜ i < length (now list) ⌝ }
     ensures { λ r. ⌜ r ≡ getD (now (list .entry)) i 0 ⌝ }

@@ -1,4 +1,4 @@
-// Names replaced by their numbers. The numbers come from an order that is only a guess, so that a name may have none.
+// Names replaced by their numbers. The order is a guess, so a name may have no number.
 ghost use mathlib.Core.Bool.{true};
 ghost use mathlib.Core.Path.{_≡_};
 ghost use Prim.Native.Nat.{_*_, _+_, _<_, _^_, _≤_, ℕ};
@@ -18,7 +18,7 @@ use format::MAX_ARITY;
 use format::wide;
 use packed::padded;
 
-// Gives the first names of an order their numbers. Returns whether no name is 0 or there twice.
+// Gives the first `states` names of an order their numbers. Returns whether each name is not 0 and occurs once.
 pub fn number_names(
     order: &[u8; BYTE_VALUES],
     states: usize,
@@ -111,8 +111,8 @@ fn rename_all(args: u64, numbers: &[u8; BYTE_VALUES]) -> Renamed
     }
 }
 
-// The first arguments with their numbers. Neighbours mostly have the same number of arguments, so the end of the loop
-// is foreseen.
+// The first `arity` arguments with their numbers. Neighbouring transitions mostly have the same number of arguments,
+// so the processor predicts the end of the loop.
 fn rename_args(args: u64, arity: usize, numbers: &[u8; BYTE_VALUES]) -> Renamed
     requires { ⌜ arity ≤ maxArity ⌝ }
     ensures { λ r. ⌜ (r .whole ≡ true → (k : ℕ) → k < arity → 1 ≤ numberAt (now (numbers .entry)) args k) ⌝ }
@@ -137,7 +137,8 @@ fn rename_args(args: u64, arity: usize, numbers: &[u8; BYTE_VALUES]) -> Renamed
     }
 }
 
-// Gives the states of the first transitions their numbers. Stops if one has none.
+// Replaces the names in the first `count` transitions by their numbers. Returns false at the first name that has
+// none.
 pub fn renumber(
     heads: &mut [u64],
     args: &mut [u64],

@@ -41,7 +41,7 @@ fn entry_of(head: u64, args: u64) -> [u8; TRANSITION_BYTES]
     entry
 }
 
-// Writes the transitions from a byte on.
+// Writes the first `count` transitions from byte `start` on.
 pub fn write_run(to: &mut [u8], start: usize, heads: &[u64], args: &[u64], count: usize)
     requires { ⌜ start ≤ headBytes ⌝ }
     requires { ⌜ start + transitionBytes * count ≤ length (now to) ⌝ }
@@ -56,7 +56,7 @@ pub fn write_run(to: &mut [u8], start: usize, heads: &[u64], args: &[u64], count
     }
 }
 
-// Zeros from a byte of the table up to another.
+// Writes zeros from byte `start` up to byte `end`.
 fn clear_between(table: &mut [u8], start: usize, end: usize)
     requires { ⌜ length (now table) ≡ tableBytes ⌝ }
     requires { ⌜ end ≤ tableBytes ⌝ }
@@ -69,7 +69,7 @@ fn clear_between(table: &mut [u8], start: usize, end: usize)
     }
 }
 
-// Writes a table over one of so many transitions, whose bytes after them are 0 already.
+// Writes a table over one with `old` transitions, whose bytes after these are 0 already.
 pub fn write_table(
     table: &mut [u8],
     classes: &[u8],

@@ -1,4 +1,4 @@
--- `numbering::settle` meets its contract: what the look says of numbers and order makes them right by the rule.
+-- `numbering::settle` meets its contract: transitions that pass the check are right by the rule.
 use mathlib.Core.Bool.{false≢true}
 use borrow.Author.Tests.{not-false}
 use Rattle.numbering.proofs.Rebuilt.{numbered-bytes, settled, settled-holds}

@@ -1,4 +1,4 @@
--- `numbering::givers::givers_of` meets its contract: each index is in the run.
+-- `numbering::givers::givers_of` meets its contract: each index is that of a transition.
 use Prim.Native.Nat.{_-_, _≤_}
 use native.Mathlib.Omega.{arith}
 use borrow.Author.Needs.{needs}

@@ -1,4 +1,4 @@
--- `numbering::looking::read` meets its contract: each return is a law of the pass.
+-- `numbering::looking::read` meets its contract: each return is a lemma about the pass.
 use native.Mathlib.Omega.{arith}
 use mathlib.Core.List.{map}
 use mathlib.Core.Path.{_∙_, ap, sym}

@@ -1,4 +1,5 @@
--- `numbering::looking::ruled` meets its contract: the pass has read the transitions before i, and all states up to low have been seen.
+-- `numbering::looking::ruled` meets its contract: in the loop the transitions before i have been read, and all states
+-- up to `low` have been seen.
 use mathlib.Core.Bool.{false≢true}
 use borrow.Author.Tests.{eqb-true, not-false}
 use native.Mathlib.Omega.{arith}

@@ -1,4 +1,4 @@
--- `numbering::looking::sound` meets its contract: it asks both passes.
+-- `numbering::looking::sound` meets its contract: both passes must succeed.
 use mathlib.Core.Bool.{false≢true}
 use borrow.Author.Tests.{not-false}
 use borrow.Author.Needs.{needs}

@@ -1,4 +1,5 @@
--- `numbering::looking::top_place` meets its contract: the greatest is that of the ones read and the ones left.
+-- `numbering::looking::top_place` meets its contract: the greatest of those read and of those left is the greatest of
+-- all.
 use mathlib.Core.List.{map}
 use native.Mathlib.Omega.{arith}
 use Prim.Native.Nat.{_-_}

@@ -1,4 +1,4 @@
--- `numbering::order::guess` meets its contract: what is lent keeps its lengths.
+-- `numbering::order::guess` meets its contract: the lent lists keep their lengths.
 use native.Mathlib.Omega.{arith}
 use borrow.Author.Needs.{needs}
 use Rattle.numbering.proofs.order.guess.Statement.{statement}

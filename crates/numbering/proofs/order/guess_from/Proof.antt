@@ -1,4 +1,4 @@
--- `numbering::order::guess_from` meets its contract: leaves and what is placed first leave all lengths.
+-- `numbering::order::guess_from` meets its contract: numbering leaves and placing keep all lengths.
 use native.Mathlib.Omega.{arith}
 use borrow.Author.Needs.{needs}
 use Rattle.numbering.proofs.order.guess_from.Statement.{statement}

@@ -1,4 +1,4 @@
--- `numbering::order::waits_on` meets its contract: a name is a byte.
+-- `numbering::placing::waits_on` meets its contract: a name is a byte.
 use Prim.Native.Nat.{_-_, _<_, _≤_}
 use borrow.Author.Needs.{needs}
 use Rattle.numbering.proofs.placing.waits_on.Statement.{statement}

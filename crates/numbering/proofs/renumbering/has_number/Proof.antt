@@ -1,4 +1,4 @@
--- `numbering::renumbering::has_number` meets its contract: a number that is not 0 is there.
+-- `numbering::renumbering::has_number` meets its contract: a name has a number if its entry is not 0.
 use mathlib.Core.Path.{subst}
 use Prim.Native.Nat.{_≤_}
 use borrow.Author.Tests.{eqb-false, not-true}

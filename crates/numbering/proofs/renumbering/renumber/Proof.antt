@@ -1,4 +1,5 @@
--- `numbering::renumbering::renumber` meets its contract: the first i transitions have their numbers, the others stay.
+-- `numbering::renumbering::renumber` meets its contract: in the loop the first i transitions have numbers for names,
+-- the others are unchanged.
 use native.Mathlib.Omega.{arith}
 use mathlib.Core.Bool.{false≢true}
 use borrow.Author.Tests.{not-false}

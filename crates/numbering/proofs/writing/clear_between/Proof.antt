@@ -1,4 +1,4 @@
--- `numbering::writing::clear_between` meets its contract: zeros up to byte i.
+-- `numbering::writing::clear_between` meets its contract: in the loop there are zeros up to byte i.
 use native.Mathlib.Omega.{arith}
 use Prim.Native.Nat.{_+_, _-_, _≤_}
 use Rattle.numbering.proofs.Tables.{ZerosTo, zeros-end, zeros-next, zeros-start}

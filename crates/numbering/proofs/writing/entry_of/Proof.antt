@@ -1,4 +1,4 @@
--- `numbering::writing::entry_of` meets its contract: k arguments are put.
+-- `numbering::writing::entry_of` meets its contract: in the loop the first k arguments are there.
 use native.Mathlib.Omega.{arith}
 use Prim.Native.Nat.{_-_}
 use Rattle.numbering.proofs.Tables.{EntryTo, entry-end, entry-next}
