@@ -1,4 +1,4 @@
--- Marks that go from arguments to outputs, and that they are the open states in the end.
+-- Marks that spread from arguments to outputs; in the end they are the open states.
 use mathlib.Core.Bool.{Bool, _&&_, _||_, false, not, true}
 use mathlib.Core.List.{List, [], _∷_, map}
 use mathlib.Core.Path.{_∙_, _≡_, ap, refl, subst, sym}
@@ -55,7 +55,7 @@ spread-some s at m size h e f =
 
 -- ---- all of them
 
--- the right side counts only if the left one is false
+-- in a disjunction the right side matters only if the left one is false
 or-same : (a : Bool) {b b' : Bool} → (a ≡ false → b ≡ b') → (a || b) ≡ (a || b')
 or-same true f = refl
 or-same false f = f refl

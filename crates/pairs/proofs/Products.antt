@@ -1,4 +1,5 @@
--- The product over the arguments of a transition, one argument after another: what is there times what is left.
+-- The product over the arguments of a transition, one argument after another: the product so far and the product of
+-- the rest.
 use mathlib.Core.List.{List, map}
 use mathlib.Core.Path.{_∙_, _≡_, ap, sym}
 use Prim.Native.Nat.{_*_, _+_, _-_, _<_, _≤_, min, ℕ}

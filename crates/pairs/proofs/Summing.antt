@@ -1,4 +1,4 @@
--- Sums over the transitions of a run, one transition after another: what is there and what is left.
+-- Sums over transitions, one transition after another: the sum so far and the sum of the rest.
 use mathlib.Core.Bool.{Bool, false, true}
 use mathlib.Core.List.{List, [], _∷_, map}
 use mathlib.Core.Path.{_∙_, _≡_, ap, refl, sym}
@@ -88,7 +88,7 @@ module _ {w : ℕ → ℕ} {s : List ℕ} {n : ℕ} where
         omega (arith, inv .left q l p, ap (λ (τs : List Transition). sumInto w q τs) (left-none s n i h));
   }
 
--- the byte at o gets a product more, which stopped at its cap
+-- a product, cut at its cap, is added to the byte at o
 pub raised-put : (w : ℕ → ℕ) (out p : ℕ) {m : List ℕ} {o x more : ℕ} → length m ≡ byteValues → o < byteValues →
     o ≡ out → x ≡ min sumCap (entry m o + more) → more ≡ min productCap p → Raised w out p m (set m o x)
 raised-put w out p {m} {o} {x} {more} size h e f g = record {
@@ -104,7 +104,7 @@ raised-put w out p {m} {o} {x} {more} size h e f g = record {
 
 -- ---- over all transitions
 
--- sum is that over the transitions before number i, with more
+-- `sum` is `more` and the sum over the transitions before number i
 pub record SumFrom (w : ℕ → ℕ) (s : List ℕ) (n more limit sum i : ℕ) : Type 0 where
   pub within : i ≤ n
   pub small : sum ≤ limit

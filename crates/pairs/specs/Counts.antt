@@ -1,5 +1,5 @@
--- What the code counts: subtrees by state, products over arguments and sums over transitions up to a limit, and marks
--- that go from arguments to outputs.
+-- What the code counts: subtrees by state, products over arguments and sums over transitions, both up to a cap. And
+-- marks that spread from arguments to outputs.
 use mathlib.Core.Bool.{Bool, _||_, not, true}
 use mathlib.Core.List.{List}
 use mathlib.Core.Path.{_≡_}
@@ -30,7 +30,7 @@ entry m q = getD m q 0
 abbrev pub zeros : List ℕ
 zeros = replicate byteValues 0
 
--- an entry for each value of a byte, those of f
+-- m has f q for each value q of a byte
 pub record Numbers (f : ℕ → ℕ) (m : List ℕ) : Type 0 where
   pub size : length m ≡ byteValues
   pub each : (q : ℕ) → q < byteValues → entry m q ≡ f q
@@ -40,22 +40,22 @@ abbrev pub entriesWith : List ℕ → ℕ → ℕ → ℕ
 entriesWith s zero q = 0
 entriesWith s (suc j) q = bit (eqb (entry s j) q) + entriesWith s j q
 
--- r has for each value of a byte how many of the first j entries it is
+-- for each value q of a byte, r has how many of the first j entries are q
 pub record Counted (s : List ℕ) (j : ℕ) (r : List ℕ) : Type 0 where
   pub size : length r ≡ byteValues
   pub each : (q : ℕ) → q < byteValues → entry r q ≡ entriesWith s j q
 
--- a number and one more if there is a mark
+-- the entry of q, and one more if q is marked
 abbrev pub weightOf : List ℕ → List ℕ → ℕ → ℕ
 weightOf c m q = entry c q + bit (marked m q)
 
 -- ---- sums and products
 
--- a product counts up to one more than a product of automata may have
+-- products are cut at one more than condition 16 allows
 abbrev pub productCap : ℕ
 productCap = maxProduct + 1
 
--- a sum counts up to what a byte holds
+-- sums are cut at the greatest byte
 abbrev pub sumCap : ℕ
 sumCap = 255
 
@@ -63,7 +63,7 @@ sumCap = 255
 abbrev pub productAt : List ℕ → List ℕ → ℕ → ℕ
 productAt m s at = productOver (entry m) (transitionAt s at .args)
 
--- m' has x more at o than m, up to the cap, unless the number of o is 0, and is m elsewhere
+-- if the number of o is not 0, m' has x more at o than m, up to the cap; everywhere else m' is m
 pub record Raised (w : ℕ → ℕ) (o x : ℕ) (m m' : List ℕ) : Type 0 where
   pub size : length m' ≡ length m
   pub here : 0 < w o → entry m' o ≡ min sumCap (entry m o + x)
@@ -92,7 +92,7 @@ SomeUp s at p = any p (transitionAt s at .args) ≡ true → p (outOf s at) ≡ 
 abbrev pub nthSomeUp : List ℕ → ℕ → Rule
 nthSomeUp s i = SomeUp s (transitionBytes * i)
 
--- the run has the transitions of an automaton that passed conditions 7 to 9
+-- the bytes s hold the transitions of an automaton that passed conditions 7 to 9
 pub record Setting (A : Automaton) (s : List ℕ) (n : ℕ) : Type 0 where
   pub transitions : A .transitions ≡ transitionsIn s n
   pub few : states A ≤ maxStates
@@ -109,8 +109,8 @@ pub record Subtrees (A : Automaton) (t : Tree) (c : List ℕ) : Type 0 where
 pub record Open (A : Automaton) (t : Tree) (m : List ℕ) : Type 0 where
   pub each : (q : ℕ) → IsState A q → marked m q ≡ openState A t q
 
--- the product has no more transitions than it may have if f says so; o marks the open states, w has the number of pairs
--- of each state
+-- f says whether the product has at most as many transitions as condition 16 allows; o marks the open states, and w
+-- has the number of pairs of each state
 pub record PairsCounted (A : Automaton) (t : Tree) (f : Bool) (o w : List ℕ) : Type 0 where
   pub fits : f ≡ leb (productTransitions A t) maxProduct
   pub opens : Open A t o

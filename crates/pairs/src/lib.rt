@@ -1,5 +1,5 @@
-// Refusal 16 by counting: how many transitions the product of a table's automaton and a tree has, before any of them is
-// made. A state has a pair for each subtree that runs to it, and one more if it is open.
+// Refusal 16 by counting: how many transitions the product of a table's automaton and a tree has, before any of them
+// is made. A state is in one pair for each subtree that runs to it, and in one more if it is open.
 mod opening; // which states are open
 mod sums; // products over arguments and their sums
 
@@ -37,7 +37,7 @@ fn count_states(m: usize, states: &[u8; MAX_NODES], counts: &mut [u8; BYTE_VALUE
     }
 }
 
-// A number, and one more if there is a mark.
+// The number of pairs of a state with `count` subtrees: one more if it is marked as open.
 fn weight(count: u8, mark: u8) -> u8
     requires { ⌜ count ≤ maxNodes ⌝ }
     ensures { λ r. ⌜ r ≡ count + bit (nonzero mark) ⌝ }
@@ -61,9 +61,9 @@ fn weigh(counts: &[u8; BYTE_VALUES], marks: &[u8; BYTE_VALUES], weights: &mut [u
     }
 }
 
-// Counts the pairs of an automaton and a tree, and returns whether the product has no more transitions than it may have.
-// `states` has the states of the m subtrees. `opens` gets marks for the open states, `weights` the number of pairs of
-// each state. Both are lent, because an array that is returned is copied.
+// Counts the pairs of an automaton and a tree. Returns whether the product has at most 3,072 transitions. `states`
+// has the states of the m subtrees. `opens` gets marks for the open states, `weights` the number of pairs of each
+// state. Both are lent, because an array that is returned is copied.
 pub fn count_pairs(
     transitions: &[u8],
     count: usize,

@@ -1,5 +1,5 @@
-// Open states: those that some tree runs to which is no subtree. A state is open at once if it has no subtree, or if
-// nodes over subtrees that run to it are more than its subtrees. An open argument opens the output.
+// Open states: a state is open if some tree that is no subtree runs to it. It is open at once if no subtree runs to
+// it, or if more nodes over subtrees run to it than it has subtrees. If an argument is open, so is the output.
 ghost use mathlib.Core.Bool.{_||_, not};
 ghost use mathlib.Core.Path.{_≡_};
 ghost use lib.Dec.{eqb};
@@ -20,7 +20,7 @@ use fields::out_of;
 use format::BYTE_VALUES;
 use format::TRANSITION_BYTES;
 
-// The mark of a state with so many subtrees and so many nodes over subtrees.
+// The mark of a state to which `count` subtrees and `sum` nodes over subtrees run.
 fn opens(count: u8, sum: u8) -> u8
     ensures { λ r. ⌜ nonzero r ≡ (eqb count 0 || not (eqb sum count)) ⌝ }
 {
@@ -62,7 +62,8 @@ pub fn some_marked(transitions: &[u8], at: usize, marks: &[u8; BYTE_VALUES]) -> 
     false
 }
 
-// One transition: marks its output if some argument is marked. Returns whether the mark is new.
+// Marks the output of the transition that starts at a byte, if some argument is marked. Returns whether the mark is
+// new.
 fn mark_output(transitions: &[u8], at: usize, marks: &mut [u8; BYTE_VALUES]) -> bool
     requires { ⌜ Readable (now transitions) at ⌝ }
     requires { ⌜ length (now marks) ≡ byteValues ⌝ }

@@ -28,7 +28,7 @@ pub fn index(x: u8) -> usize
     wide(x)
 }
 
-// A product, up to its cap.
+// A product, at most one more than condition 16 allows.
 fn capped(product: usize) -> usize
     ensures { λ r. ⌜ r ≡ min productCap product ⌝ }
 {
@@ -38,7 +38,7 @@ fn capped(product: usize) -> usize
     product
 }
 
-// Whether the numbers of the arguments are all 1, as most are.
+// Whether the numbers of all arguments are 1, as they mostly are.
 fn all_ones(transitions: &[u8], at: usize, numbers: &[u8; BYTE_VALUES]) -> bool
     requires { ⌜ Readable (now transitions) at ⌝ }
     ensures { λ r. ⌜ (r ≡ true → 1 ≡ min productCap (productAt (now (numbers .entry)) (now (transitions .entry)) at)) ⌝ }
@@ -55,7 +55,7 @@ fn all_ones(transitions: &[u8], at: usize, numbers: &[u8; BYTE_VALUES]) -> bool
     true
 }
 
-// The product of the numbers of the arguments, one after another.
+// The product of the numbers of the arguments, up to the cap.
 fn multiplied(transitions: &[u8], at: usize, numbers: &[u8; BYTE_VALUES]) -> usize
     requires { ⌜ Readable (now transitions) at ⌝ }
     ensures { λ r. ⌜ r ≡ min productCap (productAt (now (numbers .entry)) (now (transitions .entry)) at) ⌝ }
@@ -75,7 +75,7 @@ fn multiplied(transitions: &[u8], at: usize, numbers: &[u8; BYTE_VALUES]) -> usi
     product
 }
 
-// The product of the numbers of the arguments of the transition that starts at a byte.
+// The same with a test first whether all are 1.
 fn product(transitions: &[u8], at: usize, numbers: &[u8; BYTE_VALUES]) -> usize
     requires { ⌜ Readable (now transitions) at ⌝ }
     ensures { λ r. ⌜ r ≡ min productCap (productAt (now (numbers .entry)) (now (transitions .entry)) at) ⌝ }
@@ -86,7 +86,7 @@ fn product(transitions: &[u8], at: usize, numbers: &[u8; BYTE_VALUES]) -> usize
     multiplied(transitions, at, numbers)
 }
 
-// A byte and more, up to the greatest byte.
+// A byte plus a number, at most 255.
 fn raised(sum: u8, more: usize) -> u8
     requires { ⌜ more ≤ productCap ⌝ }
     ensures { λ r. ⌜ r ≡ min sumCap (sum + more) ⌝ }
@@ -98,8 +98,8 @@ fn raised(sum: u8, more: usize) -> u8
     total as u8
 }
 
-// Adds the product of the transition that starts at a byte to the sum of its output. A sum counts only where the number
-// is not 0, so other outputs are left out. Most factors are 0 here, so `multiplied` is faster than `product`.
+// Adds the product of the transition that starts at a byte to the sum of its output. Outputs whose number is 0 are
+// left out, because their sums are not used. Most factors are 0 here, so `multiplied` is faster than `product`.
 fn add_product(
     transitions: &[u8],
     at: usize,
@@ -119,7 +119,7 @@ fn add_product(
     sums[out] = raised(sums[out], more);
 }
 
-// For each state whose number is not 0 the sum of the products of the transitions into it. `sums` is all 0 before.
+// For each state whose number is not 0, the sum of the products of the transitions into it. `sums` is all 0 before.
 pub fn sums_into(
     transitions: &[u8],
     count: usize,
@@ -138,7 +138,7 @@ pub fn sums_into(
     }
 }
 
-// Whether the products of all transitions and some more are no more than a limit.
+// Whether the sum of the products of all transitions and `more` is at most `limit`.
 pub fn sum_fits(
     transitions: &[u8],
     count: usize,

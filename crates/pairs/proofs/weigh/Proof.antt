@@ -1,4 +1,4 @@
--- `pairs::weigh` meets its contract: the numbers before `q` are there.
+-- `pairs::weigh` meets its contract: in the loop the entries before `q` are filled in.
 use Prim.Native.Nat.{_-_}
 use native.Mathlib.Omega.{arith}
 use Rattle.format.specs.Format.{byteValues}

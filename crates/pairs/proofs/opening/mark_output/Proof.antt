@@ -1,4 +1,5 @@
--- `pairs::opening::mark_output` meets its contract: the output has its mark, no argument has one, or gets its mark.
+-- `pairs::opening::mark_output` meets its contract: the output is marked already, or no argument is marked, or the
+-- output gets its mark.
 use mathlib.Core.Bool.{true≢false}
 use mathlib.Core.Path.{_∙_, sym}
 use native.Mathlib.Omega.{arith}

@@ -1,4 +1,4 @@
--- `pairs::opening::some_marked` meets its contract: the answer is that of the arguments left.
+-- `pairs::opening::some_marked` meets its contract: in the loop the result is that for the arguments left.
 use mathlib.Core.Path.{_≡_}
 use Prim.Native.Nat.{_-_}
 use native.Mathlib.Omega.{arith}

@@ -1,4 +1,4 @@
--- `pairs::sums::all_ones` meets its contract: the product of what is read is 1.
+-- `pairs::sums::all_ones` meets its contract: the product over the arguments read is 1.
 use mathlib.Core.Bool.{false≢true}
 use mathlib.Core.Path.{_≡_, refl}
 use Prim.Native.Nat.{_-_}

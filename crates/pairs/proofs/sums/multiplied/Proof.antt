@@ -1,4 +1,4 @@
--- `pairs::sums::multiplied` meets its contract: what is there times what is left is the product.
+-- `pairs::sums::multiplied` meets its contract: the product so far times the product of the rest is the whole.
 use mathlib.Core.Path.{_≡_}
 use Prim.Native.Nat.{_-_, _≤_}
 use native.Mathlib.Nat.{mul-le-mul}

@@ -1,4 +1,4 @@
--- `pairs::sums::sum_fits` meets its contract: what is there and what is left is the whole sum.
+-- `pairs::sums::sum_fits` meets its contract: the sum so far and the sum of the rest are the whole.
 use mathlib.Core.Path.{refl}
 use Prim.Native.Nat.{_-_}
 use native.Mathlib.Omega.{arith}

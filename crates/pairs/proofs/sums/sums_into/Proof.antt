@@ -1,4 +1,4 @@
--- `pairs::sums::sums_into` meets its contract: what is there and what is left are the sums.
+-- `pairs::sums::sums_into` meets its contract: the sums so far and the sums of the rest are the whole.
 use Prim.Native.Nat.{_-_}
 use native.Mathlib.Omega.{arith}
 use Rattle.fields.proofs.Transitions.{readable}
