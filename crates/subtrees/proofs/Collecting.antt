@@ -1,5 +1,5 @@
--- The pass over the nodes: the trees from node i on are those of the numbers on the stack, and the arrays hold
--- their distinct subtrees.
+-- The pass over the nodes: the stack has the numbers of the trees from node i on, and the arrays hold their distinct
+-- subtrees.
 use mathlib.Core.Bool.{Bool, cond, false, true}
 use mathlib.Core.List.{List, [], _++_, _∷_}
 use mathlib.Core.Path.{_∙_, _≡_, ap, ap₂, refl, subst, sym}
@@ -35,7 +35,7 @@ arityBefore s i = childrenAt s (i - 1)
 abbrev pub foundFrom : List ℕ → ℕ → List Tree
 foundFrom s i = foundIn (readTrees (nodesFrom s i))
 
--- bs are the states of the nodes of the tree that s lists
+-- the pass at node i; bs has the states of the nodes of the tree that s lists
 pub record Collecting (s bs : List ℕ) (i top found : ℕ) (stack l r c q : List ℕ) : Type 0 where
   pub left : i ≤ nodesIn s
   pub below : i ≤ top
@@ -90,7 +90,7 @@ popped-take s at k {r} f h b =
     other : length (take k (drop at s)) ≡ k
     other = length-take-le k (drop at s) (omega (arith, length-drop at s))
 
--- a tree put after a list changes none of its numbers
+-- appending a tree changes no number
 numbered-last : (ts : List Tree) (t : Tree) (ns : List ℕ) → Among (length ts) ns →
     treesNumbered (addLast ts t) ns ≡ treesNumbered ts ns
 numbered-last ts t ns w = go (elem eqTree t ts)
@@ -113,7 +113,7 @@ module _ {s bs : List ℕ} {i top found : ℕ} {stack l r c q : List ℕ}
   trees-count : count (readTrees (nodesFrom s i)) ≡ maxNodes - top
   trees-count = ap count (inv .trees) ∙ numbered-count (foundFrom s i) (drop top stack) ∙ stack-length
 
--- the node before those that are done
+-- the next node, i - 1
 module _ {s bs : List ℕ} {i top found : ℕ} {stack l r c q : List ℕ} (ok : Passed s)
     (done : Collecting s bs i top found stack l r c q) (more : 0 < i) where
   inv : Collecting s bs (i - 1 + 1) top found stack l r c q
@@ -227,7 +227,7 @@ module _ {s bs : List ℕ} {i top found : ℕ} {stack l r c q : List ℕ} (ok : 
             (entered A h .stored);
       }
 
--- no node is left
+-- at the end no node is left
 module _ {s bs : List ℕ} {top found : ℕ} {stack l r c q : List ℕ} (ok : Passed s)
     (inv : Collecting s bs 0 top found stack l r c q) where
   pub collecting-end : (A : Automaton) → HoldsStates A (readTree s) bs →

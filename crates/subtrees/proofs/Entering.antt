@@ -1,5 +1,5 @@
--- A node among stored trees: it equals one of them exactly if label and child numbers do, and if it is
--- none of them the arrays hold it after them.
+-- A node compared with the stored trees. It equals one of them if and only if label and child numbers agree. If it
+-- equals none, the arrays get it after them.
 use mathlib.Core.Bool.{false, false≢true, true}
 use mathlib.Core.List.{List, [], _++_, _∷_}
 use mathlib.Core.Logic.{inl, inr}
@@ -70,7 +70,7 @@ module _ {ns : List ℕ} {k n : ℕ} (ch : Children ns k n) (eight : length ns �
           sym (getD-tabulated (childAt c j) 0 (getD r j 0) i 0 (omega (arith, size))) ∙
           ap (λ xs. getD xs i 0) e ∙ getD-take k ns i 0 h
 
--- what holds of the list that a tree is put after holds of the arrays
+-- arrays that hold the list with the tree appended
 entered : (A : Automaton) (ts us : List Tree) (t : Tree) (n i : ℕ) (l r c q : List ℕ) → addLast ts t ≡ us →
     Stored A us n l r c q → treeNumbered us i ≡ t → Entered A ts t n i l r c q
 entered A ts us t n i l r c q e st h = record {
@@ -79,7 +79,7 @@ entered A ts us t n i l r c q e st h = record {
 }
 
 module _ {A : Automaton} {ts : List Tree} {n : ℕ} {l r c q : List ℕ} (st : Stored A ts n l r c q) where
-  -- a stored tree's children stand before it
+  -- a stored tree's children have lower numbers
   pub stored-among : (j : ℕ) → j < n → Among (length ts) (childNumbers r c j)
   stored-among j h =
       index-among (length ts) (childNumbers r c j) (λ i b. rw (at i b) (st .child-some j i h (below i b)))
@@ -166,7 +166,7 @@ module _ {A : Automaton} {ts : List Tree} {n : ℕ} {l r c q : List ℕ} (st : S
       new-numbers =
           children-same ch eight (set r n k) c' n new-arity (λ i b. new-child i (omega (arith, ch .narrow)))
 
-      -- the trees with one more
+      -- the trees with the node appended
       abbrev more : List Tree
       more = ts ++ (entrant ∷ [])
 

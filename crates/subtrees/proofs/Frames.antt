@@ -1,4 +1,4 @@
--- The frames that make a subtree of a stored tree are the places at which parents have it as a child.
+-- The frames of a stored tree are the places at which parents have it as a child.
 use mathlib.Core.Bool.{Bool, _||_, false, not, true}
 use mathlib.Core.List.{List, [], _++_, _∷_}
 use mathlib.Core.Path.{_∙_, _≡_, ap, ap₂, refl, subst, sym}
@@ -31,7 +31,7 @@ pub numbered-joined : (ts : List Tree) (ns ms : List ℕ) →
 numbered-joined ts [] ms = refl
 numbered-joined ts (n ∷ ns) ms = ap (cons (treeNumbered ts n)) (numbered-joined ts ns ms)
 
--- a forest by number, taken apart at a tree
+-- a forest by number, split at a tree
 record Around (ts : List Tree) (ns : List ℕ) (F : Forest) (u : Tree) (G : Forest) : Type 0 where
   pub inside : count F < length ns
   pub before : F ≡ treesNumbered ts (take (count F) ns)
@@ -73,7 +73,7 @@ module _ {A : Automaton} {ts : List Tree} {n : ℕ} {l r c q : List ℕ} (st : S
       (set-split ns k x (omega (arith, length-tabulated (childAt c i) 0 (getD r i 0))))
       ∙ numbered-joined ts (take k ns) (x ∷ drop (suc k) ns)))
 
-  -- with its own child it is the parent
+  -- a frame with its own child in its gap is the parent
   pub fill-own : (i k : ℕ) → i < n → k < getD r i 0 →
       fill (frameAt ts l r c i k) (treeNumbered ts (childAt c i k)) ≡ getD ts i noTree
   fill-own i k b h =

@@ -1,4 +1,4 @@
--- Subtrees by their numbers, for later code: no two numbers have the same, and each has its state.
+-- Subtrees by their numbers, for the crates above: different numbers have different subtrees, and each has its state.
 use mathlib.Core.List.{List}
 use mathlib.Core.Path.{_≡_}
 use Prim.Native.Nat.{_-_, _≤_, ℕ}

@@ -58,7 +58,7 @@ numbered-later ts zero ns = refl
 numbered-later ts (suc c) [] = refl
 numbered-later ts (suc c) (n ∷ ns) = numbered-later ts c ns
 
--- trees after a list change none of its numbers
+-- appending trees changes no number
 pub numbered-append : (ts us : List Tree) (ns : List ℕ) → Among (length ts) ns →
     treesNumbered (ts ++ us) ns ≡ treesNumbered ts ns
 numbered-append ts us [] w = refl

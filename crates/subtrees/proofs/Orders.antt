@@ -45,7 +45,7 @@ reverse-in (y ∷ xs) x m =
     go (inr (inl e)) ih = inl e
     go (inr (inr i)) ih = absurd i
 
--- the test finds a tree exactly if it is
+-- the test finds a tree if it is in the list
 pub elem-true : (ts : List Tree) (t : Tree) → t ∈ ts → elem eqTree t ts ≡ true
 elem-true ts t m = in-elem eqTree eqTree-true eqTree-same t ts m
 
@@ -87,7 +87,7 @@ found-node a c f =
 
 -- ---- the tree itself comes last
 
--- a list gets no tree that is deeper than those whose subtrees it gets
+-- no subtree found is deeper than the trees it was found in
 mutual
   collect-depth : (t : Tree) (P : List Tree) (n : ℕ) → depth t ≤ n → ((u : Tree) → u ∈ P → depth u ≤ n) →
       (u : Tree) → u ∈ collect t P → depth u ≤ n
@@ -113,7 +113,7 @@ tree-last a f =
     let i = reverse-in (collects f []) (node a f) m in
     omega (arith, collects-depth f [] (depths f) (omega arith) (λ u j. absurd j) (node a f) i))
 
--- so it has the last number
+-- so the tree itself has the last number
 pub last-number : (t : Tree) {n : ℕ} → length (bottomUp t) ≡ n → (1 ≤ n) × (treeNumbered (bottomUp t) n ≡ t)
 last-number (node a f) {n} e = (omega (arith, size), at)
   where

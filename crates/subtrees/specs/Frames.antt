@@ -1,4 +1,4 @@
--- The frames over a stored tree: each is a parent with a place among its children.
+-- The frames over a stored tree: each is a parent and the place of the tree among its children.
 use mathlib.Core.List.{List}
 use Prim.Native.Nat.{suc, ℕ}
 use lib.ListN.{drop, getD, take}

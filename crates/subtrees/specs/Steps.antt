@@ -1,4 +1,4 @@
--- What the functions of the pass say: eight bytes filled, a node looked for and stored.
+-- What the steps of the pass leave: eight bytes filled, a node searched for and stored.
 use mathlib.Core.Bool.{Bool, _&&_, cond, false, true}
 use mathlib.Core.List.{List, [], _++_, _∷_}
 use mathlib.Core.Path.{_≡_}
@@ -26,14 +26,14 @@ pub record Filled (f : ℕ → ℕ) (n : ℕ) (r : List ℕ) : Type 0 where
   pub filled : (k : ℕ) → k < n → getD r k 0 ≡ f k
   pub beyond : (k : ℕ) → n ≤ k → getD r k 0 ≡ 0
 
--- ns has c child numbers, of n, and zeros after them
+-- ns has c child numbers, each from 1 to n, and zeros after them
 pub record Children (ns : List ℕ) (c n : ℕ) : Type 0 where
   pub narrow : c ≤ maxArity
   pub some : (k : ℕ) → k < c → 1 ≤ getD ns k 0
   pub known : (k : ℕ) → k < c → getD ns k 0 ≤ n
   pub beyond : (k : ℕ) → c ≤ k → getD ns k 0 ≡ 0
 
--- the subtree at index j has this label and these children
+-- child k of the subtree at index j is that of ns; the subtree at index j has this label and these n children
 abbrev pub sameChild : List ℕ → ℕ → List ℕ → ℕ → Bool
 sameChild c j ns k = eqb (childAt c j k) (getD ns k 0)
 
@@ -47,13 +47,13 @@ pub record First (p : ℕ → Bool) (n i : ℕ) : Type 0 where
   pub before : (j : ℕ) → j < i → p j ≡ false
   pub there : i < n → p i ≡ true
 
--- the eight child numbers of index j are those of ns, and what stands before them is as it was
+-- c' has ns as the eight child numbers of index j, and the entries before these are those of c
 pub record ChildrenStored (c : List ℕ) (j : ℕ) (ns c' : List ℕ) : Type 0 where
   pub size : length c' ≡ length c
   pub stored : (k : ℕ) → k < maxArity → childAt c' j k ≡ getD ns k 0
   pub before : (i : ℕ) → i < maxArity * j → getD c' i 0 ≡ getD c i 0
 
--- a tree put after a list, if it is not there yet
+-- a tree appended to a list, if the list does not have it
 abbrev pub addLast : List Tree → Tree → List Tree
 addLast ts t = cond (elem eqTree t ts) ts (ts ++ (t ∷ []))
 

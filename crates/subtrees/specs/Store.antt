@@ -29,16 +29,16 @@ treesNumbered ts (n ∷ ns) = cons (treeNumbered ts n) (treesNumbered ts ns)
 
 -- ---- arrays
 
--- the number of child k of the subtree at index j, and those of all its children, where r has the numbers of
--- children
+-- the number of child k of the subtree at index j, and the numbers of all its children; r has how many children each
+-- subtree has
 abbrev pub childAt : List ℕ → ℕ → ℕ → ℕ
 childAt c j k = getD c (maxArity * j + k) 0
 
 abbrev pub childNumbers : List ℕ → List ℕ → ℕ → List ℕ
 childNumbers r c j = map (childAt c j) (upFrom 0 (getD r j 0))
 
--- arrays of labels, numbers of children, child numbers and states hold n trees, each once, and for each the
--- state that it runs to; a child's number is below its parent's
+-- the arrays l, r, c and q have the labels, numbers of children, child numbers and states of n trees. No tree is
+-- there twice, and a child's number is below its parent's
 pub record Stored (A : Automaton) (ts : List Tree) (n : ℕ) (l r c q : List ℕ) : Type 0 where
   pub size : length ts ≡ n
   pub distinct : Distinct ts

@@ -1,5 +1,5 @@
-// The distinct subtrees of a listed tree, each with the state of its nodes. The nodes are gone through from the last
-// to the first: a node's children are on top of a stack of numbers, its own number takes their place.
+// The distinct subtrees of a listed tree, each with its state. A pass goes through the nodes from the last to the
+// first. The numbers of a node's children are then on top of a stack, and the node's own number takes their place.
 ghost use mathlib.Core.Path.{_≡_};
 ghost use mathlib.Core.List.{List};
 ghost use Prim.Native.Nat.{_*_, _+_, _<_, _≤_};
@@ -23,7 +23,7 @@ use listing::label_at;
 
 pub const CHILD_NUMBERS: usize = MAX_NODES * MAX_ARITY;
 
-// The number of a subtree, and how many there are with it.
+// The number of a subtree, and how many subtrees have been found.
 struct Place {
     number: u8,
     found: usize,
@@ -44,7 +44,7 @@ fn popped(stack: &[u8; MAX_NODES], top: usize, arity: usize) -> [u8; MAX_ARITY]
     numbers
 }
 
-// Whether the first children of the subtree at index j are those of numbers.
+// Whether the first `arity` children of the subtree at index j have these numbers.
 fn same_children(
     children: &[u8; CHILD_NUMBERS],
     j: usize,
@@ -89,7 +89,7 @@ fn same_node(
     same_children(children, j, wide(arity), numbers)
 }
 
-// The index of the subtree with this label and these children; found if there is none.
+// The index of the subtree with this label and these children; `found` if there is none.
 pub fn search(
     labels: &[u16; MAX_NODES],
     arities: &[u8; MAX_NODES],
@@ -126,8 +126,8 @@ fn store_children(children: &mut [u8; CHILD_NUMBERS], j: usize, numbers: [u8; MA
     }
 }
 
-// The number of the subtree with this label and these children, which is stored with its state q if it was not found
-// before.
+// The number of the subtree with this label and these children. If it was not found before, it is stored with its
+// state q.
 fn enter(
     labels: &mut [u16; MAX_NODES],
     arities: &mut [u8; MAX_NODES],
@@ -169,9 +169,9 @@ fn enter(
     }
 }
 
-// The distinct subtrees of the tree that is listed, and their states, from those of the tree's nodes. Subtree j, from 1
-// on, goes to index j - 1 of the arrays; its child k to 8 (j - 1) + k, with 0 beyond the arity. Returns how many they
-// are, which is the number of the tree itself: it comes after its parts.
+// Collects the distinct subtrees of the listed tree and their states; `reached` has the states of the tree's nodes.
+// Subtree j, from 1 on, is at index j - 1 of the arrays, its child k at 8 (j - 1) + k, with 0 beyond the arity.
+// Returns how many there are. That is also the number of the tree itself, because children are numbered first.
 pub fn collect(
     tree: &[u8],
     reached: &[u8; MAX_NODES],

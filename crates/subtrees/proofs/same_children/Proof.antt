@@ -1,4 +1,4 @@
--- The loop at k answers for the children from k on.
+-- At k the loop's result is that for the children from k on.
 use borrow.Author.Needs.{needs}
 use borrow.Author.Tests.{eq-eqb, ne-eqb}
 use Prim.Native.Nat.{_-_}

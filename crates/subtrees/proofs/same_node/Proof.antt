@@ -1,4 +1,4 @@
--- A node differs in its label, in its number of children, or where its children do.
+-- A node that is not the same differs in its label, its number of children or a child.
 use Rattle.subtrees.proofs.Arrays.{by-children, other-arity, other-label}
 use borrow.Author.Needs.{needs}
 use Rattle.subtrees.proofs.same_node.Statement.{statement}
