@@ -1,5 +1,5 @@
--- The arguments of transitions with names: tested one by one, compared, and the order of transitions that they
--- decide.
+-- The arguments of transitions, by their names: tested one by one, compared, and the order of transitions that
+-- follows.
 use mathlib.Core.Bool.{Bool}
 use mathlib.Core.List.{List, _∷_, map, map-map}
 use mathlib.Core.Path.{_∙_, _≡_, ap₂, subst, sym}

@@ -21,7 +21,8 @@ use Rattle.format.proofs.Labels.{from-written}
 use Rattle.lists.proofs.Intervals.{getD-map, getD-tabulated, tabulated}
 use Rattle.table.proofs.Bytes.{cond-is, transitionByte-arg}
 
--- an entry of the transition at a byte, but for its label: k arguments have their names, the others are still 0
+-- the entry of the transition at a byte before its label is put: the first k arguments have their names, the others
+-- are 0
 pub record Renaming (run : List ℕ) (at : ℕ) (names entry : List ℕ) (k : ℕ) : Type 0 where
   pub size : length entry ≡ transitionBytes
   pub within : k ≤ arityOf run at

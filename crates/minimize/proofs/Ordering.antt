@@ -28,7 +28,7 @@ use Rattle.lists.proofs.Distinct.{append-distinct, distinct-length}
 use Rattle.lists.proofs.Positions.{in-upFrom, upFrom-length}
 use Rattle.lists.proofs.Tests.{and-right, append-in, eqb-same, in-map, or-none-left, or-none-right}
 
--- one state more at the end of an order
+-- a state appended to an order gets the next number
 number-new : (o : List ℕ) (q : ℕ) → elem eqb q o ≡ false → numberOf (o ++ (q ∷ [])) q ≡ suc (length o)
 number-new [] q h = rw (eqb-same q)
 number-new (x ∷ o) q h =
@@ -78,7 +78,7 @@ pub record Ordering (s : List ℕ) (count : ℕ) (order numbers : List ℕ) (k b
       numberingFrom (transitionsIn s count) (length (transitionsIn s count) - k) (take k order)
   pub next : picked s count b ≡ best (take k order) (transitionsIn s count)
 
--- b is the first that is ready, whatever order the numbers are of
+-- b is the first ready transition, for every order that has these numbers
 abbrev pub Leads : List ℕ → ℕ → List ℕ → ℕ → Type 0
 Leads s count numbers b =
     (o : List ℕ) → NumbersOf numbers o → picked s count b ≡ best o (transitionsIn s count)

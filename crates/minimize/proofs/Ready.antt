@@ -27,7 +27,7 @@ nonzero-shift : (n : ℕ) → nonzero (shift n) ≡ nonzero n
 nonzero-shift zero = refl
 nonzero-shift (suc n) = refl
 
--- a state has a number if it is one of the order
+-- a state has a number if and only if it is in the order
 pub nonzero-number : (o : List ℕ) (q : ℕ) → nonzero (numberOf o q) ≡ elem eqb q o
 nonzero-number [] q = refl
 nonzero-number (x ∷ o) q = go (eqb q x) (nonzero-number o q)
@@ -56,7 +56,7 @@ module _ (numbers : List ℕ) (τ : Transition) where
   pub unnumbered-ready : marked numbers (τ .out) ≡ false → every (marked numbers) (τ .args) ≡ readyBy numbers τ
   unnumbered-ready e = sym (rw e (and-true (every (marked numbers) (τ .args))))
 
--- ---- one transition against the best so far
+-- ---- one transition compared with the best so far
 
 module _ (o s : List ℕ) (n b i : ℕ) where
   pub improves-unready : ready o (nthTransition s i) ≡ false → false ≡ improves o s n b i
@@ -84,7 +84,7 @@ held-none : (o : List ℕ) (r : Option Transition) → held o r none ≡ r
 held-none o none = refl
 held-none o (some τ) = refl
 
--- a later transition against two earlier ones
+-- choosing the best is associative
 choose-choose : (o : List ℕ) (β τ : Transition) (r : Option Transition) →
     choose o β (choose o τ r) ≡ cond (precedes (renumber o τ) (renumber o β)) (choose o τ r) (choose o β r)
 choose-choose o β τ none = go (precedes (renumber o τ) (renumber o β))

@@ -1,4 +1,4 @@
--- What writing the automaton of a run answers and leaves in the table.
+-- What writing the automaton of some transitions returns and leaves in the table.
 use mathlib.Core.Bool.{cond}
 use mathlib.Core.List.{List}
 use Prim.Native.Nat.{ℕ}
@@ -11,7 +11,7 @@ use Rattle.minimize.specs.declared.write.Made.the-variants.{Table, TooBi
 use Rattle.table.specs.Intake.{fitsTable}
 use Rattle.table.specs.Layout.{encode, transitionsIn}
 
--- the automaton of a run, its states numbered by the rule
+-- the automaton of the transitions in bytes, its states numbered by the rule
 abbrev pub renumberedIn : List ℕ → List ℕ → ℕ → ℕ → Automaton
 renumberedIn classes run n count = renumbered (accepting (viewed classes run n count)) (transitionsIn run count)
 

@@ -15,7 +15,7 @@ use Rattle.marking.specs.Marks.{marked}
 use Rattle.minimize.specs.Renaming.{nameIn}
 use Rattle.table.specs.Layout.{nthTransition, outOf}
 
--- a table of numbers gives each state its number in an order
+-- `numbers` has for each state its number in an order
 pub record NumbersOf (numbers o : List ℕ) : Type 0 where
   pub number : (q : ℕ) → nameIn numbers q ≡ numberOf o q
 
@@ -27,7 +27,7 @@ Unnumbered numbers = (q : ℕ) → nameIn numbers q ≡ 0
 abbrev pub readyBy : List ℕ → Transition → Bool
 readyBy numbers τ = every (marked numbers) (τ .args) && not (marked numbers (τ .out))
 
--- transition i of n; none from n on
+-- transition i of n; none if i is not below n
 abbrev pub picked : List ℕ → ℕ → ℕ → Option Transition
 picked s n i = cond (ltb i n) (some (nthTransition s i)) none
 
@@ -41,7 +41,7 @@ improves o s n b i =
 abbrev pub Outputs : List ℕ → ℕ → Type 0
 Outputs s n = (i : ℕ) → i < n → 1 ≤ outOf s (transitionBytes * i)
 
--- the first k of an order are the states by their numbers, and a table has their numbers
+-- the first k of `order` are the states in the order of their numbers, and `numbers` has the number of each
 pub record NumberingHeld (Q : List Transition) (order numbers : List ℕ) (k : ℕ) : Type 0 where
   pub few : k < byteValues
   pub size : length order ≡ byteValues

@@ -1,5 +1,5 @@
-// States numbered by the rule: of all transitions whose arguments have numbers and whose output has none, the
-// first by the order of the new numbers gives its output the next number. A number 0 is none.
+// States numbered by the rule: of all transitions whose arguments have numbers and whose output has none, the first
+// by the order of the new numbers gives its output the next number. The number 0 stands for no number.
 ghost use mathlib.Core.Path.{_≡_};
 ghost use mathlib.Core.List.{List, map};
 ghost use Prim.Native.Nat.{_<_, _≤_, ℕ};
@@ -32,7 +32,7 @@ fn ready(transitions: &[u8], at: usize, numbers: &[u8; BYTE_VALUES]) -> bool
     args_marked(transitions, at, numbers)
 }
 
-// Whether the first n arguments of one transition come before those of another, each as its number.
+// Whether the numbers of the first n arguments of one transition come before those of another.
 fn args_precede(
     transitions: &[u8],
     a: usize,
@@ -60,7 +60,7 @@ fn args_precede(
     false
 }
 
-// Whether one transition comes before another, with the numbers for the states.
+// Whether one transition comes before another if states are compared by their numbers.
 fn precedes_by(transitions: &[u8], a: usize, b: usize, numbers: &[u8; BYTE_VALUES]) -> bool
     requires { ⌜ Readable (now transitions) a ⌝ }
     requires { ⌜ Readable (now transitions) b ⌝ }
@@ -129,7 +129,8 @@ fn first_ready(transitions: &[u8], count: usize, numbers: &[u8; BYTE_VALUES]) ->
     best
 }
 
-// Numbers the states: `order` has them by their numbers, `numbers` the number of each. How many there are.
+// Numbers the states. `order` gets them in the order of their numbers, `numbers` the number of each. Returns how many
+// there are.
 pub fn number(
     transitions: &[u8],
     count: usize,

@@ -17,7 +17,7 @@ use fields::put_out;
 use format::BYTE_VALUES;
 use format::TRANSITION_BYTES;
 
-// No names. A function of its own, so that no other proof computes with so many bytes.
+// An array for names, all 0. A function of its own, so that no other proof computes with so many bytes.
 pub fn no_names() -> [u8; BYTE_VALUES]
     ensures { λ r. ⌜ r ≡ zeros byteValues ⌝ }
 {

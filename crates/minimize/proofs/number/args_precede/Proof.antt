@@ -1,4 +1,4 @@
--- `number::args_precede` meets its contract: the answer is that of the arguments left.
+-- `minimize::number::args_precede` meets its contract: in the loop the result is that for the arguments left.
 use Rattle.minimize.proofs.Arguments.{argName, names-start}
 use Rattle.fields.proofs.Searching.{LexFrom, lex-decided, lex-end, lex-next}
 use Rattle.minimize.specs.Renaming.{nameIn}

@@ -1,4 +1,5 @@
--- `number::first_ready` meets its contract: the best so far against what is left is the best of the whole.
+-- `minimize::number::first_ready` meets its contract: the better of the best so far and the best of the rest is the
+-- best of all.
 use mathlib.Core.List.{List}
 use mathlib.Core.Path.{_∙_, sym}
 use Prim.Native.Nat.{_-_, _≤_, ℕ}

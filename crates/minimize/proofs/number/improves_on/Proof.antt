@@ -1,4 +1,4 @@
--- `number::improves_on` meets its contract, whatever order the numbers are of.
+-- `minimize::number::improves_on` meets its contract, for every order that has these numbers.
 use mathlib.Core.Path.{_∙_, sym}
 use native.Mathlib.Omega.{arith}
 use borrow.Author.Needs.{needs}

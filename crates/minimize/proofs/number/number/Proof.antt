@@ -1,4 +1,4 @@
--- `number::number` meets its contract: what is left to number goes on from the order so far.
+-- `minimize::number::number` meets its contract: the rest of the numbering continues the order so far.
 use Rattle.minimize.proofs.Ordering.{Ordering, ordering-end, ordering-few, ordering-next, ordering-start}
 use native.Mathlib.Omega.{arith}
 use Prim.Native.Nat.{_-_, _≤_}

@@ -1,4 +1,4 @@
--- `number::precedes_by` meets its contract: arities, labels, arguments, in this order.
+-- `minimize::number::precedes_by` meets its contract: arities, labels, arguments, in this order.
 use Rattle.minimize.proofs.Arguments.{precedes-by-args, precedes-by-arity, precedes-by-label}
 use borrow.Author.Needs.{needs}
 use Rattle.minimize.proofs.number.precedes_by.Statement.{statement}

@@ -1,4 +1,4 @@
--- `number::ready` meets its contract: the output first, then the arguments.
+-- `minimize::number::ready` meets its contract: the output first, then the arguments.
 use Rattle.minimize.proofs.Ready.{numbered-unready, unnumbered-ready}
 use Rattle.marking.proofs.Sweeps.{nonzero-false, nonzero-true}
 use Rattle.table.specs.Layout.{transitionAt}

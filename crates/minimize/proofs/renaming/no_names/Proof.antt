@@ -1,4 +1,4 @@
--- `merge::no_names` meets its contract.
+-- `minimize::renaming::no_names` meets its contract.
 use mathlib.Core.Path.{refl}
 use Rattle.minimize.specs.Renaming.{zeros}
 use Rattle.minimize.proofs.renaming.no_names.Statement.{statement}

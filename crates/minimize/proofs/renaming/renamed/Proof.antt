@@ -1,4 +1,5 @@
--- `minimize::merge::renamed` meets its contract: k arguments have their names, the others are still 0.
+-- `minimize::renaming::renamed` meets its contract: in the loop the first k arguments have their names, the others
+-- are 0.
 use mathlib.Core.Path.{_≡_, ap}
 use Prim.Native.Nat.{_-_}
 use native.Mathlib.Omega.{arith}
