@@ -33,7 +33,7 @@ module _ (b : List ℕ) (few : stateCount b ≤ maxStates) where
   abbrev n : ℕ
   n = stateCount b
 
-  -- a class that does not fit
+  -- the class of some state does not fit
   pub class-broken : {r : Bool} → r ≡ every (atMost b 1) (upFrom 1 (n + 1 - 1)) → r ≡ false →
       false ≡ every (classFits b) (upFrom 1 maxStates)
   class-broken {r} e h = go (every (classFits b) (upFrom 1 maxStates)) refl
@@ -43,7 +43,7 @@ module _ (b : List ℕ) (few : stateCount b ≤ maxStates) where
       go true d = sym h ∙ e ∙ at-every (atMost b 1) 1 (n + 1 - 1) (λ q a l. sym (within q (omega arith))
           ∙ every-at (classFits b) 1 maxStates d q a (omega arith))
 
-  -- those of the states fit, so that the others decide
+  -- the classes of the states fit, so the bytes after them decide
   pub classes-decide : {r x : Bool} → r ≡ every (atMost b 1) (upFrom 1 (n + 1 - 1)) → r ≡ true →
       x ≡ every (atMost b 0) (upFrom (n + 1) (countAt - (n + 1))) → x ≡ every (classFits b) (upFrom 1 maxStates)
   classes-decide {r} {x} e h d = go x refl (every (classFits b) (upFrom 1 maxStates)) refl

@@ -1,4 +1,4 @@
--- One digit of eight for another, and one argument of a transition for another.
+-- One of eight digits replaced, and one argument of a transition replaced.
 use mathlib.Core.Bool.{Bool, false, true}
 use mathlib.Core.List.{List, map}
 use mathlib.Core.Path.{_∙_, _≡_, ap, refl, sym}
@@ -20,16 +20,16 @@ use Rattle.packed.proofs.Digits.{digits-same}
 use Rattle.packed.proofs.Shifts.{digits-below}
 use Rattle.packed.proofs.Walks.{digit-adds}
 
--- what a digit at place k counts
+-- the value of a 1 at place k
 abbrev pub placeUnit : ℕ → ℕ
 placeUnit k = 2 ^ (8 * (7 - k))
 
--- the digit there adds to those with 0 for it
+-- a number is the number with 0 at place k plus the digit there
 digits-place : (f : ℕ → ℕ) (k : ℕ) → k < maxArity →
     digits f 0 maxArity 0 ≡ digits (putAt f k 0) 0 maxArity 0 + f k * placeUnit k
 digits-place f k h = digit-adds f (putAt f k 0) k h (put-same f k 0) (λ j d. sym (put-other f k 0 j d))
 
--- with q for the digit there
+-- a number with q for the digit at place k
 digits-put : (f : ℕ → ℕ) (k q : ℕ) → k < maxArity →
     digits (putAt f k q) 0 maxArity 0 + f k * placeUnit k ≡ digits f 0 maxArity 0 + q * placeUnit k
 digits-put f k q h =

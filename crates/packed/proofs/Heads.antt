@@ -1,4 +1,4 @@
--- Transitions as two numbers: the transition that its numbers stand for is the transition itself.
+-- Packing a transition into two numbers and unpacking it gives the transition back.
 use mathlib.Core.List.{List, map}
 use mathlib.Core.Path.{_∙_, _≡_, ap, ap₂, refl, subst, sym}
 use Prim.Native.Nat.{_%_, _*_, _+_, _-_, _/_, _<_, _^_, _≤_, suc, ℕ}
@@ -27,7 +27,7 @@ digits-last f n =
     ap (λ j. digits f 0 j 0) (sym (add-one n)) ∙ digits-cut f n 0 1 0
     ∙ ap (λ j. byteValues * digits f 0 n 0 + f j) e
 
--- eight digits, those after digit k apart
+-- eight digits, split after digit k
 pub digits-after : (f : ℕ → ℕ) (k : ℕ) → k < maxArity →
     digits f 0 maxArity 0 ≡ digits f 0 (suc k) 0 * 2 ^ (8 * (7 - k)) + digits f (suc k) (7 - k) 0
 digits-after f k h =

@@ -1,5 +1,4 @@
--- Condition 7, return by return: each early return of a check breaks the next test, and the last return
--- answers the last test.
+-- Condition 7, return by return: at each early return one test fails, and the last return gives the last test.
 use mathlib.Core.Bool.{Bool, _&&_, and-assoc, false, true}
 use mathlib.Core.List.{List}
 use mathlib.Core.Path.{_∙_, _≡_, ap, ap₂, sym}
@@ -91,7 +90,7 @@ module _ (s : List ℕ) (n at : ℕ) where
             ← o,
           ) i
 
--- what is read of the part of a table that code hands on is said of its body
+-- the result for the part of a table that the code hands on is that for the table's transitions
 pub part-fits : (b : List ℕ) {r : Bool} {states count : ℕ} → states ≡ stateCount b → count ≡ transitionCount b →
     r ≡ every (nthFits (part b headBytes) states) (upFrom 0 count) →
     r ≡ every (nthFits (body b) (stateCount b)) (upFrom 0 (transitionCount b))

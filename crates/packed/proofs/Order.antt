@@ -1,4 +1,4 @@
--- Transitions compared by two numbers each, and lists of arguments told apart by one.
+-- Transitions compared by two numbers each, and lists of arguments distinguished by one.
 use mathlib.Core.Bool.{Bool, _&&_, _||_, false, false≢true, true}
 use mathlib.Core.List.{List}
 use mathlib.Core.Path.{_∙_, _≡_, refl, sym}
@@ -26,7 +26,7 @@ use Rattle.sorted.proofs.Searched.{sorted-at}
 
 -- ---- order
 
--- numbers that compare as x and y do, which differ, decide
+-- if x and y differ and m and n compare as they do, m and n decide
 pub higher-decides : (x y m n a b : ℕ) → (x ≡ y → ⊥) → (x < y → m < n) → (y < x → n < m) → ltb x y ≡ before m a n b
 higher-decides x y m n a b d f g = go (ltb x y) refl
   where
@@ -39,7 +39,7 @@ higher-decides x y m n a b d f g = go (ltb x y) refl
 pub lower-decides : (m n a b : ℕ) → m ≡ n → ltb a b ≡ before m a n b
 lower-decides m n a b e = rw (le-ltb m n (omega arith), eq-eqb m n e)
 
--- what an order by two numbers says of each
+-- the order by two numbers, for each of them
 pub before-true : (m a n b : ℕ) → before m a n b ≡ true → (m ≤ n) × (n ≤ m → a < b)
 before-true m a n b e = go (ltb m n) refl (eqb m n) refl (ltb a b) refl e
   where
@@ -109,7 +109,7 @@ module _ (s : List ℕ) (bytes : AllBytes s) (a b : ℕ) (first : Padded s a) (s
           ∙ higher-decides (arityOf s a) (arityOf s b) (metaAt s a) (metaAt s b) (packedAt s a) (packedAt s b) l
           (λ h. omega (arith, small)) (λ h. omega (arith, small′))
 
--- in a run that rises the numbers do
+-- searchable transitions are sorted
 pub sorted : {s : List ℕ} {n : ℕ} → Searchable s n → Sorted s n
 sorted r = record { runs = r .padded .runs; rises = r .rises }
 
@@ -125,7 +125,7 @@ pub record RisesFrom (s : List ℕ) (n m a i : ℕ) : Type 0 where
   pub meta : m ≡ metaAt s (transitionBytes * i)
   pub args : a ≡ packedAt s (transitionBytes * i)
 
--- it compares transition i with the next
+-- the loop compares transition i with the next
 pub compares-next : {s : List ℕ} {n m a i m′ a′ : ℕ} → AllBytes s → HoldsPadded s n → RisesFrom s n m a i →
     i + 1 < n → m′ ≡ metaAt s (transitionBytes * (i + 1)) → a′ ≡ packedAt s (transitionBytes * (i + 1)) →
     before m a m′ a′ ≡ precedesNext s i
@@ -156,7 +156,7 @@ pub record Packable (xs : List ℕ) : Type 0 where
   pub some : (k : ℕ) → k < length xs → 1 ≤ getD xs k 0
   pub bytes : AllBytes xs
 
--- such lists differ in their numbers
+-- different lists of this kind have different numbers
 pub packed-injective : (xs ys : List ℕ) → Packable xs → Packable ys → packed xs ≡ packed ys → xs ≡ ys
 unfolding packed
 packed-injective xs ys p q e = ext-getD 0 xs ys (same (ltb (length xs) (length ys)) refl (ltb (length ys) (length xs))

@@ -1,4 +1,4 @@
--- Search by two numbers: they order transitions as keys do, and tell keys apart.
+-- Search by two numbers. They order transitions as keys do, and different keys have different numbers.
 use mathlib.Core.Bool.{Bool, false, true, true≢false}
 use mathlib.Core.List.{List, _∷_, map}
 use mathlib.Core.Logic.{_⊎_, inl, inr}
@@ -32,7 +32,7 @@ use Rattle.table.proofs.Decoded.{transitionsIn-in}
 
 -- ---- order
 
--- lists of one length are ordered by their numbers
+-- lists of the same length are ordered as their numbers are
 args-before : (xs ys : List ℕ) → Eight xs → Eight ys → length xs ≡ length ys → lex xs ys ≡ ltb (packed xs) (packed ys)
 unfolding packed
 args-before xs ys f g e =
@@ -43,7 +43,7 @@ args-before xs ys f g e =
     whole : (zs : List ℕ) → map (padded zs) (upFrom 0 (length zs)) ≡ zs
     whole zs = tabulated (padded zs) 0 (length zs) 0 zs refl (λ i h. ap (padded zs) (zero-add i))
 
--- lists of one length with one number are equal
+-- lists of the same length with the same number are equal
 args-same : (xs ys : List ℕ) → Eight xs → Eight ys → length xs ≡ length ys → packed xs ≡ packed ys → xs ≡ ys
 unfolding packed
 args-same xs ys f g e d =
@@ -86,7 +86,7 @@ precedes-numbers σ τ f g small small′ = by-arity (eqb n m) refl
         lex-differs n m (σ .label ∷ σ .args) (τ .label ∷ τ .args) l
         ∙ higher-decides n m (metaOf σ) (metaOf τ) x y l (λ h. omega arith) (λ h. omega arith)
 
--- ---- a transition of a run
+-- ---- a transition among others
 
 module _ {s : List ℕ} {n : ℕ} (bytes : AllBytes s) (r : Searchable s n) where
   args-eight : (i : ℕ) → i < n → Eight (nthTransition s i .args)
@@ -124,7 +124,7 @@ module _ {s : List ℕ} {n : ℕ} (bytes : AllBytes s) (r : Searchable s n) wher
         rw (meta-is, args-is, p .meta, p .args)
         (sym (precedes-numbers (nthTransition s i) (sought b qs) (args-eight i h) (p .list) small (p .label)))
 
-    -- both numbers are those of the key
+    -- a transition with the key has both numbers
     pub same-numbers : key (nthTransition s i) ≡ key (sought b qs) → (m′ ≡ m) × (a′ ≡ a)
     same-numbers e =
         let l = key-label (nthTransition s i) (sought b qs) e in
@@ -143,7 +143,7 @@ module _ {s : List ℕ} {n : ℕ} (bytes : AllBytes s) (r : Searchable s n) wher
         (sym args-is ∙ e ∙ p .args) in
         key-equal (nthTransition s i) (sought b qs) l q
 
--- ---- search by halves
+-- ---- binary search
 
 lex-standing : (xs ys : List ℕ) → lex xs ys ≡ true → standing xs ys ≡ 0
 unfolding standing
@@ -204,7 +204,7 @@ bound-end inv h b qs p = halving-end (inv .halves b qs p) h
 
 -- ---- what is found
 
--- a transition with both numbers, wherever it stands
+-- transition i has both numbers, so it has the key
 pub sought-there : {s : List ℕ} {n m a i : ℕ} → AllBytes s → Searchable s n → i < n → {m′ a′ : ℕ} →
     m′ ≡ metaAt s (transitionBytes * i) → a′ ≡ packedAt s (transitionBytes * i) → m′ ≡ m → a′ ≡ a →
     (b : ℕ) (qs : List ℕ) → Packs m a b qs → SoughtAt s n b qs (i + 1)
@@ -215,7 +215,7 @@ sought-there {i} bytes r h meta args d e b qs p = let z : i + 1 - 1 ≡ i = omeg
 
 module _ {s : List ℕ} {n m a i : ℕ} (bytes : AllBytes s) (r : Searchable s n)
     (bound : (b : ℕ) (qs : List ℕ) → Packs m a b qs → LowerBound s n (sought b qs) i) where
-  -- a key that is not at the bound is nowhere
+  -- a transition with this key can only be at the bound
   pub sought-none : ((b : ℕ) (qs : List ℕ) → Packs m a b qs → i < n → key (nthTransition s i) ≡ key (sought b qs) → ⊥) →
       (b : ℕ) (qs : List ℕ) → Packs m a b qs → SoughtAt s n b qs 0
   sought-none h b qs p = record {
@@ -261,7 +261,7 @@ module _ {n : ℕ} {qs : List ℕ} (eight : length qs ≡ maxArity) (p : Places 
       go false h = let o = ltb-false k n h in
           p .beyond k o ∙ sym (List·getD-eq-default (take n qs) 0 (omega (arith, taken-length)))
 
-  -- they have the number of all
+  -- the first n have the same number as all eight
   pub packed-taken : packed qs ≡ packed (take n qs)
   unfolding packed
   packed-taken = digits-same (padded qs) (padded (take n qs)) 0 maxArity 0 (λ k _ _. taken-at k)

@@ -1,4 +1,4 @@
--- A number of eight digits shifted to the left: what is left are the digits after the first.
+-- A number of eight digits shifted to the left: the first digits are lost, the others remain.
 use mathlib.Core.Bool.{Bool, _&&_, and-assoc, and-true, false, true}
 use mathlib.Core.Path.{_∙_, _≡_, ap, refl, sym}
 use Prim.Native.Nat.{_%_, _*_, _+_, _-_, _<_, _≤_, _^_, suc, zero, ℕ}
@@ -13,7 +13,7 @@ use Rattle.lists.specs.Tests.{every}
 use Rattle.packed.specs.Packed.{digits}
 use Rattle.packed.proofs.Digits.{digit-more, digits-lower}
 
--- two numbers that are 0 together
+-- two numbers of which one is 0 if and only if the other is
 zero-together : (x y : ℕ) → (x ≡ 0 → y ≡ 0) → (y ≡ 0 → x ≡ 0) → eqb x 0 ≡ eqb y 0
 zero-together x y f g = go (eqb x 0) refl
   where
@@ -21,7 +21,7 @@ zero-together x y f g = go (eqb x 0) refl
     go true d = sym (eq-eqb y 0 (f (eqb-true x 0 d)))
     go false d = sym (ne-eqb y 0 (λ e. eqb-false x 0 d (g e)))
 
--- digits after v
+-- v followed by digits, as a sum
 pub digits-split : (f : ℕ → ℕ) (k n v : ℕ) → digits f k n v ≡ v * 2 ^ (8 * n) + digits f k n 0
 digits-split f k zero v = omega arith
 digits-split f k (suc n) v =
@@ -58,7 +58,7 @@ module _ (f : ℕ → ℕ) (small : (j : ℕ) → f j < byteValues) where
         digits-none k n,
       )
 
-  -- a number is 0 if all its digits are
+  -- a number is 0 if and only if all its digits are
   digits-zero : (n k v : ℕ) → eqb (digits f k n v) 0 ≡ (eqb v 0 && every (λ j. eqb (f j) 0) (upFrom k n))
   digits-zero zero k v = sym (and-true (eqb v 0))
   digits-zero (suc n) k v =
@@ -71,7 +71,7 @@ module _ (f : ℕ → ℕ) (small : (j : ℕ) → f j < byteValues) where
           zero-together (byteValues * v + f k) (f k) (λ h. omega arith) (λ h. omega arith)
       both false d = let e = eqb-false v 0 d in ne-eqb (byteValues * v + f k) 0 (λ h. omega arith)
 
-  -- shifted over the first a of eight digits, it is 0 if the others are
+  -- eight digits with the first a shifted out are 0 if and only if the others are
   pub shifted-zero : (a : ℕ) → a < maxArity →
       eqb ((digits f 0 maxArity 0 * 2 ^ (8 * a)) % 2 ^ 64) 0 ≡ every (λ j. eqb (f j) 0) (upFrom a (maxArity - a))
   shifted-zero a h =

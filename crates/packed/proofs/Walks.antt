@@ -1,4 +1,4 @@
--- Transitions that differ only in the argument at one place: where a walk over them starts and ends.
+-- Transitions that differ only in the argument at one place: where a search for them starts and ends.
 use mathlib.Core.Bool.{Bool, false, true}
 use mathlib.Core.List.{List}
 use mathlib.Core.Path.{_∙_, _≡_, ap, ap₂, refl, subst, sym}
@@ -23,7 +23,7 @@ use Rattle.packed.proofs.Order.{before-itself, before-trans, before-tru
 use Rattle.packed.proofs.Order.{true-before}
 use Rattle.table.proofs.Decoded.{transitionsIn-in}
 
--- the numbers m and a come after those of each argument that is a byte
+-- the numbers m and a come after those of every transition in the slot
 abbrev Past : Slot → ℕ → ℕ → Type 0
 Past z m a = (q : ℕ) → q < byteValues → before (z .meta) (z .args + q * 2 ^ (8 * (7 - z .place))) m a ≡ true
 
@@ -38,7 +38,7 @@ past-args z m a e h d l q b =
     mul-le-mul-right (2 ^ (8 * (7 - z .place))) (omega arith) in
     true-before (z .meta) (z .args + q * 2 ^ (8 * (7 - z .place))) m a (omega arith) (λ k. omega arith)
 
--- from i on none is in the slot, if transition i comes after it
+-- if transition i comes after the slot, none from i on is in it
 pub none-past : {s : List ℕ} {n : ℕ} (z : Slot) {m a i : ℕ} → AllBytes s → Searchable s n → Past z m a →
     m ≡ metaAt s (transitionBytes * i) → a ≡ packedAt s (transitionBytes * i) → (j : ℕ) → i ≤ j → j < n →
     InSlot s z j → ⊥
@@ -63,7 +63,7 @@ none-past {s} {n} z {m} {a} {i} bytes r past meta args j h l I = go (eqb i j) re
         before-itself (x i) (y i)
         (before-trans (x i) (y i) (x j) (y j) (x i) (y i) (numbers-rise bytes r i j (omega arith) l) first)
 
--- a walk from `from` that has met none in the slot before i
+-- a search from `from` on that has met none in the slot before i
 pub record SlotWalk (s : List ℕ) (z : Slot) (from i : ℕ) : Type 0 where
   pub none : (j : ℕ) → from ≤ j → j < i → InSlot s z j → ⊥
 
@@ -88,7 +88,7 @@ walk-next {s} {z} {from} {i} w other = record { none = λ j h l I. go j h l I (e
     go j h l I true d = other (subst (InSlot s z) (eqb-true j i d) I)
     go j h l I false d = let ne = eqb-false j i d in w .none j h (omega arith) I
 
--- what comes before i was met, and from i on there is none
+-- the search is complete if none from i on is in the slot
 pub walk-past : {s : List ℕ} {n : ℕ} {z : Slot} {from i : ℕ} → SlotWalk s z from i →
     ((j : ℕ) → i ≤ j → j < n → InSlot s z j → ⊥) → (j : ℕ) → from ≤ j → j < n → InSlot s z j → ⊥
 walk-past {s} {n} {z} {from} {i} w past j h l I = go (ltb j i) refl
@@ -97,7 +97,7 @@ walk-past {s} {n} {z} {from} {i} w past j h l I = go (ltb j i) refl
     go true d = w .none j h (ltb-true j i d) I
     go false d = past j (ltb-false j i d) l I
 
--- what was read of transition i: its numbers m and a, and that its argument at the place adds x
+-- what the code read of transition i: its numbers m and a, and x, the summand of its argument at the slot's place
 module _ {s : List ℕ} (z : Slot) (i : ℕ) {m a x : ℕ} (meta : m ≡ metaAt s (transitionBytes * i))
     (args : a ≡ packedAt s (transitionBytes * i)) (order : z .args ≤ a) {q : ℕ}
     (arg : q ≡ argOf s (transitionBytes * i) (z .place)) (adds : x ≡ q * 2 ^ (8 * (7 - z .place))) where
@@ -117,9 +117,9 @@ module _ {s : List ℕ} (z : Slot) (i : ℕ) {m a x : ℕ} (meta : m ≡ metaAt 
       args ∙ I .args ∙ ap (λ y. z .args + y * 2 ^ (8 * (7 - z .place))) (sym arg) in
       e (omega arith)
 
--- ---- what the argument at a place adds
+-- ---- the summand of an argument at a place
 
--- digits that differ only at k, where those of g have 0
+-- digits f and g that differ only at k, at which g has 0
 pub digit-adds : (f g : ℕ → ℕ) (k : ℕ) → k < maxArity → g k ≡ 0 → ((j : ℕ) → (j ≡ k → ⊥) → f j ≡ g j) →
     digits f 0 maxArity 0 ≡ digits g 0 maxArity 0 + f k * 2 ^ (8 * (7 - k))
 digit-adds f g k h z same =
@@ -141,7 +141,7 @@ packed-put xs k x h l =
     (λ j d. getD-set-other xs k j x 0 d ∙ sym (getD-set-other xs k j 0 0 d))
     ∙ ap (λ y. packed (set xs k 0) + y * 2 ^ (8 * (7 - k))) (getD-set-same xs k x 0 h)
 
--- a transition with the slot's numbers but for the argument at its place is in the slot
+-- a transition with the slot's numbers, apart from the argument at its place, is in the slot
 pub slot-takes : {s : List ℕ} {n : ℕ} (z : Slot) (b : ℕ) (ys : List ℕ) → HoldsPadded s n → z .place < length ys →
     z .meta ≡ bytePairs * length ys + b → packed ys ≡ z .args + getD ys (z .place) 0 * 2 ^ (8 * (7 - z .place)) →
     Has (transitionsIn s n) b ys (z .out) → SlotTakes s n z (getD ys (z .place) 0)

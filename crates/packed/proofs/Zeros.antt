@@ -22,7 +22,7 @@ pad-shift arity prefix h l =
     let g : prefix * 2 ^ (8 * (8 - arity)) < 2 ^ 64 = rw e at (shl-lt {a = prefix} (8 * arity) (8 * (8 - arity)) l) in
     mod-eq-of-lt g
 
--- one digit more, and that it fits
+-- a number with one digit more is still within its bound
 pub digit-below : (k v w : ℕ) → v < 2 ^ (8 * k) → w < byteValues * v + byteValues → w < 2 ^ (8 * (k + 1))
 digit-below k v w h l =
     let e : k + 1 ≡ suc k = omega arith in
@@ -32,7 +32,7 @@ digit-below k v w h l =
 pub digits-room : (k v : ℕ) → k < maxArity → v < 2 ^ (8 * k) → v < 2 ^ 56
 digits-room k v h l = omega (arith, pow-mono {i = 8 * k} {j = 56} (omega arith))
 
--- the first n digits are all, if the others are 0
+-- if the digits from n on are 0, padding the first n gives all eight
 pub pad-digits : (f : ℕ → ℕ) (n : ℕ) → n ≤ maxArity → ((k : ℕ) → n ≤ k → k < maxArity → f k ≡ 0) →
     padTo n (digits f 0 n 0) ≡ digits f 0 maxArity 0
 pad-digits f n h z =

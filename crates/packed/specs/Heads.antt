@@ -1,5 +1,5 @@
--- Transitions as two numbers each: a head, which is child count, label and output, and packed arguments. They stand in
--- two lists, one of heads and one of arguments.
+-- Transitions as two numbers each: a head, which has child count, label and output, and packed arguments. There is
+-- one list of heads and one of packed arguments.
 use mathlib.Core.List.{List, map}
 use mathlib.Core.Path.{_≡_}
 use Prim.Native.Nat.{_%_, _*_, _+_, _-_, _/_, _<_, _^_, _≤_, ℕ}
@@ -26,7 +26,7 @@ headLabel h = headMeta h % bytePairs
 abbrev pub headArity : ℕ → ℕ
 headArity h = headMeta h / bytePairs
 
--- the transition that two numbers stand for
+-- the transition of a head and packed arguments
 abbrev pub packedTransition : ℕ → ℕ → Transition
 packedTransition h a = record {
   label = headLabel h;
@@ -41,7 +41,7 @@ nthPacked hs us i = packedTransition (getD hs i 0) (getD us i 0)
 unfoldable pub packedIn : List ℕ → List ℕ → ℕ → List Transition
 packedIn hs us n = map (nthPacked hs us) (upFrom 0 n)
 
--- the label and the child count fit a table, the arguments are not 0, and the places beyond them are
+-- the label and the child count fit a table, the arguments are not 0, and the places beyond them are 0
 pub record Packs (h a : ℕ) : Type 0 where
   pub label-some : 1 ≤ headLabel h
   pub label : headLabel h ≤ maxLabel
@@ -49,7 +49,7 @@ pub record Packs (h a : ℕ) : Type 0 where
   pub some : (k : ℕ) → k < headArity h → 1 ≤ placeOf a k
   pub rest : (k : ℕ) → headArity h ≤ k → k < maxArity → placeOf a k ≡ 0
 
--- the lists have room for as many transitions as each other, and for no more than a table has
+-- the two lists have the same length, at most that of a table's transitions
 pub record Room (hs us : List ℕ) : Type 0 where
   pub args : length us ≡ length hs
   pub few : length hs ≤ maxTransitions

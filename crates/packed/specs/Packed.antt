@@ -10,12 +10,12 @@ use Rattle.fields.specs.Fields.{HoldsTransitions}
 use Rattle.format.specs.Format.{bytePairs, byteValues, maxArity, transitionBytes}
 use Rattle.table.specs.Layout.{argOf, arityOf, labelOf, transitionsIn}
 
--- v, and after it the n numbers f k, f (k + 1), .. as digits to base 256
+-- v followed by the n digits f k, f (k + 1), .. to base 256
 abbrev pub digits : (ℕ → ℕ) → ℕ → ℕ → ℕ → ℕ
 digits f k zero v = v
 digits f k (suc n) v = digits f (suc k) n (byteValues * v + f k)
 
--- a number of so many digits with zeros after them, eight digits in all
+-- a number of n digits followed by zeros, eight digits in all
 abbrev pub padTo : ℕ → ℕ → ℕ
 padTo n v = v * 2 ^ (8 * (maxArity - n))
 
@@ -35,7 +35,7 @@ packedAt s at = digits (argOf s at) 0 maxArity 0
 abbrev pub metaAt : List ℕ → ℕ → ℕ
 metaAt s at = bytePairs * arityOf s at + labelOf s at
 
--- the numbers m and a of one transition are before n and b of another
+-- a transition with the numbers m and a comes before one with n and b
 abbrev pub before : ℕ → ℕ → ℕ → ℕ → Bool
 before m a n b = ltb m n || (eqb m n && ltb a b)
 
@@ -48,7 +48,7 @@ pub record Padded (s : List ℕ) (at : ℕ) : Type 0 where
   pub narrow : arityOf s at ≤ maxArity
   pub rest : (k : ℕ) → arityOf s at ≤ k → k < maxArity → argOf s at k ≡ 0
 
--- the run has n transitions that can be read as two numbers
+-- the bytes s hold n transitions that can be read as two numbers
 pub record HoldsPadded (s : List ℕ) (n : ℕ) : Type 0 where
   pub runs : HoldsTransitions s n
   pub each : (i : ℕ) → i < n → Padded s (transitionBytes * i)

@@ -1,4 +1,4 @@
--- What a search by two numbers answers.
+-- What a search by two numbers returns.
 use mathlib.Core.List.{List, _∷_}
 use mathlib.Core.Path.{_≡_}
 use Prim.Native.Nat.{_*_, _+_, _-_, _<_, _≤_, ℕ}
@@ -9,7 +9,7 @@ use Rattle.format.specs.Format.{AllBytes, bytePairs, maxArity}
 use Rattle.packed.specs.Packed.{packed}
 use Rattle.table.specs.Layout.{nthTransition}
 
--- the transition that is searched: its output is not known
+-- the transition that is searched for; its output is not known
 abbrev pub sought : ℕ → List ℕ → Transition
 sought b qs = record { label = b; args = qs; out = 0 }
 
@@ -30,7 +30,7 @@ pub record SoughtAt (s : List ℕ) (n b : ℕ) (qs : List ℕ) (r : ℕ) : Type 
   pub there : 1 ≤ r → key (nthTransition s (r - 1)) ≡ key (sought b qs)
   pub none : r ≡ 0 → (i : ℕ) → i < n → key (nthTransition s i) ≡ key (sought b qs) → ⊥
 
--- eight places for arguments, of which n are taken: every place beyond them is 0
+-- eight places for arguments; every place from n on is 0
 pub record Places (n : ℕ) (qs : List ℕ) : Type 0 where
   pub narrow : n ≤ maxArity
   pub beyond : (k : ℕ) → n ≤ k → getD qs k 0 ≡ 0

@@ -7,13 +7,14 @@ use Rattle.packed.specs.declared.slots.Slot.{Slot}
 use Rattle.packed.specs.Packed.{metaAt, packedAt}
 use Rattle.table.specs.Layout.{argOf, outOf}
 
--- transition i has the slot's numbers but for the argument at its place, and its output
+-- transition i is in the slot: apart from the argument at the slot's place it has the slot's numbers, and it has its
+-- output
 pub record InSlot (s : List ℕ) (z : Slot) (i : ℕ) : Type 0 where
   pub meta : metaAt s (transitionBytes * i) ≡ z .meta
   pub args : packedAt s (transitionBytes * i) ≡
       z .args + argOf s (transitionBytes * i) (z .place) * 2 ^ (8 * (7 - z .place))
   pub out : outOf s (transitionBytes * i) ≡ z .out
 
--- one of n transitions in the slot has the argument q at its place
+-- one of the n transitions is in the slot and has the argument q at the slot's place
 abbrev pub SlotTakes : List ℕ → ℕ → Slot → ℕ → Type 0
 SlotTakes s n z q = (i : ℕ) × (i < n) × InSlot s z i × (argOf s (transitionBytes * i) (z .place) ≡ q)

@@ -1,11 +1,11 @@
-// Numbers of fewer than eight digits to base 256, filled up with zeros.
+// Numbers of at most eight digits to base 256, padded with zeros to eight.
 ghost use mathlib.Core.Path.{_≡_};
 ghost use Prim.Native.Nat.{_*_, _<_, _^_, _≤_};
 ghost use Rattle.format.specs.Format.{maxArity};
 ghost use Rattle.packed.specs.Packed.{padTo};
 use format::MAX_ARITY;
 
-// A number of so many digits, with zeros after them up to eight digits.
+// A number of `arity` digits, followed by zeros up to eight digits.
 pub fn padded(prefix: u64, arity: usize) -> u64
     requires { ⌜ arity ≤ maxArity ⌝ }
     requires { ⌜ prefix < 2 ^ (8 * arity) ⌝ }

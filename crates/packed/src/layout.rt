@@ -1,5 +1,5 @@
 // Condition 7: every field of a table is in its range, and every byte that must be 0 is. The places beyond a
-// transition's arguments are looked at as one number.
+// transition's arguments are checked as one number.
 ghost use mathlib.Core.Path.{_≡_};
 ghost use Prim.Native.Nat.{_*_, _+_, _-_, _≤_, max};
 ghost use lib.ListN.{length};
@@ -33,8 +33,8 @@ fn greater(x: u8, y: u8) -> u8
     x
 }
 
-// Whether the bytes from one up to, not including, another are at most a bound. The greatest of them is found without
-// an early exit, so the loop takes 16 at a time: on small tables these are nearly all the bytes there are.
+// Whether the bytes from `from` on and below `end` are at most a bound. No early exit, so the loop vectorises. On
+// small tables nearly all bytes are checked here.
 fn at_most(transitions: &[u8], from: usize, end: usize, bound: u8) -> bool
     requires { ⌜ end ≤ length (now transitions) ⌝ }
     ensures { λ r. ⌜ r ≡ every (atMost (now (transitions .entry)) bound) (upFrom from (end - from)) ⌝ }
@@ -88,7 +88,7 @@ fn args_in_range(transitions: &[u8], states: usize, at: usize, arity: usize) -> 
     true
 }
 
-// Whether the places beyond the arguments are 0: they are what a shift over the arguments leaves.
+// Whether the places beyond the arguments are 0. Shifting the arguments out leaves these places.
 fn rest_empty(transitions: &[u8], at: usize, arity: usize) -> bool
     requires { ⌜ at + transitionBytes ≤ length (now transitions) ⌝ }
     requires { ⌜ arity ≤ maxArity ⌝ }
@@ -137,7 +137,7 @@ fn transitions_fit(transitions: &[u8], states: usize, count: usize) -> bool
     true
 }
 
-// Whether the bytes from one on are all 0.
+// Whether the bytes from `start` on are all 0.
 fn zeros_from(transitions: &[u8], start: usize) -> bool
     ensures { λ r. ⌜ r ≡ every (zeroAt (now (transitions .entry))) (upFrom start (length (now
         (transitions .entry)) - start)) ⌝ }

@@ -1,8 +1,8 @@
-// Transitions as two numbers, read from their bytes each time. Two transitions are compared by two comparisons of
+// Transitions as two numbers, read from their bytes each time. So comparing two transitions takes two comparisons of
 // numbers.
 mod layout; // condition 7
-mod filling; // digits filled up with zeros
-mod searching; // search by halves
+mod filling; // digits padded with zeros
+mod searching; // binary search
 mod slots; // transitions that differ in one argument
 
 ghost use mathlib.Core.Path.{_≡_};
@@ -40,8 +40,8 @@ fn with_arg(v: u64, transitions: &[u8], at: usize, k: usize) -> u64
     256 * v + q as u64
 }
 
-// The eight places for arguments of the transition that starts at a byte, the first the highest. Written out, the
-// bytes become one load and a byte swap; a loop does not.
+// The eight places for arguments of the transition that starts at a byte as one number, the first the highest.
+// Unrolled by hand, it compiles to one load and a byte swap; a loop does not.
 pub fn args_at(transitions: &[u8], at: usize) -> u64
     requires { ⌜ at + transitionBytes ≤ length (now transitions) ⌝ }
     ensures { λ r. ⌜ r ≡ packedAt (now (transitions .entry)) at ⌝ }
@@ -56,7 +56,8 @@ pub fn args_at(transitions: &[u8], at: usize) -> u64
     with_arg(v, transitions, at, 7)
 }
 
-// The child count and the label, the child count higher.
+// The child count and the label of the transition that starts at a byte as one number, the child count in the high
+// digits.
 pub fn meta_at(transitions: &[u8], at: usize) -> u64
     requires { ⌜ at + transitionBytes ≤ length (now transitions) ⌝ }
     ensures { λ r. ⌜ r ≡ metaAt (now (transitions .entry)) at ⌝ }

@@ -1,4 +1,4 @@
-// Search by halves over transitions that rise: a transition is compared by its two numbers.
+// Binary search in rising transitions, compared by their two numbers.
 ghost use mathlib.Core.Bool.{true};
 ghost use mathlib.Core.List.{List};
 ghost use mathlib.Core.Path.{_≡_};
@@ -86,7 +86,7 @@ pub fn pack(qs: [u8; MAX_ARITY]) -> u64
     with_digit(v, qs[7])
 }
 
-// The child count and the label as one number, the child count higher.
+// The child count and the label as one number, the child count in the high digits.
 pub fn meta_of(arity: usize, label: u16) -> u64
     requires { ⌜ arity ≤ maxArity ⌝ }
     ensures { λ r. ⌜ r ≡ bytePairs * arity + label ⌝ }

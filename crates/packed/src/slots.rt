@@ -1,5 +1,5 @@
-// Transitions that differ only in the argument at one place. They stand close together: a walk starts at the least that
-// there can be, and ends after the greatest.
+// Transitions that differ only in the argument at one place. A search finds them between the least and the greatest
+// that there can be.
 ghost use mathlib.Core.Bool.{false, true};
 ghost use mathlib.Core.Path.{_≡_};
 ghost use Prim.Native.Nat.{_*_, _+_, _-_, _<_, _^_, _≤_, ℕ};
@@ -21,7 +21,7 @@ pub struct Slot {
     pub out: usize,
 }
 
-// A slot without output says that there is none.
+// No slot: its output is 0.
 pub fn no_slot() -> Slot
     ensures { λ r. ⌜ r .place ≡ 0 ⌝ }
     ensures { λ r. ⌜ r .out ≡ 0 ⌝ }
@@ -34,7 +34,7 @@ pub fn no_slot() -> Slot
     }
 }
 
-// What the argument q at place k adds to packed arguments.
+// The argument q at place k as a summand of packed arguments.
 pub fn at_place(q: usize, k: usize) -> u64
     requires { ⌜ q < byteValues ⌝ }
     requires { ⌜ k < maxArity ⌝ }
@@ -82,7 +82,7 @@ fn is_in_slot(transitions: &[u8], count: usize, z: Slot, i: usize, meta: u64, ar
     args - z.args == at_place(q, z.place)
 }
 
-// The first transition from one on that is in the slot; `count` if there is none.
+// The first transition in the slot from `from` on; `count` if there is none.
 pub fn next_in_slot(transitions: &[u8], count: usize, z: Slot, from: usize) -> usize
     requires { ⌜ Searchable (now transitions) count ⌝ }
     requires { ⌜ z .place < maxArity ⌝ }
@@ -107,7 +107,7 @@ pub fn next_in_slot(transitions: &[u8], count: usize, z: Slot, from: usize) -> u
     count
 }
 
-// The first transition that is in the slot; `count` if there is none.
+// The first transition in the slot; `count` if there is none.
 pub fn first_in_slot(transitions: &[u8], count: usize, z: Slot) -> usize
     requires { ⌜ Searchable (now transitions) count ⌝ }
     requires { ⌜ z .place < maxArity ⌝ }

@@ -1,4 +1,4 @@
--- `packed::comes_before` meets its contract: the first number decides if it differs, the second else.
+-- `packed::comes_before` meets its contract: the first number decides if it differs, else the second.
 use Rattle.packed.proofs.Order.{higher-decides, lower-decides}
 use Rattle.packed.proofs.comes_before.Statement.{statement}
 use Rattle.packed.proofs.comes_before.Tie as tie

@@ -1,4 +1,4 @@
--- `packed::meta_at` meets its contract: two bytes.
+-- `packed::meta_at` meets its contract: the child count stands above the 16 bits of the label.
 use Prim.Native.Nat.{_+_}
 use native.Mathlib.Omega.{arith}
 use Rattle.format.specs.Format.{arityAt}

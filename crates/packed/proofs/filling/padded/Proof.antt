@@ -1,4 +1,4 @@
--- `packed::filling::padded` meets its contract: a number of so many digits does not overflow when it is shifted.
+-- `packed::filling::padded` meets its contract: shifting a number of `arity` digits does not overflow.
 use Rattle.packed.proofs.Zeros.{pad-none, pad-shift}
 use borrow.Author.Needs.{needs}
 use Rattle.packed.proofs.filling.padded.Statement.{statement}

@@ -1,4 +1,4 @@
--- `packed::layout::args_in_range` meets its contract: the answer is that of the arguments left.
+-- `packed::layout::args_in_range` meets its contract: in the loop the result is that for the arguments left.
 use mathlib.Core.Path.{_∙_, ap, sym}
 use Prim.Native.Nat.{_-_}
 use native.Mathlib.Omega.{arith}

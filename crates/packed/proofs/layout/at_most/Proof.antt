@@ -1,4 +1,5 @@
--- `packed::layout::at_most` meets its contract: what the greatest byte so far says, and the bytes left.
+-- `packed::layout::at_most` meets its contract: the bytes so far are at most `top`, and the bytes left are still to
+-- come.
 use mathlib.Core.Path.{refl}
 use Prim.Native.Nat.{_+_, _-_, _≤_}
 use native.Mathlib.Omega.{arith}

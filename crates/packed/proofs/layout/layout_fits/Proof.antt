@@ -1,4 +1,4 @@
--- `packed::layout::layout_fits` meets its contract: each return breaks the next test of the definition.
+-- `packed::layout::layout_fits` meets its contract: at each early return one test of the definition fails.
 use mathlib.Core.Path.{_∙_, sym}
 use native.Mathlib.Omega.{arith}
 use borrow.Author.Needs.{needs}

@@ -1,4 +1,5 @@
--- `packed::layout::rest_empty` meets its contract: without a place beyond there is nothing to see, else the shift says it.
+-- `packed::layout::rest_empty` meets its contract: with eight arguments there is no place beyond, else the shift
+-- decides.
 use mathlib.Core.Path.{_∙_, ap, sym}
 use Prim.Native.Nat.{_%_, _*_, _+_, _^_}
 use native.Mathlib.Omega.{arith}

@@ -1,4 +1,4 @@
--- `packed::layout::transition_fits` meets its contract: each return breaks the next test of the definition.
+-- `packed::layout::transition_fits` meets its contract: at each early return one test of the definition fails.
 use native.Mathlib.Omega.{arith}
 use borrow.Author.Tests.{not-false, not-true}
 use Rattle.packed.proofs.LayoutChecks.{broken-arg, broken-rest, many-args, no-label, out-decides}

@@ -1,4 +1,4 @@
--- `packed::layout::transitions_fit` meets its contract: the answer is that of the transitions left.
+-- `packed::layout::transitions_fit` meets its contract: in the loop the result is that for the transitions left.
 use mathlib.Core.Path.{_∙_, sym}
 use Prim.Native.Nat.{_-_}
 use native.Mathlib.Omega.{arith}

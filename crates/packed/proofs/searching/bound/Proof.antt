@@ -1,4 +1,4 @@
--- `packed::searching::bound` meets its contract: what is below `low` comes before, and nothing from `high` on does.
+-- `packed::searching::bound` meets its contract: transitions below `low` come before, and none from `high` on does.
 use Prim.Native.Nat.{_+_, _-_, _/_}
 use native.Mathlib.Omega.{arith}
 use Rattle.packed.proofs.Seeking.{BoundFrom, bound-down, bound-end, bound-start, bound-up}

@@ -1,4 +1,4 @@
--- `packed::searching::seek` meets its contract: a key that is not at the bound is nowhere.
+-- `packed::searching::seek` meets its contract: a transition with this key can only be at the bound.
 use native.Mathlib.Omega.{arith}
 use Rattle.packed.proofs.Seeking.{other-args, other-meta, sought-none, sought-there}
 use borrow.Author.Needs.{needs}

@@ -1,4 +1,5 @@
--- `packed::slots::first_in_slot` meets its contract: none is in the slot below the bound, and the walk starts there.
+-- `packed::slots::first_in_slot` meets its contract: none below the bound is in the slot, so the search starts at the
+-- bound.
 use native.Mathlib.Omega.{arith}
 use borrow.Author.Needs.{needs}
 use Rattle.packed.proofs.Walks.{walk-bound, walk-past}

@@ -1,4 +1,4 @@
--- `packed::slots::is_in_slot` meets its contract: each early return is a field that differs.
+-- `packed::slots::is_in_slot` meets its contract: at each early return a field differs.
 use mathlib.Core.Bool.{false≢true}
 use mathlib.Core.Path.{_∙_, sym}
 use native.Mathlib.Omega.{arith}

@@ -1,4 +1,5 @@
--- `packed::slots::next_in_slot` meets its contract: none was in the slot so far, and after one that is past it none is.
+-- `packed::slots::next_in_slot` meets its contract: none so far is in the slot, and after a transition past the slot
+-- none is.
 use Prim.Native.Nat.{_-_, _≤_}
 use native.Mathlib.Omega.{arith}
 use borrow.Author.Needs.{needs}
