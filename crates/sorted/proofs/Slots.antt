@@ -1,4 +1,4 @@
--- A transition's arguments, taken apart at a place.
+-- A transition's arguments, split at a place.
 use mathlib.Core.List.{List, [], _++_, _∷_, map}
 use mathlib.Core.Path.{_∙_, _≡_, ap, refl, sym}
 use Prim.Native.Nat.{_+_, _-_, _<_, suc, zero, ℕ}
@@ -45,7 +45,7 @@ args-put f k n q h =
     let after = map-upFrom (putAt f k q) f (k + 1) (n - (k + 1)) (λ i l m. put-other f k q i (λ z. omega arith)) in
     (rw a at around) ∙ (λ i. before i ++ (put-same f k q i ∷ after i))
 
--- lists of one length in front of others
+-- prefixes of the same length can be cancelled
 cancel : (xs ys us vs : List ℕ) → length xs ≡ length ys → xs ++ us ≡ ys ++ vs → (xs ≡ ys) × (us ≡ vs)
 cancel [] [] us vs h e = (refl, e)
 cancel [] (y ∷ ys) us vs h e = absurd (omega arith)
@@ -56,7 +56,7 @@ cancel (x ∷ xs) (y ∷ ys) us vs h e =
     let r = cancel xs ys us vs (omega arith) b in
     (cc (a, r .0), r .1)
 
--- a slot with the state that stands in it is a place of the transition
+-- a transition that is a slot filled with q has this slot and the argument q at one of its places
 pub slot-is : (s : List ℕ) (at q : ℕ) (z : Slot) → labelOf s at ≡ z .label →
     transitionAt s at .args ≡ z .before ++ (q ∷ z .after) →
     (length (z .before) < arityOf s at) × (slotAt s at (length (z .before)) ≡ z) × (argOf s at (length (z .before)) ≡ q)

@@ -1,4 +1,4 @@
--- What a transition gives with another state for one of its arguments, and with its own.
+-- The output of a transition with another state for one of its arguments, and with its own.
 use mathlib.Core.Bool.{false, true}
 use mathlib.Core.List.{List, [], _++_, _∷_}
 use mathlib.Core.Logic.{_≢_, _⊎_, inl, inr}
@@ -84,7 +84,7 @@ module _ (cl s : List ℕ) (n c : ℕ) where
   abbrev A : Automaton
   A = viewed cl s n c
 
-  -- a step that is taken is a transition with this argument at this place
+  -- a step to a state is that of a transition with this argument at this place
   abbrev pub Through : Slot → ℕ → Type 0
   Through z p = (i : ℕ) × (i < c) × (k : ℕ) × (k < arityOf s (transitionBytes * i)) ×
       (slotAt s (transitionBytes * i) k ≡ z) × (argOf s (transitionBytes * i) k ≡ p) ×

@@ -14,6 +14,6 @@ slotAt s at k = record {
   after = map (argOf s at) (upFrom (k + 1) (arityOf s at - (k + 1)));
 }
 
--- the state that the transition gives with q for argument k
+-- the output of the transition with q for argument k
 abbrev pub stepAt : List ℕ → ℕ → ℕ → ℕ → ℕ → ℕ
 stepAt s c at k q = stepSlot (viewed [] s 0 c) (slotAt s at k) q

@@ -1,4 +1,4 @@
-// The state that a transition gives with another state for one of its arguments.
+// The output of a transition with another state for one of its arguments.
 ghost use mathlib.Core.List.{_++_, _∷_};
 ghost use mathlib.Core.Path.{_≡_};
 ghost use Prim.Native.Nat.{_*_, _<_};
@@ -13,7 +13,7 @@ use fields::entry_at;
 use fields::put_arg;
 use format::TRANSITION_BYTES;
 
-// The output of the transition that is like the one at a byte, with q for its argument k; 0 for none.
+// The output of the transition that is the one at a byte with q for its argument k; 0 if there is none.
 fn replaced(transitions: &[u8], count: usize, at: usize, k: usize, q: u8) -> u8
     requires { ⌜ Sorted (now transitions) count ⌝ }
     requires { ⌜ Readable (now transitions) at ⌝ }
@@ -27,7 +27,7 @@ fn replaced(transitions: &[u8], count: usize, at: usize, k: usize, q: u8) -> u8
     output(transitions, count, entry)
 }
 
-// The same, if q may be 0: "no state" gives none.
+// The same for transition i, and 0 if q is 0, which is no state.
 pub fn stepped(transitions: &[u8], count: usize, n: usize, i: usize, k: usize, q: u8) -> u8
     requires { ⌜ Sorted (now transitions) count ⌝ }
     requires { ⌜ HoldsTransitionsOver (now transitions) count n ⌝ }

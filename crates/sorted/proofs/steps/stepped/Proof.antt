@@ -1,4 +1,4 @@
--- `sorted::steps::stepped` meets its contract: 0 gives none, any other state what the search gives.
+-- `sorted::steps::stepped` meets its contract: 0 for no state, else what the search finds.
 use Rattle.format.specs.Format.{transitionBytes}
 use mathlib.Core.Path.{_∙_, ap, sym}
 use Prim.Native.Nat.{_*_}
