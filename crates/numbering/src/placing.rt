@@ -28,8 +28,8 @@ fn later(most: usize, q: usize, numbers: &[u8; BYTE_VALUES]) -> usize
     q
 }
 
-// The greatest name among the arguments that has no number; 0 if each has one. Names of states come in the order of their
-// old numbers, so that a transition mostly waits for the argument that is numbered last. Places beyond the arguments are 0.
+// The greatest name among the arguments that has no number; 0 if each has one. Names of states are their old numbers,
+// so a transition mostly waits for the argument that is numbered last. Places beyond the arguments are 0.
 fn waits_on(args: u64, numbers: &[u8; BYTE_VALUES]) -> usize
     ensures { λ r. ⌜ r < byteValues ⌝ }
 {

@@ -1,5 +1,5 @@
-// Products over the arguments of transitions and their sums, from a number for each state. `transitions` has transition
-// i at byte 12 i. Every number stops at a cap, so none overflows.
+// Products over the arguments of transitions, and sums of these, from a number for each state. `transitions` has
+// transition i at byte 12 i. Every number stops at a cap, so none overflows.
 ghost use mathlib.Core.Bool.{true};
 ghost use mathlib.Core.Path.{_≡_};
 ghost use Prim.Native.Nat.{_+_, _<_, _≤_, min};

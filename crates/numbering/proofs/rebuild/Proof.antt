@@ -1,4 +1,5 @@
--- `numbering::rebuild` meets its contract: a table is written only if the order is right, and then it is the automaton's.
+-- `numbering::rebuild` meets its contract: a table is written only if the order is right, and it is then that of the
+-- automaton.
 use native.Mathlib.Omega.{arith}
 use borrow.Author.Tests.{not-false}
 use Rattle.numbering.proofs.Rebuilt.{rebuilt}
