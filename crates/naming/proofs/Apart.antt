@@ -1,6 +1,7 @@
--- What the names of its parents imply for a subtree. If some parent's name is no state, the subtree is like no state,
--- because every step is a state. If a parent's own name is unshared, the subtree is like no greater subtree, because
--- in the parent's frame that subtree would make another tree with the parent's name.
+-- What the names of its parents imply for a subtree. If some parent's name is a subtree's own name, the subtree is
+-- like no state and not like 0, because every step gives a state or 0. If a parent's own name is unshared, the
+-- subtree is like no greater subtree, because in the parent's frame that subtree would make another tree with the
+-- parent's name.
 use mathlib.Core.Bool.{Bool, Bool·beq, _&&_, false, true, true≢false}
 use mathlib.Core.List.{List, _++_, _∷_}
 use mathlib.Core.Logic.{_≢_}

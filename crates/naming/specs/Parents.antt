@@ -43,7 +43,7 @@ unfoldable pub anchors : ℕ → List ℕ → List ℕ → List ℕ → List ℕ
 anchors n r c names shared j i =
     eqb (getD names (i - 1) 0) (n + i) && (eqb (getD shared (i - 1) 0) 0 && isChild r c i j)
 
--- the name of subtree i is no state, and j is its child
+-- the name of subtree i is some subtree's own name, and j is its child
 unfoldable pub raises : ℕ → List ℕ → List ℕ → List ℕ → ℕ → ℕ → Bool
 raises n r c names j i = ltb n (getD names (i - 1) 0) && isChild r c i j
 

@@ -1,5 +1,6 @@
 // The first and the last parent of each subtree, and what the names of its parents imply. A child of a parent whose
-// own name is unshared gets its own name. A child of a parent whose name is no state gets no state as its name.
+// own name is unshared gets its own name. If a parent's name is some subtree's own name, the child can stand for no
+// state and not for 0.
 ghost use mathlib.Core.Path.{_≡_};
 ghost use Prim.Native.Nat.{_*_, _+_, _-_, _<_, _≤_};
 ghost use lib.ListN.{length};
@@ -156,7 +157,7 @@ pub fn anchored(
     false
 }
 
-// Whether subtree i is a parent of subtree j and its name is no state.
+// Whether subtree i is a parent of subtree j and its name is some subtree's own name.
 fn raises_child(
     n: usize,
     m: usize,
@@ -177,7 +178,7 @@ fn raises_child(
     is_child(m, arities, children, i, j)
 }
 
-// Whether the name of some parent of subtree j is no state.
+// Whether the name of some parent of subtree j is some subtree's own name.
 pub fn raised(
     n: usize,
     m: usize,

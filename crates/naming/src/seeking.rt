@@ -114,9 +114,9 @@ fn other_state(
     )
 }
 
-// A state, or 0, that subtree j is like; n + 1 if there is none. There is none if the name of some parent is no
-// state. The subtree's own state is tried first and then 0, because most subtrees keep their state or occur in no
-// tree any more.
+// A state, or 0, that subtree j is like; n + 1 if there is none. There is none if the name of some parent is a
+// subtree's own name. The subtree's own state is tried first and then 0, because most subtrees keep their state or
+// occur in no tree any more.
 pub fn find_state(
     table: &[u8],
     transitions: &[u8],

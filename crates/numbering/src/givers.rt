@@ -1,6 +1,6 @@
 // The few transitions that are placed first. The giver of a state is the transition that gave it its number in the
-// old table. Placed are the transitions made from givers, and all whose outputs have none of these. Mostly they
-// number every output. Nothing is proved of the choice.
+// old table. Placed are the transitions made from givers, and all into outputs that have no such transition. Mostly
+// they number every output. Nothing is proved of the choice.
 ghost use mathlib.Core.Path.{_≡_};
 ghost use Prim.Native.Nat.{_*_, _+_, _<_, _≤_};
 ghost use lib.ListN.{length};

@@ -1,3 +1,4 @@
+-- `alike::like_state` meets its contract: the class and the names in the frames, then the uses.
 use native.Mathlib.Omega.{arith}
 use Rattle.automata.specs.Alike.{framesOf, usesAgree}
 use Rattle.automata.specs.Automaton.{run}

@@ -1,3 +1,4 @@
+-- `alike::like_subtree` meets its contract: the class and the names in the frames, then the uses.
 use native.Mathlib.Omega.{arith}
 use mathlib.Core.List.{_++_}
 use Rattle.automata.specs.Alike.{framesOf, usesAgree}

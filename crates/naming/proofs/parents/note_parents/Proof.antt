@@ -1,6 +1,6 @@
+-- `naming::parents::note_parents` meets its contract: the parents before index `i` are noted.
 use lib.ListN.{length-replicate}
 use Rattle.lists.proofs.Intervals.{getD-zeros}
--- `naming::parents::note_parents` meets its contract: the parents before index `i` are noted.
 use Prim.Native.Nat.{_*_, _-_, _≤_, ℕ}
 use native.Mathlib.Omega.{arith}
 use Rattle.format.specs.Format.{maxArity, maxNodes}
