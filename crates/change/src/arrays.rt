@@ -1,5 +1,5 @@
-// The arrays that a change works in. Each is made by a function of its own, so that no other proof computes with
-// 1,024 numbers.
+// The arrays that a change works in. Each is made by a function of its own, so that no other proof computes with so
+// many numbers.
 use format::MAX_TRANSITIONS;
 
 // The length of small arrays. Most changes need no more, and clearing a longer array takes time.

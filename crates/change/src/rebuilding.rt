@@ -277,7 +277,7 @@ fn rebuild_small(
     )
 }
 
-// The same with arrays of 1,024 entries, enough for every table.
+// The same with arrays of length `MAX_TRANSITIONS`, enough for every table.
 fn rebuild_large(
     table: &mut [u8],
     count: usize,

@@ -100,7 +100,7 @@ module _ {A : Automaton} {t : Tree} {ts : List Tree} {S : Tree → Bool} {N : Tr
     each = λ p e. slot .takes s count A t ts S N sorted (holds .transitions) (holds-subtrees holds) X some p e;
   }
 
-  -- a state that the subtree is like is used as the state of the subtree is
+  -- a state that the subtree is like is used like the subtree's own state
   pub use-slotted : ((p : ℕ) →
       usesAgree A t (framesOf t (treeNumbered ts j)) (run A (treeNumbered ts j)) p ≡ true → SlotTakes s count z p) →
       StatesSlotted A t S ts s count N j z

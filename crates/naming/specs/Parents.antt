@@ -51,7 +51,7 @@ raises n r c names j i = ltb n (getD names (i - 1) 0) && isChild r c i j
 pub record Shared (n m j : ℕ) (names shared : List ℕ) : Type 0 where
   pub each : (x i : ℕ) → j < x → x ≤ m → 1 ≤ i → getD names (x - 1) 0 ≡ n + i → x ≢ i → getD shared (i - 1) 0 ≢ 0
 
--- the marks m' are m and a mark for subtree i, if subtree j has the own name of i and is not i
+-- m' keeps the marks of m, and subtree i is marked if subtree j has the own name of i and is not i
 pub record Marked (n j name : ℕ) (m m' : List ℕ) : Type 0 where
   pub kept : (i : ℕ) → getD m i 0 ≢ 0 → getD m' i 0 ≢ 0
   pub new : (i : ℕ) → 1 ≤ i → name ≡ n + i → j ≢ i → getD m' (i - 1) 0 ≢ 0

@@ -7,8 +7,7 @@ use Rattle.packed.specs.declared.slots.Slot.{Slot}
 use Rattle.packed.specs.Packed.{metaAt, packedAt}
 use Rattle.table.specs.Layout.{argOf, outOf}
 
--- transition i is in the slot: apart from the argument at the slot's place it has the slot's numbers, and it has its
--- output
+-- transition i is in the slot: it has the slot's output and, apart from the argument at the slot's place, its numbers
 pub record InSlot (s : List ℕ) (z : Slot) (i : ℕ) : Type 0 where
   pub meta : metaAt s (transitionBytes * i) ≡ z .meta
   pub args : packedAt s (transitionBytes * i) ≡

@@ -61,9 +61,9 @@ fn weigh(counts: &[u8; BYTE_VALUES], marks: &[u8; BYTE_VALUES], weights: &mut [u
     }
 }
 
-// Counts the pairs of an automaton and a tree. Returns whether the product has at most 3,072 transitions. `states`
-// has the states of the m subtrees. `opens` gets marks for the open states, `weights` the number of pairs of each
-// state. Both are lent, because an array that is returned is copied.
+// Counts the pairs of an automaton and a tree. Returns whether the product has at most `MAX_PRODUCT` transitions.
+// `states` has the states of the m subtrees. `opens` gets marks for the open states, `weights` the number of pairs of
+// each state. Both are lent, because an array that is returned is copied.
 pub fn count_pairs(
     transitions: &[u8],
     count: usize,

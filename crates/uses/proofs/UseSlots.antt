@@ -1,4 +1,4 @@
--- If a state is used as another is, it has the same output in each slot of the other that is not covered.
+-- If a state is used like another, it has the same output in each slot of the other that is not covered.
 use mathlib.Core.Bool.{false, true, true≢false}
 use mathlib.Core.List.{List, [], _++_, _∷_}
 use mathlib.Core.Logic.{_⊎_, inl, inr}

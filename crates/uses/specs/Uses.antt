@@ -92,11 +92,11 @@ transitionsAgree a s c p q = every (transitionAgrees a s c p q) (upFrom 0 c)
 abbrev pub neitherAt : List ℕ → ℕ → ℕ → ℕ → ℕ → Bool
 neitherAt s at p q k = not (eqb (argOf s at k) p) && not (eqb (argOf s at k) q)
 
--- b may be true for no reason, but if it is false some transition does not agree
+-- if b is false, some transition does not agree; if b is true, nothing is known
 pub record Hinted (a : Arrays) (s : List ℕ) (c p q : ℕ) (b : Bool) : Type 0 where
   pub refused : b ≡ false → transitionsAgree a s c p q ≡ false
 
--- if the slot z has an output, every state that is used as p is has that output in z
+-- if the slot z has an output, every state that is used like p has that output in z
 pub record SlotUsed (a : Arrays) (s : List ℕ) (c p : ℕ) (z : Slot) : Type 0 where
   pub place : z .place < maxArity
   pub takes : 1 ≤ z .out → (q : ℕ) → transitionsAgree a s c p q ≡ true → SlotTakes s c z q

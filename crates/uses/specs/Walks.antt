@@ -36,7 +36,7 @@ pub record NextUse (s : List ℕ) (k p from to i : ℕ) : Type 0 where
 pub record Met (a : Arrays) (s : List ℕ) (c k p q i : ℕ) : Type 0 where
   pub each : (y : ℕ) → y < i → argOf s (transitionBytes * y) k ≡ p → swapAgrees a s c (transitionBytes * y) k q ≡ true
 
--- so does each use of p before i, and each use of q before x with p in its place
+-- each use of p before i agrees with q in its place, and each use of q before x with p in its place
 pub record Walked (a : Arrays) (s : List ℕ) (c k p q i x : ℕ) : Type 0 where
   pub first : Met a s c k p q i
   pub second : Met a s c k q p x

@@ -154,7 +154,7 @@ fn uses_agree(
     )
 }
 
-// The same for the state of subtree j and a q, but for the slots that the frames of j cover.
+// The same for the state of subtree j and q, but for the slots that the frames of j cover.
 pub fn state_uses_agree(
     transitions: &[u8],
     count: usize,

@@ -105,7 +105,7 @@ fn place_slot(
     slot_at(transitions, count, i, k, p)
 }
 
-// That of the first place of transition i that gives one.
+// The slot of the first place of transition i that gives one.
 fn transition_slot(
     transitions: &[u8],
     count: usize,
