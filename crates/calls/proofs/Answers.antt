@@ -1,8 +1,9 @@
 -- Each call gives an answer of its kind, and no two answers of a kind have one number.
 use mathlib.Core.Bool.{Bool, cond, false, true}
 use mathlib.Core.List.{List, [], _++_, _∷_}
-use mathlib.Core.Path.{_≡_, ap, ap₂, refl}
-use Prim.Native.Nat.{_≤_, ℕ}
+use mathlib.Core.Logic.{_⊎_, inl, inr}
+use mathlib.Core.Path.{_∙_, _≡_, ap, ap₂, refl, subst, sym}
+use Prim.Native.Nat.{_*_, _+_, _<_, _≤_, ℕ}
 use native.Mathlib.Omega.{arith}
 use lib.Dec.{eqb, leb, ltb}
 use lib.ListN.{length}
@@ -11,8 +12,8 @@ use Rattle.automata.specs.Automaton.{Automaton, accepts, run, states}
 use Rattle.automata.specs.Ranks.{rank, unrank}
 use Rattle.automata.specs.Stops.{stopPlace}
 use Rattle.automata.specs.Totals.{total}
-use Rattle.calls.specs.Answers.{CallKind, Gives, RefusalNumber, TableCounts, answerNumber, asking, changing}
-use Rattle.calls.specs.Answers.{numberAfter, ranking, taking, totalling, unranking}
+use Rattle.calls.specs.Answers.{CallKind, Counted, Gives, Numbered, Refusal, RefusalNumber, Stopped}
+use Rattle.calls.specs.Answers.{answerNumber, asking, changing, countsNumber, numberAfter, ranking, taking, totalling, unranking}
 use Rattle.calls.specs.Calls.{Change, acceptedWith, addResult, askAnswer, askRefusal, asked, bufferCondition}
 use Rattle.calls.specs.Calls.{changeRefusal, changeResult, changed, delete, doneWith, earlyConditions, insert}
 use Rattle.calls.specs.Calls.{intakeAnswer, numberConditions, outcome, rankAnswer, ranked, refusedOr}
@@ -41,13 +42,13 @@ use Rattle.trees.proofs.Preorder.{passed-nodes}
 -- ---- what a call gives
 
 -- a refusal of 1 to 20, or what is given if nothing is refused
-refused-gives : (x : CallKind) (r : ℕ) (a : Answer) → r ≤ 20 → ((k : ℕ) → RefusalNumber k → Gives x (Refused k)) →
+refused-gives : (x : CallKind) (r : ℕ) (a : Answer) → r ≤ 20 → ((b : Answer) → Refusal b → Gives x b) →
     (r ≡ 0 → Gives x a) → Gives x (refusedOr r a)
 refused-gives x r a h refuse give = go (eqb r 0) refl
   where
     go : (t : Bool) → eqb r 0 ≡ t → Gives x (cond t a (Refused r))
     go true e = give (eqb-true r 0 e)
-    go false e = refuse r (omega (arith, eqb-false r 0 e), h)
+    go false e = refuse (Refused r) (record { number = r; within = (omega (arith, eqb-false r 0 e), h); answer = refl })
 
 table-at-most : (b : List ℕ) → AtMost 20 (lengthCondition b ∷ contentConditions b)
 unfolding contentConditions automatonConditions
@@ -58,9 +59,13 @@ unfolding asked
 asked-gives A t h = go (accepts A t) (eqb (run A t) 0) refl
   where
     go : (b c : Bool) → eqb (run A t) 0 ≡ c → Gives asking (cond b Approved (cond c (NotAt (stopPlace A t)) NotPart))
-    go true c e = tt
-    go false true e = (run-stopped A t (eqb-true (run A t) 0 e), omega (arith, stop-within A t))
-    go false false e = tt
+    go true c e = inl refl
+    go false true e = inr (inr (inl (record {
+      place = stopPlace A t;
+      within = (run-stopped A t (eqb-true (run A t) 0 e), omega (arith, stop-within A t));
+      answer = refl;
+    })))
+    go false false e = inr (inl refl)
 
 ask-at-most : (s b : List ℕ) → askRefusal s b ≤ 20
 unfolding askRefusal listingConditions
@@ -71,24 +76,30 @@ ask-at-most s b =
 pub ask-gives : (s b : List ℕ) → Gives asking (askAnswer s b)
 unfolding askAnswer
 ask-gives s b =
-    refused-gives asking (askRefusal s b) (asked (decode b) (readTree s)) (ask-at-most s b) (λ k h. h) (λ z. asked-gives (decode b) (readTree s) (passed-nodes s (ask-passed s b z .0)))
+    refused-gives asking (askRefusal s b) (asked (decode b) (readTree s)) (ask-at-most s b) (λ a h. inr (inr (inr h)))
+    (λ z. asked-gives (decode b) (readTree s) (passed-nodes s (ask-passed s b z .0)))
 
 pub intake-gives : (b : List ℕ) → Gives taking (intakeAnswer b)
 unfolding intakeAnswer tableRefusal
 intake-gives b =
     refused-gives taking (tableRefusal b) (acceptedWith (decode b))
-    (broken-at-most 20 (lengthCondition b ∷ contentConditions b) (table-at-most b)) (λ k h. h)
+    (broken-at-most 20 (lengthCondition b ∷ contentConditions b) (table-at-most b)) (λ a h. inr h)
     (λ z.
     let l = layout-laid b (unrefused-passes b z .layout) in
-    (omega (arith, decoded-states b, l .states), omega (arith, decoded-count b, l .count)))
+    inl (record {
+      states = states (decode b);
+      transitions = length (decode b .transitions);
+      within = (omega (arith, decoded-states b, l .states), omega (arith, decoded-count b, l .count));
+      answer = refl;
+    }))
 
 totalled-gives : (n : ℕ) → Gives totalling (totalled n)
 unfolding totalled
 totalled-gives n = go (ltb n numberLimit) refl
   where
     go : (t : Bool) → ltb n numberLimit ≡ t → Gives totalling (cond t (Total n) Over)
-    go true e = ltb-true n numberLimit e
-    go false e = tt
+    go true e = inl (record { number = n; within = ltb-true n numberLimit e; answer = refl })
+    go false e = inr (inl refl)
 
 -- the numbers of trees are below the total
 ranked-gives : (b : List ℕ) (t : Tree) → tableRefusal b ≡ 0 → length (preorder t) ≤ maxNodes →
@@ -100,21 +111,21 @@ ranked-gives b t z h = go (accepts A t) refl (ltb (total A) numberLimit) refl
     A = decode b
 
     other : (a : Answer) → Gives asking a → (a ≡ Approved → ⊥) → Gives ranking a
-    other Approved g n = absurd (n refl)
-    other NotPart g n = tt
-    other (NotAt k) g n = g
-    other (Refused k) g n = g
+    other a (inl e) n = absurd (n e)
+    other a (inr g) n = inr g
 
     go : (x : Bool) → accepts A t ≡ x → (y : Bool) → ltb (total A) numberLimit ≡ y →
         Gives ranking (cond x (cond y (Serial (rank A t)) (Refused 18)) (asked A t))
-    go true e true l = omega (arith, ltb-true (total A) numberLimit l, passed-rank-less b z t e)
-    go true e false l = (omega arith, omega arith)
+    go true e true l =
+        let less : rank A t < numberLimit = omega (arith, ltb-true (total A) numberLimit l, passed-rank-less b z t e) in
+        inl (record { number = rank A t; within = less; answer = refl })
+    go true e false l = inr (inr (inr (record { number = 18; within = (omega arith, omega arith); answer = refl })))
     go false e y l = other (asked A t) (asked-gives A t h) (unapproved A t e)
 
 pub rank-gives : (s b : List ℕ) → Gives ranking (rankAnswer s b)
 unfolding rankAnswer
 rank-gives s b =
-    refused-gives ranking (askRefusal s b) (ranked (decode b) (readTree s)) (ask-at-most s b) (λ k h. h)
+    refused-gives ranking (askRefusal s b) (ranked (decode b) (readTree s)) (ask-at-most s b) (λ a h. inr (inr (inr h)))
     (λ z. let (p, q) = ask-passed s b z in ranked-gives b (readTree s) q (passed-nodes s p))
 
 pub unrank-gives : (k : ℕ) (b l : List ℕ) → Gives unranking (unrankResult k b l .answer)
@@ -123,7 +134,7 @@ unrank-gives k b l =
     refused-gives unranking (unrankRefusal k b l) Finished
     (broken-at-most 20 (lengthCondition b ∷ bufferCondition l ∷ (contentConditions b ++ last))
     (omega arith, (omega arith, at-most-append 20 (contentConditions b) last (table-at-most b .1) (omega arith))))
-    (λ k h. h) (λ z. tt)
+    (λ a h. inr h) (λ z. inl refl)
   where
     last : List Condition
     last = numberConditions (total (decode b)) k (unrank (decode b) k)
@@ -132,16 +143,20 @@ pub total-gives : (b : List ℕ) → Gives totalling (totalAnswer b)
 unfolding totalAnswer tableRefusal
 total-gives b =
     refused-gives totalling (tableRefusal b) (totalled (total (decode b)))
-    (broken-at-most 20 (lengthCondition b ∷ contentConditions b) (table-at-most b)) (λ k h. h)
+    (broken-at-most 20 (lengthCondition b ∷ contentConditions b) (table-at-most b)) (λ a h. inr (inr h))
     (λ z. totalled-gives (total (decode b)))
 
 -- the numbers of an automaton that fits a table
-fits-counts : (A : Automaton) → fitsTable A ≡ true → TableCounts (states A) (length (A .transitions))
-fits-counts A f = (
-  leb-true (states A) maxStates (and-left _ _ f),
-  leb-true (length (A .transitions)) maxTransitions (and-right
-      (leb (states A) maxStates) _ f),
-)
+fits-counts : (A : Automaton) → fitsTable A ≡ true → Counted Done (doneWith A)
+fits-counts A f = record {
+  states = states A;
+  transitions = length (A .transitions);
+  within = (
+    leb-true (states A) maxStates (and-left _ _ f),
+    leb-true (length (A .transitions)) maxTransitions (and-right (leb (states A) maxStates) _ f),
+  );
+  answer = refl;
+}
 
 at-most-more : (cs : List Condition) → AtMost 15 cs → AtMost 20 cs
 at-most-more [] h = tt
@@ -154,7 +169,7 @@ change-gives c s b w =
     (broken-at-most 20 (earlyConditions c s b w ++ sizeConditions c (decode b))
     (at-most-append 20 (earlyConditions c s b w) (sizeConditions c (decode b))
     (at-most-more (earlyConditions c s b w) (early-at-most c s b w)) (omega arith)))
-    (λ k h. h) (λ z. fits-counts (changed c (decode b)) (change-passed c s b w z .1))
+    (λ a h. inr h) (λ z. inl (fits-counts (changed c (decode b)) (change-passed c s b w z .1)))
 
 pub add-gives : (s b w : List ℕ) → Gives changing (addResult s b w .answer)
 unfolding addResult
@@ -166,61 +181,115 @@ remove-gives s b w = change-gives (delete (readTree s)) s b w
 
 -- ---- numbers
 
+-- answers of the form P are known by their numbers, which are all in R
+record Known (P : Answer → Type 0) (R : ℕ → Type 0) : Type 0 where
+  number : (a : Answer) → P a → R (answerNumber a)
+  same : (a b : Answer) → P a → P b → answerNumber a ≡ answerNumber b →
+      ((k : ℕ) → numberAfter a k ≡ numberAfter b k) → a ≡ b
+
+-- two forms whose numbers differ are one
+either : {P Q : Answer → Type 0} {R T : ℕ → Type 0} → Known P R → Known Q T → ((n : ℕ) → R n → T n → ⊥) →
+    Known (λ a. P a ⊎ Q a) (λ n. R n ⊎ T n)
+either {P} {Q} {R} {T} p q apart = record { number = number; same = same }
+  where
+    number : (a : Answer) → P a ⊎ Q a → R (answerNumber a) ⊎ T (answerNumber a)
+    number a (inl g) = inl (p .number a g)
+    number a (inr g) = inr (q .number a g)
+
+    same : (a b : Answer) → P a ⊎ Q a → P b ⊎ Q b → answerNumber a ≡ answerNumber b →
+        ((k : ℕ) → numberAfter a k ≡ numberAfter b k) → a ≡ b
+    same a b (inl g) (inl h) e w = p .same a b g h e w
+    same a b (inl g) (inr h) e w = absurd (apart (answerNumber a) (p .number a g) (subst T (sym e) (q .number b h)))
+    same a b (inr g) (inl h) e w = absurd (apart (answerNumber b) (p .number b h) (subst T e (q .number a g)))
+    same a b (inr g) (inr h) e w = q .same a b g h e w
+
+one : (c : Answer) → Known (λ a. a ≡ c) (λ n. n ≡ answerNumber c)
+one c = record { number = λ a g. ap answerNumber g; same = λ a b g h e w. g ∙ sym h }
+
+refusals : Known Refusal RefusalNumber
+refusals = record {
+  number = λ a g. subst RefusalNumber (sym (ap answerNumber (g .answer))) (g .within);
+  same = λ a b g h e w.
+      g .answer ∙ ap Refused (sym (ap answerNumber (g .answer)) ∙ e ∙ ap answerNumber (h .answer)) ∙ sym (h .answer);
+}
+
+stops : Known Stopped (λ n. 65536 ≤ n)
+stops = record {
+  number = λ a g. omega (arith, ap answerNumber (g .answer), g .within .0);
+  same = λ a b g h e w.
+      let places : g .place ≡ h .place = omega (arith, e, ap answerNumber (g .answer), ap answerNumber (h .answer)) in
+      g .answer ∙ ap NotAt places ∙ sym (h .answer);
+}
+
+-- a number that has no refusal and no kind in it
+record Counts (n : ℕ) : Type 0 where
+  high : ℕ
+  equal : n ≡ 65536 * high
+
+counts : (f : ℕ → ℕ → Answer) → ((n m : ℕ) → answerNumber (f n m) ≡ countsNumber n m) → Known (Counted f) Counts
+counts f counted = record {
+  number = λ a g. record { high = g .states + 65536 * g .transitions; equal = omega (arith, counted-as a g) };
+  same = λ a b g h e w.
+      let numbers : countsNumber (g .states) (g .transitions) ≡ countsNumber (h .states) (h .transitions) =
+      sym (counted-as a g) ∙ e ∙ counted-as b h in
+      let transitions : g .transitions ≡ h .transitions = omega (arith, numbers, g .within .0, h .within .0) in
+      let states : g .states ≡ h .states = omega (arith, numbers, transitions) in
+      g .answer ∙ ap₂ f states transitions ∙ sym (h .answer);
+}
+  where
+    counted-as : (a : Answer) (g : Counted f a) → answerNumber a ≡ countsNumber (g .states) (g .transitions)
+    counted-as a g = ap answerNumber (g .answer) ∙ counted (g .states) (g .transitions)
+
+-- the number beside the answer tells these apart
+numbers : (f : ℕ → Answer) (m : ℕ) → ((n : ℕ) → answerNumber (f n) ≡ m) → ((n : ℕ) → numberAfter (f n) 0 ≡ n) →
+    Known (Numbered f) (λ n. n ≡ m)
+numbers f m known after = record {
+  number = λ a g. ap answerNumber (g .answer) ∙ known (g .number);
+  same = λ a b g h e w.
+      g .answer ∙ ap f (sym (after-as a g) ∙ w 0 ∙ after-as b h) ∙ sym (h .answer);
+}
+  where
+    after-as : (a : Answer) (g : Numbered f a) → numberAfter a 0 ≡ g .number
+    after-as a g = ap (λ (c : Answer). numberAfter c 0) (g .answer) ∙ after (g .number)
+
+-- a stop or a refusal
+abbrev Stopping : ℕ → Type 0
+Stopping n = (65536 ≤ n) ⊎ RefusalNumber n
+
+stopping : Known (λ a. Stopped a ⊎ Refusal a) Stopping
+stopping = either stops refusals (λ n x y. omega (arith, x, y .1))
+
+-- not approved, or a refusal
+abbrev Unapproved : ℕ → Type 0
+Unapproved n = (n ≡ 512) ⊎ Stopping n
+
+refused-otherwise : Known (λ a. (a ≡ NotPart) ⊎ (Stopped a ⊎ Refusal a)) Unapproved
+refused-otherwise = either (one NotPart) stopping apart
+  where
+    apart : (n : ℕ) → n ≡ 512 → Stopping n → ⊥
+    apart n x (inl y) = omega (arith, x, y)
+    apart n x (inr y) = omega (arith, x, y .1)
+
+-- an approved tree has 256, with its number beside it or not
+not-256 : (n : ℕ) → n ≡ 256 → Unapproved n → ⊥
+not-256 n x (inl y) = omega (arith, x, y)
+not-256 n x (inr (inl y)) = omega (arith, x, y)
+not-256 n x (inr (inr y)) = omega (arith, x, y .1)
+
 -- no two answers of a kind of call give a host the same numbers
 pub answer-injective : (x : CallKind) (a b : Answer) → Gives x a → Gives x b → answerNumber a ≡ answerNumber b →
     ((k : ℕ) → numberAfter a k ≡ numberAfter b k) → a ≡ b
-answer-injective asking Approved Approved g h e w = refl
-answer-injective asking Approved NotPart g h e w = absurd (omega arith)
-answer-injective asking Approved (NotAt k) g h e w = absurd (omega (arith, e))
-answer-injective asking Approved (Refused k) g h e w = absurd (omega (arith, e, h .1))
-answer-injective asking NotPart Approved g h e w = absurd (omega arith)
-answer-injective asking NotPart NotPart g h e w = refl
-answer-injective asking NotPart (NotAt k) g h e w = absurd (omega (arith, e))
-answer-injective asking NotPart (Refused k) g h e w = absurd (omega (arith, e, h .1))
-answer-injective asking (NotAt j) Approved g h e w = absurd (omega (arith, e))
-answer-injective asking (NotAt j) NotPart g h e w = absurd (omega (arith, e))
-answer-injective asking (NotAt j) (NotAt k) g h e w = ap NotAt (omega (arith, e))
-answer-injective asking (NotAt j) (Refused k) g h e w = absurd (omega (arith, e, g .0, h .1))
-answer-injective asking (Refused j) Approved g h e w = absurd (omega (arith, e, g .1))
-answer-injective asking (Refused j) NotPart g h e w = absurd (omega (arith, e, g .1))
-answer-injective asking (Refused j) (NotAt k) g h e w = absurd (omega (arith, e, g .1, h .0))
-answer-injective asking (Refused j) (Refused k) g h e w = ap Refused e
-answer-injective taking (Accepted n m) (Accepted j k) g h e w =
-    let y : m ≡ k = omega (arith, e, g .0, h .0) in ap₂ Accepted (omega (arith, e, y)) y
-answer-injective taking (Accepted n m) (Refused k) g h e w = absurd (omega (arith, e, g .0, h .0, h .1))
-answer-injective taking (Refused k) (Accepted n m) g h e w = absurd (omega (arith, e, h .0, g .0, g .1))
-answer-injective taking (Refused j) (Refused k) g h e w = ap Refused e
-answer-injective changing (Done n m) (Done j k) g h e w =
-    let y : m ≡ k = omega (arith, e, g .0, h .0) in ap₂ Done (omega (arith, e, y)) y
-answer-injective changing (Done n m) (Refused k) g h e w = absurd (omega (arith, e, g .0, h .0, h .1))
-answer-injective changing (Refused k) (Done n m) g h e w = absurd (omega (arith, e, h .0, g .0, g .1))
-answer-injective changing (Refused j) (Refused k) g h e w = ap Refused e
-answer-injective totalling (Total n) (Total m) g h e w = ap Total (w 0)
-answer-injective totalling (Total n) Over g h e w = absurd (omega arith)
-answer-injective totalling (Total n) (Refused k) g h e w = absurd (omega (arith, e, h .0))
-answer-injective totalling Over (Total n) g h e w = absurd (omega arith)
-answer-injective totalling Over Over g h e w = refl
-answer-injective totalling Over (Refused k) g h e w = absurd (omega (arith, e, h .1))
-answer-injective totalling (Refused j) (Total n) g h e w = absurd (omega (arith, e, g .0))
-answer-injective totalling (Refused j) Over g h e w = absurd (omega (arith, e, g .1))
-answer-injective totalling (Refused j) (Refused k) g h e w = ap Refused e
-answer-injective ranking NotPart NotPart g h e w = refl
-answer-injective ranking NotPart (NotAt k) g h e w = absurd (omega (arith, e))
-answer-injective ranking NotPart (Serial k) g h e w = absurd (omega arith)
-answer-injective ranking NotPart (Refused k) g h e w = absurd (omega (arith, e, h .1))
-answer-injective ranking (NotAt j) NotPart g h e w = absurd (omega (arith, e))
-answer-injective ranking (NotAt j) (NotAt k) g h e w = ap NotAt (omega (arith, e))
-answer-injective ranking (NotAt j) (Serial k) g h e w = absurd (omega (arith, e))
-answer-injective ranking (NotAt j) (Refused k) g h e w = absurd (omega (arith, e, g .0, h .1))
-answer-injective ranking (Serial j) NotPart g h e w = absurd (omega arith)
-answer-injective ranking (Serial j) (NotAt k) g h e w = absurd (omega (arith, e))
-answer-injective ranking (Serial j) (Serial k) g h e w = ap Serial (w 0)
-answer-injective ranking (Serial j) (Refused k) g h e w = absurd (omega (arith, e, h .1))
-answer-injective ranking (Refused j) NotPart g h e w = absurd (omega (arith, e, g .1))
-answer-injective ranking (Refused j) (NotAt k) g h e w = absurd (omega (arith, e, g .1, h .0))
-answer-injective ranking (Refused j) (Serial k) g h e w = absurd (omega (arith, e, g .1))
-answer-injective ranking (Refused j) (Refused k) g h e w = ap Refused e
-answer-injective unranking Finished Finished g h e w = refl
-answer-injective unranking Finished (Refused k) g h e w = absurd (omega (arith, e, h .0))
-answer-injective unranking (Refused j) Finished g h e w = absurd (omega (arith, e, g .0))
-answer-injective unranking (Refused j) (Refused k) g h e w = ap Refused e
+answer-injective asking = either (one Approved) refused-otherwise not-256 .same
+answer-injective taking =
+    either (counts Accepted (λ n m. refl)) refusals (λ n x y. omega (arith, x .equal, y .0, y .1)) .same
+answer-injective changing =
+    either (counts Done (λ n m. refl)) refusals (λ n x y. omega (arith, x .equal, y .0, y .1)) .same
+answer-injective totalling =
+    either (numbers Total 0 (λ n. refl) (λ n. refl)) (either (one Over) refusals (λ n x y. omega (arith, x, y .1)))
+    apart .same
+  where
+    apart : (n : ℕ) → n ≡ 0 → (n ≡ 256) ⊎ RefusalNumber n → ⊥
+    apart n x (inl y) = omega (arith, x, y)
+    apart n x (inr y) = omega (arith, x, y .0)
+answer-injective ranking = either (numbers Serial 256 (λ n. refl) (λ n. refl)) refused-otherwise not-256 .same
+answer-injective unranking = either (one Finished) refusals (λ n x y. omega (arith, x, y .0)) .same

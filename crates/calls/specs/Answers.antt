@@ -1,4 +1,6 @@
 -- The answers that each kind of call can give, and the numbers that a C host gets for each.
+use mathlib.Core.Logic.{_⊎_}
+use mathlib.Core.Path.{_≡_}
 use Prim.Native.Nat.{_*_, _+_, _<_, _≤_, ℕ}
 use Rattle.calls.specs.declared.Answer.{Answer}
 use Rattle.calls.specs.declared.Answer.the-variants.{Accepted, Approved, Done, Finished, NotAt, NotPart, Over}
@@ -13,76 +15,39 @@ pub data CallKind : Type 0 where
 abbrev pub RefusalNumber : ℕ → Type 0
 RefusalNumber k = (1 ≤ k) × (k ≤ 20)
 
--- a table holds so many states and transitions
-abbrev pub TableCounts : ℕ → ℕ → Type 0
-TableCounts n m = (n ≤ maxStates) × (m ≤ maxTransitions)
+-- a refusal, by its number
+pub record Refusal (a : Answer) : Type 0 where
+  pub number : ℕ
+  pub within : RefusalNumber number
+  pub answer : a ≡ Refused number
 
--- a listing has so many places
-abbrev pub PlaceNumber : ℕ → Type 0
-PlaceNumber k = (1 ≤ k) × (k ≤ maxNodes)
+-- not approved, with a place of a listing
+pub record Stopped (a : Answer) : Type 0 where
+  pub place : ℕ
+  pub within : (1 ≤ place) × (place ≤ maxNodes)
+  pub answer : a ≡ NotAt place
 
--- a call of this kind can give this answer
+-- accepted or done, with numbers of states and of transitions that a table can hold
+pub record Counted (answer-of : ℕ → ℕ → Answer) (a : Answer) : Type 0 where
+  pub states : ℕ
+  pub transitions : ℕ
+  pub within : (states ≤ maxStates) × (transitions ≤ maxTransitions)
+  pub answer : a ≡ answer-of states transitions
+
+-- a total, or the number of a tree, that fits 64 bits
+pub record Numbered (answer-of : ℕ → Answer) (a : Answer) : Type 0 where
+  pub number : ℕ
+  pub within : number < numberLimit
+  pub answer : a ≡ answer-of number
+
+-- the answers of each kind of call
 abbrev pub Gives : CallKind → Answer → Type 0
-Gives asking Approved = Unit {0}
-Gives asking NotPart = Unit {0}
-Gives asking (NotAt k) = PlaceNumber k
-Gives asking (Accepted n m) = ⊥
-Gives asking (Done n m) = ⊥
-Gives asking (Total n) = ⊥
-Gives asking Over = ⊥
-Gives asking (Serial n) = ⊥
-Gives asking Finished = ⊥
-Gives asking (Refused k) = RefusalNumber k
-Gives taking Approved = ⊥
-Gives taking NotPart = ⊥
-Gives taking (NotAt k) = ⊥
-Gives taking (Accepted n m) = TableCounts n m
-Gives taking (Done n m) = ⊥
-Gives taking (Total n) = ⊥
-Gives taking Over = ⊥
-Gives taking (Serial n) = ⊥
-Gives taking Finished = ⊥
-Gives taking (Refused k) = RefusalNumber k
-Gives changing Approved = ⊥
-Gives changing NotPart = ⊥
-Gives changing (NotAt k) = ⊥
-Gives changing (Accepted n m) = ⊥
-Gives changing (Done n m) = TableCounts n m
-Gives changing (Total n) = ⊥
-Gives changing Over = ⊥
-Gives changing (Serial n) = ⊥
-Gives changing Finished = ⊥
-Gives changing (Refused k) = RefusalNumber k
-Gives totalling Approved = ⊥
-Gives totalling NotPart = ⊥
-Gives totalling (NotAt k) = ⊥
-Gives totalling (Accepted n m) = ⊥
-Gives totalling (Done n m) = ⊥
-Gives totalling (Total n) = n < numberLimit
-Gives totalling Over = Unit {0}
-Gives totalling (Serial n) = ⊥
-Gives totalling Finished = ⊥
-Gives totalling (Refused k) = RefusalNumber k
-Gives ranking Approved = ⊥
-Gives ranking NotPart = Unit {0}
-Gives ranking (NotAt k) = PlaceNumber k
-Gives ranking (Accepted n m) = ⊥
-Gives ranking (Done n m) = ⊥
-Gives ranking (Total n) = ⊥
-Gives ranking Over = ⊥
-Gives ranking (Serial n) = n < numberLimit
-Gives ranking Finished = ⊥
-Gives ranking (Refused k) = RefusalNumber k
-Gives unranking Approved = ⊥
-Gives unranking NotPart = ⊥
-Gives unranking (NotAt k) = ⊥
-Gives unranking (Accepted n m) = ⊥
-Gives unranking (Done n m) = ⊥
-Gives unranking (Total n) = ⊥
-Gives unranking Over = ⊥
-Gives unranking (Serial n) = ⊥
-Gives unranking Finished = Unit {0}
-Gives unranking (Refused k) = RefusalNumber k
+Gives asking a = (a ≡ Approved) ⊎ ((a ≡ NotPart) ⊎ (Stopped a ⊎ Refusal a))
+Gives taking a = Counted Accepted a ⊎ Refusal a
+Gives changing a = Counted Done a ⊎ Refusal a
+Gives totalling a = Numbered Total a ⊎ ((a ≡ Over) ⊎ Refusal a)
+Gives ranking a = Numbered Serial a ⊎ ((a ≡ NotPart) ⊎ (Stopped a ⊎ Refusal a))
+Gives unranking a = (a ≡ Finished) ⊎ Refusal a
 
 -- the numbers of states and of transitions in one number
 abbrev pub countsNumber : ℕ → ℕ → ℕ

@@ -21,13 +21,13 @@ fn handle(line: &[u8], table: &mut [u8], scratch: &mut [u8]) -> Outcome
     let mut listing = [0u8; LISTING_BYTES];
     match read_line(line, &mut listing) {
         Parsed::Add { len } => {
-            Outcome::Answered(scalebench::add(&listing[0..len], table, scratch))
+            Outcome::Answered(answering::add(&listing[0..len], table, scratch))
         }
         Parsed::Drop { len } => {
-            Outcome::Answered(scalebench::remove(&listing[0..len], table, scratch))
+            Outcome::Answered(answering::remove(&listing[0..len], table, scratch))
         }
-        Parsed::Ask { len } => Outcome::Answered(scalebench::ask(&listing[0..len], table)),
-        Parsed::Total => Outcome::Answered(scalebench::total(table)),
+        Parsed::Ask { len } => Outcome::Answered(answering::ask(&listing[0..len], table)),
+        Parsed::Total => Outcome::Answered(answering::total(table)),
         Parsed::Form { column } => Outcome::Form {
             column: column as u64,
         },
@@ -56,7 +56,7 @@ pub fn finish(lines: u64, table: &[u8], out: &mut [u8; LINE_BYTES]) -> usize
     requires { ⌜ length (now out) ≡ lineBytes ⌝ }
     ensures { λ r. ⌜ Printed (now (out .exit)) (closing lines (now (table .entry))) r ⌝ }
 {
-    match scalebench::take_in(table) {
+    match answering::take_in(table) {
         Answer::Accepted {
             states,
             transitions,

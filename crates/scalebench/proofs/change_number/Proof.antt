@@ -1,5 +1,5 @@
 -- `scalebench::change_number` meets its contract: the three parts of the result, the answer as its number.
-use Rattle.scalebench.proofs.Changing.{returned}
+use Rattle.scalebench.proofs.Returned.{returned}
 use borrow.Author.Needs.{needs}
 use Rattle.scalebench.proofs.change_number.Statement.{statement}
 use Rattle.scalebench.proofs.change_number.Tie as tie

@@ -1,0 +1,4 @@
+pub mod Reading
+pub mod Totalling
+pub mod Numbering
+pub mod Changing
