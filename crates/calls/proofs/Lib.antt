@@ -8,3 +8,5 @@ pub mod Changes
 pub mod Sum
 pub mod Answers
 pub mod NoRoom
+pub mod Borders
+pub mod LeastInputs

@@ -4,3 +4,5 @@ pub mod Series
 pub mod Claim
 pub mod Sum
 pub mod Samples
+pub mod Borders
+pub mod LeastInputs
