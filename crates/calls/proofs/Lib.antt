@@ -10,3 +10,5 @@ pub mod Answers
 pub mod NoRoom
 pub mod Borders
 pub mod LeastInputs
+pub mod Undoing
+pub mod Sums

@@ -67,7 +67,7 @@ mutual
 pub listing-least : (t : Tree) → nodeBytes ≤ length (listing t)
 listing-least (node a f) = omega arith
 
-legal-passed : (t : Tree) → Legal t → length (listing t) ≤ maxListing → AllHold (listingConditions (listing t))
+pub legal-passed : (t : Tree) → Legal t → length (listing t) ≤ maxListing → AllHold (listingConditions (listing t))
 unfolding listingConditions wholeNodes allLabelled allNarrow
 legal-passed t h m =
     let s : List ℕ = listing t in

@@ -3,7 +3,7 @@ use mathlib.Core.Bool.{Bool, _&&_, false, not, true}
 use mathlib.Core.List.{List, [], _++_, _∷_}
 use Prim.Native.Nat.{_%_, _*_, _+_, _/_, suc, zero, ℕ}
 use lib.Dec.{eqb, leb}
-use lib.ListN.{getD, length}
+use lib.ListN.{getD, length, take}
 use Rattle.format.specs.Format.{labelBytes, labelFrom, labelIn, labelWritten, maxArity, maxListing, nodeBytes}
 use Rattle.lists.specs.Conditions.{Condition, condition, firstBroken}
 use Rattle.lists.specs.Positions.{upFrom}
@@ -48,6 +48,18 @@ readTrees [] = nil
 readTrees (h ∷ []) = nil
 readTrees (h ∷ l ∷ []) = nil
 readTrees (h ∷ l ∷ c ∷ s) = let f = readTrees s in cons (node (labelFrom h l) (firstTrees c f)) (laterTrees c f)
+
+-- the bytes that the first k trees take, by their child counts
+abbrev pub listedBytes : List ℕ → ℕ → ℕ
+listedBytes [] k = 0
+listedBytes (h ∷ []) k = 0
+listedBytes (h ∷ l ∷ []) k = 0
+listedBytes (h ∷ l ∷ c ∷ s) zero = 0
+listedBytes (h ∷ l ∷ c ∷ s) (suc k) = nodeBytes + listedBytes s (c + k)
+
+-- the listing of the first tree, without what follows it
+unfoldable pub firstListing : List ℕ → List ℕ
+firstListing s = take (listedBytes s 1) s
 
 -- the first tree of a list of trees; any tree if there is none
 abbrev pub firstTree : Forest → Tree
