@@ -217,10 +217,13 @@ late-hold = (
       (
         unranks (encode many) many (encoded many refl) 0 144,
         (
-          unranks zeros emptyAutomaton zero-encoded 0 144,
+          unranks (encode many) many (encoded many refl) 18446744073709551616 144,
           (
-            unranks (encode single) single (encoded single refl) 1 144,
-            (unranks (encode tall) tall (encoded tall refl) 0 144, tt),
+            unranks zeros emptyAutomaton zero-encoded 0 144,
+            (
+              unranks (encode single) single (encoded single refl) 1 144,
+              (unranks (encode tall) tall (encoded tall refl) 0 144, tt),
+            ),
           ),
         ),
       ),

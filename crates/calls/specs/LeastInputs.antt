@@ -158,6 +158,7 @@ abbrev pub late : List Row
 late =
     refuses (encode single) (add one scratch) 14 ∷ refuses zeros (remove one scratch) 15 ∷
     refuses (encode many) (query (rank (listing oneOfMany))) 18 ∷ refuses (encode many) (query (unrank 0 buffer)) 18 ∷
+    refuses (encode many) (query (unrank 18446744073709551616 buffer)) 18 ∷
     refuses zeros (query (unrank 0 buffer)) 19 ∷ refuses (encode single) (query (unrank 1 buffer)) 19 ∷
     refuses (encode tall) (query (unrank 0 buffer)) 20 ∷ []
 
