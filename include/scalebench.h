@@ -108,9 +108,11 @@ uint64_t scalebench_rank(const uint8_t *tree, size_t tree_len, const uint8_t *ta
 
 /*
  * The approved tree that has a serial number. Not refused: returns 0, the listing of the tree stands at the start of
- * `listing`, and zeros follow. Refuses by 5, by 6 if the listing is not SCALEBENCH_LISTING_BYTES long, by 7 to 13 and
- * by 18 to 20. A table can approve trees of any size, so some numbers may be refused by 20. A refusal leaves every
- * byte of the listing as it was. Writes nothing else.
+ * `listing`, and zeros follow. Cut them off before the listing goes to ask, rank, add or remove, which refuse what
+ * follows a tree: scalebench_listed is the length of the listing. Then rank gives the number back, and unrank of the
+ * number that rank gave writes that tree. Refuses by 5, by 6 if the listing is not SCALEBENCH_LISTING_BYTES long, by 7
+ * to 13 and by 18 to 20. A table can approve trees of any size, so some numbers may be refused by 20. A refusal leaves
+ * every byte of the listing as it was. Writes nothing else.
  */
 uint64_t scalebench_unrank(uint64_t number, const uint8_t *table, size_t table_len, uint8_t *listing,
                            size_t listing_len);
@@ -171,6 +173,22 @@ static inline unsigned scalebench_transitions(uint64_t answer) { return SCALEBEN
 /* Of read: the length of the listing; the column, from 1, of the first byte that no well-formed line has there. */
 static inline size_t scalebench_length(uint64_t answer) { return SCALEBENCH_AS(unsigned, answer >> 16 & 65535); }
 static inline unsigned scalebench_column(uint64_t answer) { return SCALEBENCH_AS(unsigned, answer >> 16 & 65535); }
+
+/*
+ * The length of the listing that stands at the start of these bytes: three a node, as many nodes as the child counts
+ * ask for. Never more than `len`, whatever the bytes are.
+ */
+static inline size_t scalebench_listed(const uint8_t *listing, size_t len)
+{
+    size_t at = 0;
+    size_t trees = 1; /* still to come */
+    while (trees > 0 && len - at >= 3) {
+        trees += listing[at + 2];
+        trees--;
+        at += 3;
+    }
+    return at;
+}
 
 /*
  * A refusal in words. Each condition is checked over its whole input before the next, so that the number returned is

@@ -55,9 +55,20 @@ static void both_listed(const char *what, uint64_t number, const uint8_t *tree, 
     expect(what, scalebench_unrank(number, table, TABLE, room + GUARD, LISTING), 0);
     expect(what, (uint64_t)memcmp(room + GUARD, tree, length), 0);
     expect("zeros behind the tree", (uint64_t)filled(room + GUARD + length, LISTING - length, 0), 1);
+    expect("the length without them", scalebench_listed(room + GUARD, LISTING), length);
     expect("bytes before the listing", (uint64_t)filled(room, GUARD, FILLED), 1);
     expect("bytes behind the listing", (uint64_t)filled(room + GUARD + LISTING, GUARD, FILLED), 1);
     rank_of(what, tree, length, table, TABLE, APPROVED, number);
+}
+
+/* Where the child counts end, also if bytes are missing or follow. */
+static void lengths(void)
+{
+    const uint8_t bytes[] = {0, 1, 2, 0, 1, 0, 0, 1, 0, 0, 9, 0, 0};
+    expect("a tree with bytes after it", scalebench_listed(bytes, sizeof bytes), 9);
+    expect("a child that is missing", scalebench_listed(bytes, 8), 6);
+    expect("a part of a node", scalebench_listed(bytes, 2), 0);
+    expect("no bytes", scalebench_listed(NULL, 0), 0);
 }
 
 static void both(uint64_t number, const char *tree, const uint8_t *table)
@@ -241,5 +252,6 @@ int main(void)
     limit();
     sizes();
     refusals();
+    lengths();
     return finished();
 }
