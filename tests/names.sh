@@ -1,7 +1,9 @@
 #!/bin/sh
 # Every name in code style in docs/PROMISES.md and docs/SPECIFICATION.md exists: a definition or theorem in crates/ or
 # include/, a crate, a file, a must-fail edit (crate/label) or a command. Names followed by a colon and a file
-# (`a`, `b`: `crate/File`) are defined in that file. Every must-fail edit stands once in PROMISES.
+# (`a`, `b`: `crate/File`) are defined in that file. Every must-fail edit stands once in PROMISES. In docs/DECISIONS.md,
+# README.md and CONTRIBUTING.md, which also quote code, single words and paths are looked up. Last, PROMISES lists what a
+# reader of demand 3 must believe, and how many lines that is gets printed (tests/believed.awk).
 set -u
 cd "$(dirname "$0")/.." || exit 2
 work=$(mktemp -d) || exit 2
@@ -58,7 +60,7 @@ FNR == 1 { put(); document = FILENAME }
 /^    / { put(); next }
 /^$/ || /^\|/ || /^- / || /^#/ { put() }
 { line = $0; sub(/^ +/, "", line); text = text == "" ? line : text " " line }
-END { put() }' docs/PROMISES.md docs/SPECIFICATION.md >"$work/text"
+END { put() }' docs/PROMISES.md docs/SPECIFICATION.md docs/DECISIONS.md README.md CONTRIBUTING.md >"$work/text"
 
 awk -F '\t' '
 function fail(what) { print what; failed++ }
@@ -74,15 +76,28 @@ function exists(x,   part, count) {
     return count > 1 && (part[1] in path || part[1] == "rt" && part[2] in command)
 }
 function inCrate(c, f) { return ("crates/" c "/" f) in path }
+# whether a document that quotes code has more than a name there: an expression, an option, a pattern of names
+function quotes(document, x) {
+    return document !~ /PROMISES|SPECIFICATION/ && (x !~ /^[A-Za-z_.][A-Za-z0-9_.\/-]*$/ || x ~ /[A-Z][A-Z]/ || x in word ||
+        x ~ /^\./ || (x ~ /\/$/))
+}
 FILENAME == ARGV[1] { path[$0] = 1; next }
 FILENAME == ARGV[2] { split($0, field, " "); name[field[1]] = 1; defined[field[1], field[2]] = 1; next }
 FILENAME == ARGV[3] { if (match($0, /^[a-z_]+:/)) crate[substr($0, 1, RLENGTH - 1)] = 1; next }
-FNR == 1 { split("check ci dev doc fmt goals must-fail prove staticlib", list, " "); for (i in list) command[list[i]] = 1 }
+FNR == 1 {
+    split("check ci dev doc fmt goals must-fail prove staticlib", list, " "); for (i in list) command[list[i]] = 1
+    # words of Rattle, antt, the kit and the system, and needs of proofs
+    split("abbrev arith break cc cond drop flock getD k let match miss omega p pub refl return rt rw search unfolding " \
+        "u8 unfoldable where OneOf _ add-i loop-again loop-holds loop-less mark-output-requires returns-2 " \
+        "slice-write-scratch", list, " ")
+    for (i in list) word[list[i]] = 1
+}
 {
     rest = $2
     while (match(rest, /`[^`]+`/)) {
         x = substr(rest, RSTART + 1, RLENGTH - 2)
         rest = substr(rest, RSTART + RLENGTH)
+        if (quotes($1, x)) continue
         if (exists(x)) passed++
         else fail($1 ": `" x "` is no definition, crate, file, edit or command")
         if ($1 ~ /PROMISES/) mentioned[x]++
@@ -108,6 +123,16 @@ END {
             if (mentioned[x] == 1) passed++
             else fail("docs/PROMISES.md: the edit " x " stands there " (mentioned[x] + 0) " times")
         }
-    print (passed + 0) " passed, " (failed + 0) " failed"
-    exit (failed > 0 || passed == 0)
-}' "$work/paths" "$work/names" crates.txt "$work/text"
+    print (passed + 0), (failed + 0)
+}' "$work/paths" "$work/names" crates.txt "$work/text" >"$work/found"
+sed '$d' "$work/found"
+passed=$(tail -n 1 "$work/found")
+failed=${passed#* }
+passed=${passed% *}
+
+awk -f tests/believed.awk docs/PROMISES.md crates/*/specs/*.antt crates/calls/src/lib.rt >"$work/believed" ||
+    failed=$((failed + 1))
+sed '$s/^/to believe: /' "$work/believed"
+passed=$((passed + 1))
+echo "$passed passed, $failed failed"
+[ "$failed" -eq 0 ]
