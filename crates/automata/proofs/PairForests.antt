@@ -1,4 +1,5 @@
--- Lists of trees and their pairs: which pairs they have, trees for pairs, and that pairs of subtrees tell them.
+-- Lists of trees and their pairs: which pairs they have, trees for given pairs, and that
+-- lists of subtrees with the same pairs are equal.
 use mathlib.Core.List.{List, [], _∷_}
 use mathlib.Core.Logic.{inl, inr}
 use mathlib.Core.Path.{_∙_, _≡_, ap, refl, subst, sym}

@@ -240,7 +240,7 @@ counts f counted = record {
     counted-as : (a : Answer) (g : Counted f a) → answerNumber a ≡ countsNumber (g .states) (g .transitions)
     counted-as a g = ap answerNumber (g .answer) ∙ counted (g .states) (g .transitions)
 
--- the number beside the answer tells these apart
+-- the number beside the answer distinguishes these
 numbers : (f : ℕ → Answer) (m : ℕ) → ((n : ℕ) → answerNumber (f n) ≡ m) → ((n : ℕ) → numberAfter (f n) 0 ≡ n) →
     Known (Numbered f) (λ n. n ≡ m)
 numbers f m known after = record {

@@ -67,7 +67,7 @@ spans-none = record {
     none (suc n) zero = refl
     none (suc n) (suc q) = none n q
 
--- all from q on are marked, and so are those that the mark before q leads over
+-- all from q on are marked, and so is the interval that the mark before q skips
 pub spanned : {m : List ℕ} → Spans m → (q e : ℕ) → 0 < q → getD m (q - 1) 0 ≢ 0 →
     ((p : ℕ) → q ≤ p → p < e → marked m p ≡ true) → (p : ℕ) → getD m (q - 1) 0 ≤ p → p < e → marked m p ≡ true
 spanned {m} spans q e h n old p a b = go (leb q p) refl

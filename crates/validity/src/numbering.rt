@@ -96,8 +96,8 @@ pub fn leads_to(mark: usize, from: usize) -> bool
     mark <= from
 }
 
-// Reads transition i: whether every state strictly between its arguments and its output has been seen. Then the
-// output is seen, and its mark says so of them all. A mark that says more is kept.
+// Reads transition i: returns whether every state strictly between its arguments and its output has been seen. The
+// output is then marked with the whole seen interval below it, unless its mark has a longer one.
 fn read(transitions: &[u8], i: usize, seen: &mut [u8; BYTE_VALUES]) -> bool
     requires { ⌜ Readable (now transitions) (transitionBytes * i) ⌝ }
     requires { ⌜ Padded (now transitions) (transitionBytes * i) ⌝ }

@@ -4,43 +4,33 @@ use borrow.Author.Needs.{needs}
 use Rattle.intake.proofs.automaton_refusal.Statement.{statement}
 use Rattle.intake.proofs.automaton_refusal.Tie as tie
 
--- src/lib.rt:94:9
 ruled-requires : tie.Need-ruled-requires
 ruled-requires c κs = search needs
 
--- src/lib.rt:96:9
 searched-refusal-requires : tie.Need-searched-refusal-requires
 searched-refusal-requires c κs = search needs
 
--- src/lib.rt:96:9
 returns : tie.Need-returns
 returns c = search needs
 
--- src/lib.rt:98:9
 loopless-requires : tie.Need-loopless-requires
 loopless-requires c κs = search needs
 
--- src/lib.rt:99:9
 searched-refusal-requires-2 : tie.Need-searched-refusal-requires-2
 searched-refusal-requires-2 c κs = search needs
 
--- src/lib.rt:99:9
 returns-2 : tie.Need-returns-2
 returns-2 c = search needs
 
--- src/lib.rt:101:9
 settled-requires : tie.Need-settled-requires
 settled-requires c κs = search needs
 
--- src/lib.rt:102:9
 searched-refusal-requires-3 : tie.Need-searched-refusal-requires-3
 searched-refusal-requires-3 c κs = search needs
 
--- src/lib.rt:102:9
 returns-3 : tie.Need-returns-3
 returns-3 c = search needs
 
--- src/lib.rt:87:1
 returns-4 : tie.Need-returns-4
 returns-4 c =
     let at-settled = c .before in

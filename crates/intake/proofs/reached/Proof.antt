@@ -5,18 +5,15 @@ use Rattle.intake.proofs.Checks.{numbered-reached}
 use Rattle.intake.proofs.reached.Statement.{statement}
 use Rattle.intake.proofs.reached.Tie as tie
 
--- src/lib.rt:36:9
 returns : tie.Need-returns
 returns c cl =
     let start = c .before .before in
     numbered-reached cl (start .args .transitions .now) (start .args .n) (start .args .count) (start .pre .0)
     (sym (start .pre .1 .1) ∙ c .if1 .taken)
 
--- src/lib.rt:38:5
 all-accessible-requires : tie.Need-all-accessible-requires
 all-accessible-requires c κs = search needs
 
--- src/lib.rt:29:1
 returns-2 : tie.Need-returns-2
 returns-2 c = search needs
 

@@ -4,15 +4,12 @@ use borrow.Author.Needs.{needs}
 use Rattle.intake.proofs.refusal.Statement.{statement}
 use Rattle.intake.proofs.refusal.Tie as tie
 
--- src/lib.rt:100:9
 returns : tie.Need-returns
 returns c = refused-5 (c .before .before .args .table .now) (c .if1 .taken)
 
--- src/lib.rt:102:5
 content-refusal-requires : tie.Need-content-refusal-requires
 content-refusal-requires c κs = search needs
 
--- src/lib.rt:96:1
 returns-2 : tie.Need-returns-2
 returns-2 c =
     right-length (c .before .before .before .args .table .now) (c .before .if1 .left) (c .content-refusal .ensures)

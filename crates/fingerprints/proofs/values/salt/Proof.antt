@@ -4,19 +4,15 @@ use borrow.Author.Needs.{needs}
 use Rattle.fingerprints.proofs.values.salt.Statement.{statement}
 use Rattle.fingerprints.proofs.values.salt.Tie as tie
 
--- src/values.rt:17:5
 mul-result : tie.Need-mul-result
 mul-result c = search needs
 
--- src/values.rt:17:26
 mul-result-2 : tie.Need-mul-result-2
 mul-result-2 c = search needs
 
--- src/values.rt:17:56
 mul-result-3 : tie.Need-mul-result-3
 mul-result-3 c = search needs
 
--- src/values.rt:13:1
 returns : tie.Need-returns
 unfolding salted
 returns c = refl

@@ -6,15 +6,12 @@ use borrow.Author.Needs.{needs}
 use Rattle.validity.proofs.ranks.depth_first.Statement.{statement}
 use Rattle.validity.proofs.ranks.depth_first.Tie as tie
 
--- src/ranks.rt:195:9
 returns : tie.Need-returns
 returns c = search needs
 
--- src/ranks.rt:199:5
 link-requires : tie.Need-link-requires
 link-requires c κs = search needs
 
--- src/ranks.rt:200:5
 rank-all-requires : tie.Need-rank-all-requires
 rank-all-requires c κs =
     let at-link = c .before .before .before in
@@ -27,7 +24,6 @@ rank-all-requires c κs =
       ),
     )
 
--- src/ranks.rt:189:1
 returns-2 : tie.Need-returns-2
 returns-2 c = search needs
 
