@@ -64,7 +64,7 @@ split {s} {i} v = go (v .trees) (v .many) (v .legal) (v .bytes)
     }
 
 -- trees ahead, the first split off: j of them are one and i
-module _ {s : List ℕ} {j at : ℕ} (v : Ahead s j at) (i : ℕ) (e : j ≡ suc i) where
+module _ {s : List ℕ} {j at : ℕ} (v : Ahead s j at) {i : ℕ} (e : j ≡ suc i) where
   parts : Split s i
   parts = split (subst (λ n. Ahead s n at) e v)
 
@@ -78,40 +78,66 @@ module _ {s : List ℕ} {j at : ℕ} (v : Ahead s j at) (i : ℕ) (e : j ≡ suc
     room = v .room;
   }
 
-  -- after the first tree, which has m nodes
-  module _ (m : ℕ) (d : m ≡ length (preorder (readTree s))) where
-    first-bytes : length (listing (readTree s)) ≡ nodeBytes * m
-    first-bytes = preorder-bytes (readTree s) ∙ ap (λ n. nodeBytes * n) (sym d)
+-- the first of j trees ahead is run, and has m nodes; i others stand after it
+pub record FirstRun (s : List ℕ) (j i at m : ℕ) : Type 0 where
+  pub ahead : Ahead s j at
+  pub more : j ≡ suc i
+  pub nodes : m ≡ length (preorder (readTree s))
 
-    behind : part s (nodeBytes * m) ≡ listings (parts .others) ++ parts .rest
-    behind =
-        part-drop s (nodeBytes * m) ∙ ap (drop (nodeBytes * m)) (parts .bytes) ∙
-        drop-at (listing (parts .tree)) _ (nodeBytes * m) (ap (λ t. length (listing t)) (sym (parts .reads)) ∙ first-bytes)
+module _ {s : List ℕ} {j i at m : ℕ} (w : FirstRun s j i at m) where
+  abbrev cut : Split s i
+  cut = parts (w .ahead) (w .more)
 
-    pub first-within : nodeBytes * m ≤ length s
-    first-within =
-        let l = ap (λ t. length (listing t)) (parts .reads) in
-        omega (arith, first-bytes, simp length-append at (ap length (parts .bytes)))
+  first-bytes : length (listing (readTree s)) ≡ nodeBytes * m
+  first-bytes = preorder-bytes (readTree s) ∙ ap (λ n. nodeBytes * n) (sym (w .nodes))
 
-    pub first-some : 1 ≤ m
-    first-some = omega (arith, first-bytes, listing-least (readTree s))
+  behind : part s (nodeBytes * m) ≡ listings (cut .others) ++ cut .rest
+  behind =
+      part-drop s (nodeBytes * m) ∙ ap (drop (nodeBytes * m)) (cut .bytes) ∙
+      drop-at (listing (cut .tree)) _ (nodeBytes * m) (ap (λ t. length (listing t)) (sym (cut .reads)) ∙ first-bytes)
 
-    pub others-ahead : Ahead (part s (nodeBytes * m)) i (at + m)
-    others-ahead = record {
-      trees = parts .others;
-      rest = parts .rest;
-      many = parts .many;
-      legal = parts .others-legal;
-      bytes = behind;
-      room = omega (arith, part-length s (nodeBytes * m), first-within, v .room);
-    }
+  pub first-within : nodeBytes * m ≤ length s
+  first-within =
+      let l = ap (λ t. length (listing t)) (cut .reads) in
+      omega (arith, first-bytes, simp length-append at (ap length (cut .bytes)))
 
-    pub first-others :
-        firstTrees j (readTrees s) ≡ cons (readTree s) (firstTrees i (readTrees (part s (nodeBytes * m))))
-    first-others =
-        let whole = ap readTrees (parts .bytes) ∙ ap readTrees (sym (append-assoc (listing (parts .tree)) _ _))
-        ∙ read-trees (cons (parts .tree) (parts .others)) (parts .rest) in
-        rw (e, whole, behind, read-trees (parts .others) (parts .rest))
+  -- the nodes up to its last have their rows and bytes
+  pub first-room : at + m ≤ maxNodes
+  first-room = omega (arith, first-within, w .ahead .room)
+
+  -- fewer bytes stand after it
+  pub first-shorter : length (part s (nodeBytes * m)) < length s
+  first-shorter =
+      omega (arith, part-length s (nodeBytes * m), first-within, first-bytes, listing-least (readTree s))
+
+  pub others-ahead : Ahead (part s (nodeBytes * m)) i (at + m)
+  others-ahead = record {
+    trees = cut .others;
+    rest = cut .rest;
+    many = cut .many;
+    legal = cut .others-legal;
+    bytes = behind;
+    room = omega (arith, part-length s (nodeBytes * m), first-within, w .ahead .room);
+  }
+
+  pub first-others :
+      firstTrees j (readTrees s) ≡ cons (readTree s) (firstTrees i (readTrees (part s (nodeBytes * m))))
+  first-others =
+      let whole = ap readTrees (cut .bytes) ∙ ap readTrees (sym (append-assoc (listing (cut .tree)) _ _))
+      ∙ read-trees (cons (cut .tree) (cut .others)) (cut .rest) in
+      rw (w .more, whole, behind, read-trees (cut .others) (cut .rest))
+
+  -- the nodes of all of them are few
+  pub others-room : {l : ℕ} → l ≡ length (preorders (firstTrees i (readTrees (part s (nodeBytes * m))))) →
+      m + l ≤ maxNodes
+  others-room d =
+      omega (
+        arith,
+        ahead-nodes others-ahead,
+        part-length s (nodeBytes * m),
+        first-within,
+        w .ahead .room,
+      )
 
 -- a tree ahead: its root, and its children in the part after that
 module _ {s : List ℕ} {at : ℕ} (v : Ahead s 1 at) where
@@ -171,5 +197,5 @@ module _ {s : List ℕ} {at : ℕ} (v : Ahead s 1 at) where
 -- the nodes of a tree ahead have their rows and bytes
 pub few-nodes : {s : List ℕ} → Ahead s 1 0 → length (preorder (readTree s)) ≤ maxNodes
 few-nodes {s} v =
-    let within = first-within v 0 refl (length (preorder (readTree s))) refl in
-    omega (arith, v .room)
+    let w : FirstRun s 1 0 0 (length (preorder (readTree s))) = record { ahead = v; more = refl; nodes = refl } in
+    omega (arith, first-room w)

@@ -1,25 +1,31 @@
 -- Rows of child states: what stays when a tree below is run, and a row that takes one state more.
-use mathlib.Core.List.{List, [], _++_, _∷_, append-assoc, append-nil}
+use mathlib.Core.Bool.{false, true}
+use mathlib.Core.List.{List, [], _++_, _∷_}
 use mathlib.Core.Path.{_∙_, _≡_, ap, refl, sym}
-use Prim.Native.Nat.{_+_, _<_, ℕ}
+use Prim.Native.Nat.{_+_, _<_, _≤_, ℕ}
 use native.Mathlib.Decide.{ℕ-discrete}
 use native.Mathlib.Numerals.{add-one}
 use native.Mathlib.Omega.{arith}
+use lib.Dec.{eqb}
 use lib.ListN.{getD, length, length-set, set, take}
 use lib.Seq.{getD-set-other, getD-set-same, getD-take, take-set-le, take-suc-set, take-take}
+use borrow.Author.Tests.{ne-eqb}
 use Rattle.format.specs.Format.{maxArity, maxNodes}
-use Rattle.running.specs.Running.{RowsKept, Noted, Rows}
+use Rattle.lists.specs.Tests.{any}
+use Rattle.running.specs.Running.{Joins, Rows, RowsKept}
+use Rattle.running.specs.declared.Parent.{Parent}
+use Rattle.lists.proofs.Tests.{or-none-left, or-none-right, or-right}
 
--- the rows that a run from node j on leaves, for a node before it
-module _ (i j : ℕ) (before : i < j) {old new : List (List ℕ)} (v : RowsKept j old new) where
-  pub kept-before : RowsKept i old new
-  kept-before = record {
-    rows = v .rows;
-    same = sym (take-take i j new (omega arith)) ∙ ap (take i) (v .same) ∙ take-take i j old (omega arith);
-  }
+-- the rows that a run from node j on leaves, for a node that is not after it
+pub kept-before : (i j : ℕ) → i ≤ j → {old new : List (List ℕ)} → RowsKept j old new → RowsKept i old new
+kept-before i j before {old} {new} v = record {
+  rows = v .rows;
+  same = sym (take-take i j new before) ∙ ap (take i) (v .same) ∙ take-take i j old before;
+}
 
-  kept-row : getD new i [] ≡ getD old i []
-  kept-row = sym (getD-take j new i [] before) ∙ ap (λ l. getD l i []) (v .same) ∙ getD-take j old i [] before
+-- one run after another
+pub kept-then : {i : ℕ} {old mid new : List (List ℕ)} → RowsKept i old mid → RowsKept i mid new → RowsKept i old new
+kept-then v w = record { rows = w .rows; same = w .same ∙ v .same }
 
 -- a state stored in a row
 abbrev pub put : List (List ℕ) → ℕ → ℕ → ℕ → List (List ℕ)
@@ -34,34 +40,46 @@ rows-put {rows} v i k q h = record { many = length-set rows i _ ∙ v .many; wid
         rw (e, getD-set-same rows i (set (getD rows i []) k q) [] here, length-set) (v .wide i h)
     at j l (no d) = rw (getD-set-other rows i j (set (getD rows i []) k q) [] d) (v .wide j l)
 
-module _ {i arity : ℕ} where
-  -- no state is left to store
-  pub noted-none : {k : ℕ} {qs : List ℕ} {rows : List (List ℕ)} → Rows rows → k ≡ arity → qs ≡ [] →
-      Noted i k arity qs rows rows
-  noted-none {k} {qs} {rows} v e d = record {
-    kept = record { rows = v; same = refl };
-    row = rw (d, append-nil) (ap (λ n. take n (getD rows i [])) (sym e));
+-- after a run from node j on, the state of child k of a node i before it is stored
+module _ {i j : ℕ} {old mid : List (List ℕ)} (before : i < j) (v : RowsKept j old mid) (here : i < maxNodes)
+    (k q : ℕ) where
+  pub kept-put : RowsKept i old (put mid i k q)
+  kept-put = record {
+    rows = rows-put (v .rows) i k q here;
+    same = take-set-le i mid i _ (omega arith) ∙ kept-before i j (omega arith) v .same;
   }
 
-  -- a child's state is stored, then those of the others
-  pub noted-next : {j k q : ℕ} {qs rs : List ℕ} {old mid new : List (List ℕ)} → i < maxNodes → k < maxArity → i < j →
-      qs ≡ q ∷ rs → RowsKept j old mid → Noted i (k + 1) arity rs (put mid i k q) new → Noted i k arity qs old new
-  noted-next {j} {k} {q} {qs} {rs} {old} {mid} {new} d l before e v w = record {
-    kept = record {
-      rows = w .kept .rows;
-      same = w .kept .same ∙ take-set-le i mid i _ (omega arith) ∙ kept-before i j before v .same;
-    };
-    row = w .row ∙ ap (λ r. r ++ rs) stored ∙ append-assoc (take k (getD old i [])) (q ∷ []) rs
-        ∙ ap (λ r. take k (getD old i []) ++ r) (sym e);
-  }
-    where
-      stored : take (k + 1) (getD (put mid i k q) i []) ≡ take k (getD old i []) ++ (q ∷ [])
-      stored =
-          let here : i < length mid = omega (arith, v .rows .many) in
-          let place : k < length (getD mid i []) = omega (arith, v .rows .wide i d) in
-          rw (
-            getD-set-same mid i (set (getD mid i []) k q) [] here,
-            add-one,
-            take-suc-set (getD mid i []) k q place,
-            kept-row i j before v,
-          )
+  kept-row : getD mid i [] ≡ getD old i []
+  kept-row = sym (getD-take j mid i [] before) ∙ ap (λ l. getD l i []) (v .same) ∙ getD-take j old i [] before
+
+  pub put-row : k < maxArity → take (k + 1) (getD (put mid i k q) i []) ≡ take k (getD old i []) ++ (q ∷ [])
+  put-row l =
+      let row : i < length mid = omega (arith, v .rows .many) in
+      let place : k < length (getD mid i []) = omega (arith, v .rows .wide i here) in
+      rw (
+        getD-set-same mid i (set (getD mid i []) k q) [] row,
+        add-one,
+        take-suc-set (getD mid i []) k q place,
+        kept-row,
+      )
+
+-- ---- the states in a row
+
+some-more : (qs : List ℕ) (q : ℕ) → any (eqb 0) qs ≡ false → (q ≡ 0 → ⊥) → any (eqb 0) (qs ++ (q ∷ [])) ≡ false
+some-more [] q e d = rw (ne-eqb 0 q (λ z. d (sym z)))
+some-more (p ∷ qs) q e d =
+    rw (or-none-left (eqb 0 p) (any (eqb 0) qs) e) (some-more qs q (or-none-right (eqb 0 p) _ e) d)
+
+pub none-behind : (qs rs : List ℕ) → any (eqb 0) (qs ++ (0 ∷ rs)) ≡ true
+none-behind [] rs = refl
+none-behind (q ∷ qs) rs = or-right (eqb 0 q) _ (none-behind qs rs)
+
+-- a child that has a state is run, and its state stored in the row
+pub joins-next : {p : Parent} {k i j q : ℕ} {old new : List ℕ} → Joins p k i old → (k ≡ p .arity → ⊥) → i ≤ j →
+    take (k + 1) new ≡ take k old ++ (q ∷ []) → (q ≡ 0 → ⊥) → Joins p (k + 1) j new
+joins-next {k = k} {q = q} {old = old} v d h e z = record {
+  before = omega (arith, v .before);
+  place = omega (arith, v .place);
+  narrow = v .narrow;
+  states = ap (any (eqb 0)) e ∙ some-more (take k old) q (v .states) z;
+}

@@ -1,4 +1,4 @@
--- Bytes of nodes stored from a place on: the first of them, one run of stores after another, and a store before them.
+-- Bytes of nodes stored from a place on: one run of stores after another, and a store before them.
 use mathlib.Core.Bool.{Bool, false, true}
 use mathlib.Core.List.{List, [], _++_, _∷_}
 use mathlib.Core.Path.{_∙_, _≡_, ap, refl, sym}
@@ -6,7 +6,7 @@ use Prim.Native.Nat.{_+_, _-_, _<_, _≤_, suc, ℕ}
 use native.Mathlib.Omega.{arith}
 use lib.Dec.{ltb}
 use lib.ListN.{List·getD-append, List·getD-eq-default, drop, getD, length, length-replicate, replicate, set}
-use lib.Seq.{getD-append-add, getD-drop, getD-set-other, getD-set-same, set-comm, sets, sets-eq}
+use lib.Seq.{getD-append-add, getD-drop, set-comm, sets, sets-eq}
 use borrow.Author.Tests.{ltb-false, ltb-true}
 use Rattle.lists.proofs.Intervals.{getD-zeros}
 
@@ -21,14 +21,6 @@ sets-before [] l i j a h = refl
 sets-before (x ∷ xs) l i j a h =
     sets-before xs (set l i x) (suc i) j a (omega arith)
     ∙ ap (λ m. sets m (suc i) xs) (set-comm l i j x a (λ e. omega arith))
-
-sets-after : (xs l : List ℕ) (i j : ℕ) → j < i → getD (sets l i xs) j 0 ≡ getD l j 0
-sets-after [] l i j h = refl
-sets-after (x ∷ xs) l i j h =
-    sets-after xs (set l i x) (suc i) j (omega arith) ∙ getD-set-other l i j x 0 (λ e. omega arith)
-
-pub sets-first : (x : ℕ) (xs l : List ℕ) (i : ℕ) → i < length l → getD (sets l i (x ∷ xs)) i 0 ≡ x
-sets-first x xs l i h = sets-after xs (set l i x) (suc i) i (omega arith) ∙ getD-set-same l i x 0 h
 
 -- the zeros after the first bytes
 abbrev zerosAfter : ℕ → List ℕ → List ℕ

@@ -1,31 +1,32 @@
 -- How a node comes by its state and a row by its states, and what is stored for the nodes.
 use mathlib.Core.Bool.{Bool, _||_, cond, false, false≢true, true}
-use mathlib.Core.List.{List, [], _∷_}
+use mathlib.Core.List.{List, [], _++_, _∷_, append-assoc, append-nil}
 use mathlib.Core.Logic.{inl, inr}
-use mathlib.Core.Path.{_∙_, _≡_, ap, ap₂, refl, sym}
-use Prim.Native.Nat.{_*_, _+_, _<_, _≤_, suc, ℕ}
+use mathlib.Core.Path.{_∙_, _≡_, ap, refl, sym}
+use Prim.Native.Nat.{_*_, _+_, _≤_, suc, ℕ}
 use native.Mathlib.Omega.{arith}
 use lib.Dec.{eqb}
-use lib.ListN.{getD, length, length-append, set}
-use lib.Seq.{sets}
+use lib.ListN.{getD, length, length-append, set, take}
+use lib.Seq.{length-sets, sets}
 use Rattle.automata.specs.Automaton.{Automaton, Transition, lookup, matches, run, step}
 use Rattle.automata.specs.NodeStates.{forestStates, nodeStates}
 use Rattle.fields.specs.declared.Found.{Found}
 use Rattle.fields.specs.declared.Found.the-variants.{Nothing as Lost, State as At}
 use Rattle.fields.specs.Fields.{foundState, isFound}
-use Rattle.format.specs.Format.{labelBytes, nodeBytes}
+use Rattle.format.specs.Format.{labelBytes, maxNodes, nodeBytes}
 use Rattle.lists.specs.Tests.{_∈_, any}
 use Rattle.running.specs.Running.{Ahead, Steps, childStates, over, ranTo}
+use Rattle.running.specs.declared.Ran.{Ran}
 use Rattle.running.specs.declared.Ran.the-variants.{Nothing, State}
 use Rattle.table.specs.Layout.{transitionsIn}
 use Rattle.trees.specs.Listing.{firstTrees, labelAt, readTree, readTrees}
 use Rattle.trees.specs.Preorder.{preorder, preorders}
-use Rattle.trees.specs.Tree.{Tree, node}
 use Rattle.automata.proofs.NodeStates.{node-states-length, states-cons, states-nil, states-node}
 use Rattle.lists.proofs.Parts.{part}
-use Rattle.running.proofs.Ahead.{first-others, root-reads}
-use Rattle.running.proofs.Answers.{nothing-ran, state-ran}
-use Rattle.running.proofs.NodeBytes.{sets-append, sets-before, sets-first}
+use Rattle.running.proofs.Ahead.{FirstRun, first-others, root-reads}
+use Rattle.running.proofs.Answers.{nothing-ran, ran-none, ran-state, state-ran}
+use Rattle.running.proofs.ChildRows.{none-behind}
+use Rattle.running.proofs.NodeBytes.{sets-append, sets-before}
 use Rattle.table.proofs.Decoded.{transitionsIn-in}
 
 -- ---- the output of a transition that is found
@@ -70,11 +71,6 @@ module _ (τs : List ℕ) (n a : ℕ) (qs : List ℕ) where
         let some = found-some u a qs (sym i ∙ ap isFound z) in
         state-ran q (λ y. omega arith) ∙ ap ranTo (out ∙ node-step)
 
--- the first byte that is stored for a tree is the state of its root
-pub root-state : (A : Automaton) (t : Tree) (old : List ℕ) (at : ℕ) → at < length old →
-    getD (sets old at (nodeStates A t)) at 0 ≡ run A t
-root-state A (node a f) old at h = rw (states-node A a f) (sets-first (run A (node a f)) (forestStates A f) old at h)
-
 -- ---- a tree
 
 -- k is the number of the root's children
@@ -85,9 +81,9 @@ module _ {s : List ℕ} {at : ℕ} (v : Ahead s 1 at) (k : ℕ) (e : k ≡ getD 
   root-nodes d = rw (root-reads v k e) (omega (arith, d))
 
   module _ (τs : List ℕ) (n : ℕ) where
-    pub root-run : {q a : ℕ} {qs : List ℕ} → q ≡ step (over τs n) a qs → a ≡ labelAt s 0 →
-        qs ≡ childStates τs n (part s nodeBytes) k → q ≡ run (over τs n) (readTree s)
-    root-run h label row = h ∙ ap₂ (step (over τs n)) label row ∙ ap (run (over τs n)) (sym (root-reads v k e))
+    pub root-run : {r : Ran} {a : ℕ} → r ≡ ranTo (step (over τs n) a (childStates τs n (part s nodeBytes) k)) →
+        a ≡ labelAt s 0 → r ≡ ranTo (run (over τs n) (readTree s))
+    root-run h label = h ∙ rw (label, root-reads v k e)
 
     -- the root's state goes to the byte before those of the nodes below
     pub tree-states : (q : ℕ) → q ≡ run (over τs n) (readTree s) → (old : List ℕ) {new : List ℕ} →
@@ -103,40 +99,66 @@ module _ {s : List ℕ} {at : ℕ} (v : Ahead s 1 at) (k : ℕ) (e : k ≡ getD 
 pub children-none : (s : List ℕ) (j : ℕ) → j ≡ 0 → 0 ≡ length (preorders (firstTrees j (readTrees s)))
 children-none s j e = rw e
 
--- j children ahead are the first, which has m nodes, and i others, which have l
-pub children-nodes : {s : List ℕ} {j at : ℕ} (v : Ahead s j at) (i : ℕ) (e : j ≡ suc i) {m l : ℕ} →
-    m ≡ length (preorder (readTree s)) → l ≡ length (preorders (firstTrees i (readTrees (part s (nodeBytes * m))))) →
+-- j trees ahead are the first, which has m nodes, and i others, which have l
+pub trees-nodes : {s : List ℕ} {j i at m : ℕ} (w : FirstRun s j i at m) {l : ℕ} →
+    l ≡ length (preorders (firstTrees i (readTrees (part s (nodeBytes * m))))) →
     m + l ≡ length (preorders (firstTrees j (readTrees s)))
-children-nodes {s} v i e {m} d h =
+trees-nodes {s} {i = i} {m = m} w h =
     let others = preorders (firstTrees i (readTrees (part s (nodeBytes * m)))) in
-    rw (first-others v i e m d) (omega (arith, d, h, length-append (preorder (readTree s)) others))
+    rw (first-others w) (omega (arith, w .nodes, h, length-append (preorder (readTree s)) others))
 
 module _ (τs : List ℕ) (n : ℕ) where
-  pub states-none : (s : List ℕ) (j : ℕ) → j ≡ 0 → childStates τs n s j ≡ []
-  states-none s j e = rw e
+  -- the children of a node are all run
+  pub children-done : {r : Ran} (s : List ℕ) {k arity : ℕ} (j a : ℕ) (row : List ℕ) → k ≡ arity → j ≡ 0 →
+      r ≡ ranTo (step (over τs n) a (take arity row)) →
+      r ≡ ranTo (step (over τs n) a (take k row ++ childStates τs n s j))
+  children-done s {k} j a row e d h = rw (d, append-nil, e) h
 
   pub bytes-none : (s : List ℕ) (j at : ℕ) (old : List ℕ) → j ≡ 0 →
       old ≡ sets old at (forestStates (over τs n) (firstTrees j (readTrees s)))
   bytes-none s j at old e = rw (e, states-nil)
 
-  -- j children ahead are the first, which has m nodes, and i others
-  module _ {s : List ℕ} {j at : ℕ} (v : Ahead s j at) (i : ℕ) (e : j ≡ suc i) {m : ℕ}
-      (d : m ≡ length (preorder (readTree s))) where
+  -- j trees ahead are the first, which has m nodes, and i others
+  module _ {s : List ℕ} {j i at m : ℕ} (w : FirstRun s j i at m) where
     abbrev rest : List ℕ
     rest = part s (nodeBytes * m)
 
-    pub child-states : {q : ℕ} → q ≡ run (over τs n) (readTree s) → childStates τs n s j ≡ q ∷ childStates τs n rest i
-    child-states h = rw (first-others v i e m d) (ap (λ q. q ∷ childStates τs n rest i) (sym h))
+    child-states : {q : ℕ} → q ≡ run (over τs n) (readTree s) → childStates τs n s j ≡ q ∷ childStates τs n rest i
+    child-states h = rw (first-others w) (ap (λ q. q ∷ childStates τs n rest i) (sym h))
 
-    pub children-states : (old : List ℕ) {mid new : List ℕ} → mid ≡ sets old at (nodeStates (over τs n) (readTree s)) →
+    -- what it runs to; a is its parent's label, and qs are the states of the children before it
+    module _ {r : Ran} (h : r ≡ ranTo (run (over τs n) (readTree s))) (a : ℕ) (qs : List ℕ) where
+      -- no state, so its parent has none
+      pub child-none : r ≡ Nothing → Nothing ≡ ranTo (step (over τs n) a (qs ++ childStates τs n s j))
+      child-none e =
+          node-short τs n a (qs ++ childStates τs n s j)
+          (ap (λ rs. any (eqb 0) (qs ++ rs)) (child-states (ran-none (run (over τs n) (readTree s)) h e))
+          ∙ none-behind qs (childStates τs n rest i))
+
+      -- the state q, which is stored in the row
+      pub child-next : {q : ℕ} → r ≡ State q → (row : List ℕ) → row ≡ qs ++ (q ∷ []) → {r' : Ran} →
+          r' ≡ ranTo (step (over τs n) a (row ++ childStates τs n rest i)) →
+          r' ≡ ranTo (step (over τs n) a (qs ++ childStates τs n s j))
+      child-next {q} e row d g =
+          let states : row ++ childStates τs n rest i ≡ qs ++ childStates τs n s j =
+          ap (λ l. l ++ childStates τs n rest i) d ∙ append-assoc qs (q ∷ []) (childStates τs n rest i)
+          ∙ ap (λ l. qs ++ l) (sym (child-states (ran-state (run (over τs n) (readTree s)) h e))) in
+          g ∙ ap (λ l. ranTo (step (over τs n) a l)) states
+
+    -- as many bytes as before
+    pub bytes-kept : (old : List ℕ) {mid : List ℕ} → mid ≡ sets old at (nodeStates (over τs n) (readTree s)) →
+        length old ≡ maxNodes → length mid ≡ maxNodes
+    bytes-kept old h d = ap length h ∙ length-sets old at (nodeStates (over τs n) (readTree s)) ∙ d
+
+    pub trees-states : (old : List ℕ) {mid new : List ℕ} → mid ≡ sets old at (nodeStates (over τs n) (readTree s)) →
         new ≡ sets mid (at + m) (forestStates (over τs n) (firstTrees i (readTrees rest))) →
         new ≡ sets old at (forestStates (over τs n) (firstTrees j (readTrees s)))
-    children-states old h g =
+    trees-states old h g =
         let A = over τs n in
-        let size : m ≡ length (nodeStates A (readTree s)) = d ∙ sym (node-states-length A (readTree s)) in
+        let size : m ≡ length (nodeStates A (readTree s)) = w .nodes ∙ sym (node-states-length A (readTree s)) in
         let F = forestStates A (firstTrees i (readTrees rest)) in
         g ∙ ap (λ l. sets l (at + m) F) h
         ∙ ap (λ k. sets (sets old at (nodeStates A (readTree s))) (at + k) F) size
         ∙ sym (sets-append (nodeStates A (readTree s)) F old at)
         ∙ ap (sets old at) (sym (states-cons A (readTree s) (firstTrees i (readTrees rest)))
-        ∙ ap (forestStates A) (sym (first-others v i e m d)))
+        ∙ ap (forestStates A) (sym (first-others w)))
