@@ -1,102 +1,82 @@
 // The bench program: reads standard input, and prints what came of each line and, last, the numbers of the table.
 // What is printed is written when its buffer is full and before each read, so someone typing sees each answer.
+mod output;
+
 ghost use mathlib.Core.Path.{_≡_};
-ghost use Prim.Native.Nat.{_≤_};
 ghost use lib.ListN.{length};
+ghost use Rattle.libc.specs.Io.{Moved};
 ghost use Rattle.console.specs.Buffers.{Buffered, emptyScratch, emptyTable, outBytes, console};
 ghost use Rattle.console.specs.Console.{heldBytes};
-ghost use Rattle.bench.specs.Turns.{Idle, MetAll, Took, Turned, chunkBytes};
+ghost use Rattle.bench.specs.Output.{Idle};
+ghost use Rattle.bench.specs.Turns.{MetAll, ReadTurn, Turned, brought, chunkBytes};
 use console::HELD_BYTES;
 use console::OUT_BYTES;
-use console::Progress;
-use console::close;
 use console::empty_scratch;
 use console::empty_table;
-use console::feed;
 use libc::STDIN_FILENO;
-use libc::STDOUT_FILENO;
+use output::Turn;
+use output::Written;
+use output::begin;
+use output::finish;
+use output::take;
 
 // A proved loop has to end, and nothing says that an input does. So many reads of 65,536 bytes are more than a run
 // makes, and the lines of fewer than 2^64 bytes can be counted.
 const READS: u64 = 281474976710655;
 
-// After a read: there may be more input, the input has ended, or nothing can be written any more.
-enum Turn {
-    More(Progress),
-    Ended(Progress),
-    Failed,
-}
-
-// Writes what is printed to standard output. A failure is told on standard error.
-fn flush(out: &[u8], printed: usize) -> bool
-    requires { ⌜ printed ≤ length (now out) ⌝ }
+// One read of standard input. A failure is reported on standard error.
+fn read_chunk(chunk: &mut [u8]) -> isize
+    ensures { λ r. ⌜ Moved (length (now (chunk .entry))) r ⌝ }
 {
-    let is_written = io::write_all(STDOUT_FILENO, &out[0..printed]);
-    if !is_written {
-        os::fail(b"write");
+    let got = libc::read(STDIN_FILENO, chunk);
+    if got < 0 {
+        os::fail(b"read");
     }
-    is_written
+    got
 }
 
-// Takes a part of the input and writes what is printed for it.
-fn take(
-    p: Progress,
-    input: &[u8],
+// Takes what a read left in the chunk: `got` is what the read returned. A read that brought nothing or failed ends the
+// input.
+fn take_chunk(
+    w: Written,
+    got: isize,
+    chunk: &[u8],
     line: &mut [u8; HELD_BYTES],
     table: &mut [u8],
     scratch: &mut [u8],
     out: &mut [u8; OUT_BYTES],
 ) -> Turn
-    requires { ⌜ Buffered p (now line) (now out) ⌝ }
-    requires { ⌜ Idle p (length (now input)) ⌝ }
-    ensures { λ r. ⌜ Took p (console p (now (line .entry)) (now (table .entry)) (now (scratch .entry))
-        (now (out .entry))) (now (input .entry)) r (now (line .exit)) (now (table .exit)) (now (scratch .exit))
-        (now (out .exit)) ⌝ }
+    requires { ⌜ Buffered (w .progress) (now line) (now out) ⌝ }
+    requires { ⌜ Idle (w .progress) (length (now chunk)) ⌝ }
+    ensures { λ r. ⌜ Turned (w .progress) (console (w .progress) (now (line .entry)) (now (table .entry))
+        (now (scratch .entry)) (now (out .entry))) (brought got (now (chunk .entry))) r (now (line .exit))
+        (now (table .exit)) (now (scratch .exit)) (now (out .exit)) ⌝ }
 {
-    let mut q = p;
-    let mut at = 0;
-    while at < input.len() {
-        let fed = feed(q, &input[at..], line, table, scratch, out);
-        let r = fed.progress;
-        let taken = fed.taken;
-        if !flush(out, r.printed) {
-            return Turn::Failed;
-        }
-        q = Progress {
-            held: r.held,
-            lines: r.lines,
-            printed: 0,
-        };
-        at += taken;
+    let n = io::count(got, chunk);
+    if n == 0 {
+        return Turn::Ended(w);
     }
-    Turn::More(q)
+    take(w, &chunk[0..n], line, table, scratch, out)
 }
 
-// Reads a part of the input and takes it. A read that fails is told on standard error, and ends the input.
+// Reads a part of the input and takes it.
 fn read_some(
-    p: Progress,
+    w: Written,
     chunk: &mut [u8],
     line: &mut [u8; HELD_BYTES],
     table: &mut [u8],
     scratch: &mut [u8],
     out: &mut [u8; OUT_BYTES],
 ) -> Turn
-    requires { ⌜ Buffered p (now line) (now out) ⌝ }
-    requires { ⌜ Idle p chunkBytes ⌝ }
+    requires { ⌜ Buffered (w .progress) (now line) (now out) ⌝ }
+    requires { ⌜ Idle (w .progress) chunkBytes ⌝ }
     requires { ⌜ length (now chunk) ≡ chunkBytes ⌝ }
-    ensures { λ r. ⌜ Turned p (console p (now (line .entry)) (now (table .entry)) (now (scratch .entry))
-        (now (out .entry))) r (now (line .exit)) (now (table .exit)) (now (scratch .exit)) (now (out .exit)) ⌝ }
+    ensures { λ r. ⌜ ReadTurn (w .progress) (console (w .progress) (now (line .entry)) (now (table .entry))
+        (now (scratch .entry)) (now (out .entry))) (now (chunk .exit)) r (now (line .exit)) (now (table .exit))
+        (now (scratch .exit)) (now (out .exit)) ⌝ }
 {
-    let got = libc::read(STDIN_FILENO, chunk);
-    if got < 0 {
-        os::fail(b"read");
-        return Turn::Ended(p);
-    }
-    if got == 0 {
-        return Turn::Ended(p);
-    }
-    let n = io::count(got, chunk);
-    take(p, &chunk[0..n], line, table, scratch, out)
+    let got = read_chunk(chunk);
+    take_chunk(w, got, chunk, line, table, scratch, out)
 }
 
 // Reads until the input ends.
@@ -114,21 +94,17 @@ fn read_all(
     requires { ⌜ length (now out) ≡ outBytes ⌝ }
     ensures { λ r. ⌜ MetAll r (now (line .exit)) (now (table .exit)) (now (scratch .exit)) (now (out .exit)) ⌝ }
 {
-    let mut p = Progress {
-        held: 0,
-        lines: 0,
-        printed: 0,
-    };
+    let mut w = begin();
     let mut reads = READS;
     while reads > 0 {
         reads -= 1;
-        match read_some(p, chunk, line, table, scratch, out) {
-            Turn::More(q) => p = q,
-            Turn::Ended(q) => return Turn::Ended(q),
+        match read_some(w, chunk, line, table, scratch, out) {
+            Turn::More(next) => w = next,
+            Turn::Ended(last) => return Turn::Ended(last),
             Turn::Failed => return Turn::Failed,
         }
     }
-    Turn::Ended(p)
+    Turn::Ended(w)
 }
 
 fn main() {
@@ -137,9 +113,8 @@ fn main() {
     let mut line = [0u8; HELD_BYTES];
     let mut out = io::large_buffer();
     let mut chunk = io::large_buffer();
-    let Turn::Ended(p) = read_all(&mut chunk, &mut line, &mut table, &mut scratch, &mut out) else {
+    let Turn::Ended(w) = read_all(&mut chunk, &mut line, &mut table, &mut scratch, &mut out) else {
         return;
     };
-    let printed = close(p, &line, &mut table, &mut scratch, &mut out);
-    flush(&out, printed);
+    finish(w, &line, &mut table, &mut scratch, &mut out);
 }

@@ -1,6 +1,6 @@
 -- `bench::main` is safe: the console that reading left is closed, and what is printed is written.
 use mathlib.Core.Path.{refl, sym}
-use Rattle.bench.proofs.Parts.{met-ended}
+use Rattle.bench.proofs.Meeting.{met-ended}
 use borrow.Author.Needs.{needs}
 use Rattle.bench.proofs.main.Statement.{statement}
 use Rattle.bench.proofs.main.Tie as tie
@@ -21,21 +21,21 @@ read-all-requires c κs =
       ),
     )
 
-slice-aggregate-close : tie.Need-slice-aggregate-close
-slice-aggregate-close c =
-    let after-p = c .before .before in
-    let after-read-all = after-p .before .before .before .before .before in
-    sym (met-ended _ _ _ _ _ _ (after-read-all .read-all .ensures) (after-p .p .given .1) .ready .line)
+slice-aggregate-finish : tie.Need-slice-aggregate-finish
+slice-aggregate-finish c =
+    let after-w = c .before .before in
+    let after-read-all = after-w .before .before .before .before .before in
+    sym (met-ended _ _ _ _ _ _ (after-read-all .read-all .ensures) (after-w .w .given .1) .ready .line)
 
-close-requires : tie.Need-close-requires
-close-requires c κs =
-    let after-p = c .before .before .before .before .before in
-    let after-read-all = after-p .before .before .before .before .before in
-    let M = met-ended _ _ _ _ _ _ (after-read-all .read-all .ensures) (after-p .p .given .1) in (M .ready, M .room)
+finish-requires : tie.Need-finish-requires
+finish-requires c κs =
+    let after-w = c .before .before .before .before .before in
+    let after-read-all = after-w .before .before .before .before .before in
+    let M = met-ended _ _ _ _ _ _ (after-read-all .read-all .ensures) (after-w .w .given .1) in (M .ready, M .room)
 
 pub main-spec : {M : Type 1} → statement M
 main-spec =
     tie.close (tie.spec (λ c κs. search needs) (λ c κs. search needs) (λ c κs. search needs)
     (λ c κs. search needs) (λ c. search needs) (λ c. search needs) (λ c. search needs) read-all-requires
-    (λ c. search needs) (λ c. search needs) slice-aggregate-close (λ c. search needs) (λ c. search needs)
-    close-requires (λ c. search needs) (λ c κs. search needs) (λ c. search needs))
+    (λ c. search needs) (λ c. search needs) slice-aggregate-finish (λ c. search needs) (λ c. search needs)
+    finish-requires (λ c. search needs))
