@@ -1,9 +1,10 @@
-# What a reader of demand 3 must believe. Starts from the words of `series` and of the numbers for C, follows every name
-# in a definition to its own definition, and stops at the definitions that docs/PROMISES.md lists as proved to mean
-# something else. Each definition met must stand in the table "to believe" with its file, and each one there must be
-# met. Prints what differs, then "N definitions, M lines".
+# What a reader must believe. Starts from the words of a theorem, follows every name in a definition to its own
+# definition, and stops at the definitions that docs/PROMISES.md lists as proved to mean something else. Each definition
+# met must stand in the table of that theorem with its file, and each one there must be met. The first table is that of
+# demand 3 and the numbers for C, the second that of lines and the bench program, which adds to the first. Prints what
+# differs, then for each table "N definitions, M lines".
 #
-# Arguments: docs/PROMISES.md, then every specs/*.antt and the src/lib.rt of calls.
+# Arguments: docs/PROMISES.md, then every specs/*.antt and the src/*.rt that declare types of definitions.
 
 # the names in code style of a text, into list[1..n]
 function quoted(text, list,   n) {
@@ -69,16 +70,17 @@ FNR == 1 {
 }
 FILENAME ~ /PROMISES/ {
     if ($0 ~ /^\| to believe \|/) table = 1
+    else if ($0 ~ /^\| to believe for lines /) table = 3
     else if ($0 ~ /^\| definition \| proved to mean/) table = 2
     else if ($0 !~ /^\|/) table = 0
-    if (table == 1) {
+    if (table == 1 || table == 3) {
         # names are followed by their file: `a`, `b`: `crate/File`
         rest = $0
         while (match(rest, /(`[^`]+`, )*`[^`]+`: `[a-z]+\/[A-Za-z_]+`/)) {
             group = substr(rest, RSTART, RLENGTH)
             rest = substr(rest, RSTART + RLENGTH)
             n = quoted(group, list)
-            for (i = 1; i < n; i++) listed[list[n] ":" list[i]] = 1
+            for (i = 1; i < n; i++) listed[list[n] ":" list[i]] = table
         }
     }
     if (table == 2) {
@@ -89,7 +91,7 @@ FILENAME ~ /PROMISES/ {
     next
 }
 FILENAME ~ /\.rt$/ {
-    if ($0 ~ /^pub enum /) { name = $3; begin(name); block = 0 }
+    if ($0 ~ /^pub (enum|struct) /) { begin($3); block = 0 }
     if (block == 0) add($0)
     if ($0 ~ /^}/) { block = -1; current = "" }
     next
@@ -128,10 +130,13 @@ FILENAME ~ /\.rt$/ {
     } else
         add(line)
 }
-END {
-    n = split("calls/Claim:Agrees calls/Series:AllBring calls/Series:modelOf calls/Series:emptyModel " \
-        "format/Format:AllBytes calls/Answers:answerNumber calls/Answers:numberAfter", queue, " ")
-    for (i = 1; i <= n; i++) met[queue[i]] = 1
+# follows the names from some definitions, and compares what is met with a table
+function follow(roots, table, theorem,   n, i, j, d, e, w, short, count, total, queue, word, part) {
+    n = split(roots, queue, " ")
+    for (i = 1; i <= n; i++) {
+        if (!(queue[i] in lines)) fail("`" queue[i] "` is no definition")
+        met[queue[i]] = table
+    }
     for (i = 1; i <= n; i++) {
         d = queue[i]
         count = split(text[d], word, /[ (){},;]+/)
@@ -140,29 +145,34 @@ END {
             sub(/\.$/, "", w)
             if (w ~ /^\./ || !((home[d], w) in meaning)) continue
             e = meaning[home[d], w]
-            if (e in met || !(e in lines)) continue
             short = e
             sub(/.*:/, "", short)
-            if (short in proved) continue
-            met[e] = 1
+            if (e in met || !(e in lines) || short in proved) continue
+            met[e] = table
             queue[++n] = e
         }
     }
-    failed = 0
     for (i = 1; i <= n; i++) {
         total += lines[queue[i]]
-        if (!(queue[i] in listed)) {
-            split(queue[i], part, ":")
-            print "docs/PROMISES.md: `" part[2] "` of " part[1] " is met from `Agrees` and stands in neither table"
-            failed++
-        }
+        split(queue[i], part, ":")
+        if (listed[queue[i]] != table) fail("`" part[2] "` of " part[1] " is met from " theorem " and not listed")
     }
     for (d in listed)
-        if (!(d in met)) {
+        if (listed[d] == table && met[d] != table) {
             split(d, part, ":")
-            print "docs/PROMISES.md: `" part[2] "` of " part[1] " is not met from `Agrees`"
-            failed++
+            fail("`" part[2] "` of " part[1] " is not met from " theorem)
         }
-    print n " definitions, " total " lines"
+    print theorem ": " n " definitions, " total " lines"
+}
+
+function fail(what) { print "docs/PROMISES.md: " what; failed++ }
+
+END {
+    follow("calls/Claim:Agrees calls/Series:AllBring calls/Series:modelOf calls/Series:emptyModel " \
+        "format/Format:AllBytes calls/Answers:answerNumber calls/Answers:numberAfter", 1, "demand 3")
+    follow("console/Machine:machine console/Input:Lines text/Grammar:CommandLine text/Grammar:WellFormed " \
+        "text/Grammar:FirstBad text/Grammar:totalText text/Outcome:parsed text/Outcome:listed " \
+        "scalebench/Typed:lineNumber bench/Output:Took bench/Output:Finished bench/Turns:ReadTurn bench/Turns:MetAll", 3,
+        "lines and the bench program")
     exit failed > 0
 }

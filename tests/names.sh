@@ -3,7 +3,7 @@
 # include/, a crate, a file, a must-fail edit (crate/label) or a command. Names followed by a colon and a file
 # (`a`, `b`: `crate/File`) are defined in that file. Every must-fail edit stands once in PROMISES. In docs/DECISIONS.md,
 # README.md and CONTRIBUTING.md, which also quote code, single words and paths are looked up. Last, PROMISES lists what a
-# reader of demand 3 must believe, and how many lines that is gets printed (tests/believed.awk).
+# reader must believe, and how many lines that is gets printed (tests/believed.awk).
 set -u
 cd "$(dirname "$0")/.." || exit 2
 work=$(mktemp -d) || exit 2
@@ -130,9 +130,9 @@ passed=$(tail -n 1 "$work/found")
 failed=${passed#* }
 passed=${passed% *}
 
-awk -f tests/believed.awk docs/PROMISES.md crates/*/specs/*.antt crates/calls/src/lib.rt >"$work/believed" ||
+awk -f tests/believed.awk docs/PROMISES.md crates/*/specs/*.antt crates/*/src/*.rt >"$work/believed" ||
     failed=$((failed + 1))
-sed '$s/^/to believe: /' "$work/believed"
+sed '/^docs/!s/^/to believe for /' "$work/believed"
 passed=$((passed + 1))
 echo "$passed passed, $failed failed"
 [ "$failed" -eq 0 ]
