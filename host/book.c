@@ -212,6 +212,15 @@ void book_release(struct book *book)
     flock(book->file, LOCK_UN);
 }
 
+static const char *save_reason(int error)
+{
+    if (error == ESTALE)
+        return "another program has put another file in its place";
+    if (error == ECANCELED)
+        return "its permissions change meanwhile or cannot be kept";
+    return strerror(error);
+}
+
 enum status book_save(struct book *book)
 {
     sigset_t all, before;
@@ -220,8 +229,7 @@ enum status book_save(struct book *book)
     int file = save_over(&book->place, book->file, book->table), error = errno;
     sigprocmask(SIG_SETMASK, &before, NULL);
     if (file < 0) {
-        complain("cannot save", book->place.path, "%s",
-                 error == ESTALE ? "another program has put another file in its place" : strerror(error));
+        complain("cannot save", book->place.path, "%s", save_reason(error));
         return STATUS_FAILED;
     }
     fstat(file, &book->seen);

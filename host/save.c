@@ -86,6 +86,18 @@ static int write_all(int file, const uint8_t *bytes, size_t length)
     return 1;
 }
 
+/* The look comes last, so that little time is left in which another program can change what was looked at. */
+static int put_over(const struct draft *draft, const struct place *place, int old)
+{
+    if (!same_attributes(draft->file, old))
+        return 0;
+    if (!place_holds(place, old)) {
+        errno = ESTALE;
+        return 0;
+    }
+    return renameat(place->folder, draft->name, place->folder, place->name) == 0;
+}
+
 /* A whole draft, on the disk, in its place: over the file `old`, or if there is none with this mode. */
 static int put_draft(struct draft *draft, const struct place *place, int old, mode_t mode, const uint8_t *table)
 {
@@ -95,12 +107,8 @@ static int put_draft(struct draft *draft, const struct place *place, int old, mo
         return 0;
     if (fsync(draft->file) < 0)
         return 0;
-    if (old >= 0 && !place_holds(place, old)) {
-        errno = ESTALE;
-        return 0;
-    }
     if (old >= 0)
-        return renameat(place->folder, draft->name, place->folder, place->name) == 0;
+        return put_over(draft, place, old);
     if (renameat2(place->folder, draft->name, place->folder, place->name, RENAME_NOREPLACE) == 0)
         return 1;
     /* Not every file system has that. A host killed between the next two steps leaves a stray, which is removed. */

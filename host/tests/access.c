@@ -1,6 +1,8 @@
 /*
  * access HOST: in a folder with a book, access lists. A save keeps that of the book, and takes none from the folder.
- * The exit status is 77 if the file system has no such lists.
+ * access FILE USER GROUP MASK OTHERS: gives the file a list, with these permissions of a user, the group, the mask and
+ * others; with DEFAULT at the end the folder FILE gives it to its files. The exit status is 77 if the file system has no
+ * such lists.
  */
 #define _GNU_SOURCE
 
@@ -44,10 +46,22 @@ static int check(int fine, const char *what)
     return fine;
 }
 
+static int set(int count, char **arguments)
+{
+    list.entries[1].number = 12345;
+    for (int i = 1; i < 5; i++)
+        list.entries[i].permissions = (uint16_t)atoi(arguments[i + 1]);
+    if (setxattr(arguments[1], count == 7 ? default_name : list_name, &list, sizeof list, 0) == 0)
+        return 0;
+    return errno == ENOTSUP ? 77 : 1;
+}
+
 int main(int count, char **arguments)
 {
     char bytes[sizeof list + 1];
     struct stat status;
+    if (count == 6 || count == 7)
+        return set(count, arguments);
     list.entries[1].number = (uint32_t)geteuid();
     if (count != 2 || chmod("book", 0640) != 0)
         return 2;
