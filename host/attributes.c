@@ -1,6 +1,7 @@
 /*
- * See attributes.h. On a file with an access list the permissions of the group in its mode are the mask of the list, and
- * what the group itself may do stands in the list. So the mode gives the group too much as long as the list is missing.
+ * See attributes.h. On a file with an access list the permissions of the group in its mode are the mask of the list,
+ * and what the group itself may do stands in the list. So the mode gives the group too much as long as the list is
+ * missing.
  */
 #define _GNU_SOURCE
 

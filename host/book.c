@@ -96,7 +96,7 @@ static enum status begin(struct book *book)
 enum status book_open(struct book *book, const char *path, int how, unsigned wait)
 {
     *book = (struct book){.file = -1, .wait = wait};
-    if (!place_find(&book->place, path, how & BOOK_NEW))
+    if (!place_find(&book->place, path, (how & BOOK_NEW ? PLACE_NEW : 0) | PLACE_ADVISE))
         return STATUS_BOOK;
     int file = place_open(&book->place, O_RDONLY);
     if (file < 0 && errno == ENOENT && how & BOOK_NEW) {
@@ -111,7 +111,7 @@ enum status book_open(struct book *book, const char *path, int how, unsigned wai
 enum status book_look(struct book *book, const char *path, unsigned *refusal)
 {
     *book = (struct book){.file = -1};
-    if (!place_find(&book->place, path, 0))
+    if (!place_find(&book->place, path, PLACE_ADVISE))
         return STATUS_BOOK;
     int file = place_open(&book->place, O_RDONLY);
     return file < 0 ? cannot_open(book) : read_file(book, file, refusal);

@@ -7,66 +7,123 @@
 
 #include <errno.h>
 #include <fcntl.h>
+#include <limits.h>
 #include <stdlib.h>
 #include <string.h>
 #include <sys/stat.h>
 #include <unistd.h>
 
-/* The path of the file itself, or NULL with errno; once more if another host began it just now. */
-static char *follow(const char *path, int *missing)
+enum { MOST_LINKS = 40 };
+
+static void close_place(struct place *place)
 {
-    struct stat status;
-    char *real = realpath(path, NULL);
-    int error = errno;
-    size_t length = strlen(path);
-    *missing = !real && error == ENOENT && length > 0 && path[length - 1] != '/' && lstat(path, &status) < 0;
-    if (!real && error == ENOENT && !*missing && length > 0 && lstat(path, &status) == 0 && !S_ISLNK(status.st_mode))
-        return realpath(path, NULL);
-    errno = error;
-    return real;
+    if (place->folder >= 0)
+        close(place->folder);
+    free(place->name);
 }
 
-/* The path of the file itself, or the path as given if the file is to be begun; NULL if it cannot be used. */
-static char *real_path(const char *path, int begin)
+/*
+ * Opens the folder of the last part of a path, which starts at the place's folder, and makes that part the name; false
+ * with errno. A path that ends as a folder does is one. The path is changed.
+ */
+static int enter(struct place *place, char *path)
+{
+    char *slash = strrchr(path, '/');
+    const char *name = slash ? slash + 1 : path;
+    char *copy = strdup(slash && !*name ? "." : name);
+    if (slash)
+        slash[slash == path] = 0;
+    int from = place->folder < 0 ? AT_FDCWD : place->folder;
+    int folder = openat(from, slash ? path : ".", O_PATH | O_DIRECTORY | O_CLOEXEC), error = errno;
+    close_place(place);
+    place->folder = folder;
+    place->name = copy;
+    errno = copy ? error : ENOMEM;
+    return copy && folder >= 0;
+}
+
+/*
+ * Whoever may write a folder can put a link there that leads to a book of this user, who named another. So a link belongs
+ * to this user, to root or to the owner of the folder, or the folder is one that only its owner may write.
+ */
+static int trusted(const struct place *place, const struct stat *link)
+{
+    struct stat folder;
+    return link->st_uid == geteuid() || link->st_uid == 0 ||
+           (fstat(place->folder, &folder) == 0 && (link->st_uid == folder.st_uid || (folder.st_mode & 022) == 0));
+}
+
+/*
+ * Looks at what the name stands for: the path that a link has, in memory of its own, or NULL. Then `reason` is NULL if
+ * it is a file, "" if it is missing, and otherwise says why it cannot be used.
+ */
+static char *look(const struct place *place, const char **reason)
 {
     struct stat status;
-    int missing;
-    char *real = follow(path, &missing);
-    if (real && stat(real, &status) == 0 && !S_ISREG(status.st_mode)) {
-        complain("cannot open", path, "it is not a file");
-        free(real);
-        return NULL;
+    char target[PATH_MAX];
+    ssize_t length = 0;
+    /* The link is held, so that what is judged is what is read. */
+    int file = openat(place->folder, place->name, O_PATH | O_NOFOLLOW | O_CLOEXEC);
+    *reason = NULL;
+    if (file < 0 || fstat(file, &status) < 0)
+        *reason = errno == ENOENT ? "" : strerror(errno);
+    else if (S_ISLNK(status.st_mode) && !trusted(place, &status))
+        *reason = "it is a link of another user in a folder that others may write";
+    else if (S_ISLNK(status.st_mode) && (length = readlinkat(file, "", target, sizeof target)) < 0)
+        *reason = strerror(errno);
+    else if (!S_ISLNK(status.st_mode) && !S_ISREG(status.st_mode))
+        *reason = "it is not a file";
+    if (file >= 0)
+        close(file);
+    return length > 0 ? strndup(target, (size_t)length) : NULL;
+}
+
+/* Follows the path to its end. The same reasons as of look; "" only of a name that no link leads to. */
+static const char *follow(struct place *place, const char *path)
+{
+    const char *reason = strerror(ELOOP);
+    char *rest = *path ? strdup(path) : NULL;
+    if (!rest)
+        return strerror(*path ? ENOMEM : ENOENT);
+    for (int links = 0; rest && links <= MOST_LINKS; links++) {
+        int entered = enter(place, rest);
+        free(rest);
+        rest = NULL;
+        if (!entered)
+            return strerror(errno);
+        rest = look(place, &reason);
+        if (reason && !*reason && links > 0)
+            reason = strerror(ENOENT);
     }
-    if (!real && missing && begin)
-        return strdup(path);
-    if (!real)
-        complain("cannot open", path, "%s%s", strerror(errno), missing ? " (--new begins a book)" : "");
-    return real;
+    if (rest)
+        reason = strerror(ELOOP);
+    free(rest);
+    return reason;
 }
 
 /* A folder that may be searched and not read is enough to ask of a book in it. */
-static int open_folder(const char *path)
+static int open_folder(struct place *place)
 {
-    int folder = open(path, O_RDONLY | O_DIRECTORY | O_CLOEXEC);
-    return folder >= 0 || errno != EACCES ? folder : open(path, O_PATH | O_DIRECTORY | O_CLOEXEC);
+    int folder = openat(place->folder, ".", O_RDONLY | O_DIRECTORY | O_CLOEXEC);
+    if (folder < 0)
+        return errno == EACCES;
+    close(place->folder);
+    place->folder = folder;
+    return 1;
 }
 
-int place_find(struct place *place, const char *path, int begin)
+int place_find(struct place *place, const char *path, int how)
 {
     *place = (struct place){.path = path, .folder = -1};
-    char *whole = real_path(path, begin);
-    if (!whole)
-        return 0;
-    char *slash = strrchr(whole, '/');
-    place->name = strdup(slash ? slash + 1 : whole);
-    if (slash)
-        slash[slash == whole] = 0;
-    if (place->name)
-        place->folder = open_folder(slash ? whole : ".");
-    free(whole);
-    if (place->folder >= 0)
+    const char *reason = follow(place, path);
+    int missing = reason && !*reason;
+    if (reason && !(missing && how & PLACE_NEW))
+        complain("cannot open", path, "%s%s", missing ? strerror(ENOENT) : reason,
+                 missing && how & PLACE_ADVISE ? " (--new begins a book)" : "");
+    else if (!open_folder(place))
+        complain("cannot open the folder of", path, "%s", strerror(errno));
+    else
         return 1;
-    complain("cannot open the folder of", path, "%s", strerror(errno));
     place_leave(place);
     return 0;
 }
@@ -113,8 +170,6 @@ int place_lasts(const struct place *place)
 
 void place_leave(struct place *place)
 {
-    if (place->folder >= 0)
-        close(place->folder);
-    free(place->name);
+    close_place(place);
     *place = (struct place){.folder = -1};
 }

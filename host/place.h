@@ -11,11 +11,14 @@ struct place {
     int folder;
 };
 
+/* The file may be missing, but not its folder; the message of a missing file advises --new. */
+enum { PLACE_NEW = 1, PLACE_ADVISE = 2 };
+
 /*
- * Finds the place of a file; false if that fails, which is reported. A link is followed: a save would replace the link
- * and not what it leads to. With `begin` the file may be missing, but not its folder.
+ * Finds the place of a file; false if that fails, which is reported. A link is followed, because a save would replace
+ * the link and not what it leads to; but not one that another user may have planted.
  */
-int place_find(struct place *place, const char *path, int begin);
+int place_find(struct place *place, const char *path, int how);
 
 /* Opens the file at the place; -1 with errno if that fails or it is no regular file. */
 int place_open(const struct place *place, int flags);

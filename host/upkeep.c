@@ -47,7 +47,7 @@ enum status put_new(const char *doing, const char *path, const uint8_t *table)
         complain(doing, path, "it exists already");
         return STATUS_FAILED;
     }
-    if (!place_find(&place, path, 1))
+    if (!place_find(&place, path, PLACE_NEW))
         return STATUS_FAILED;
     int file = save_new(&place, 0600, table);
     if (file < 0) {

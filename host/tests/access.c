@@ -1,8 +1,8 @@
 /*
  * access HOST: in a folder with a book, access lists. A save keeps that of the book, and takes none from the folder.
  * access FILE USER GROUP MASK OTHERS: gives the file a list, with these permissions of a user, the group, the mask and
- * others; with DEFAULT at the end the folder FILE gives it to its files. The exit status is 77 if the file system has no
- * such lists.
+ * others; with DEFAULT at the end the folder FILE gives it to its files. The exit status is 77 if the file system has
+ * no such lists.
  */
 #define _GNU_SOURCE
 
