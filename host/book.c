@@ -8,13 +8,13 @@
 
 #include "book.h"
 
+#include "interrupt.h"
 #include "message.h"
 #include "save.h"
 #include "widen.h"
 
 #include <errno.h>
 #include <fcntl.h>
-#include <signal.h>
 #include <string.h>
 #include <sys/file.h>
 #include <time.h>
@@ -86,6 +86,7 @@ static enum status begin(struct book *book)
         fstat(file, &book->seen);
         hold(book, file);
         book_release(book);
+        interrupts_pass(); /* an empty book is no change to be reported */
     } else if (errno != EEXIST) {
         complain("cannot begin", book->place.path, "%s", strerror(errno));
         return STATUS_FAILED;
@@ -223,11 +224,7 @@ static const char *save_reason(int error)
 
 enum status book_save(struct book *book)
 {
-    sigset_t all, before;
-    sigfillset(&all);
-    sigprocmask(SIG_BLOCK, &all, &before); /* an interrupt ends the host between two saves and leaves no draft */
     int file = save_over(&book->place, book->file, book->table), error = errno;
-    sigprocmask(SIG_SETMASK, &before, NULL);
     if (file < 0) {
         complain("cannot save", book->place.path, "%s", save_reason(error));
         return STATUS_FAILED;

@@ -34,7 +34,7 @@ enum status book_refresh(struct book *book);
 enum status book_lock(struct book *book);
 void book_release(struct book *book);
 
-/* Puts the table into the file of a locked book. */
+/* Puts the table into the file of a locked book. Interrupts wait from then on, until the change is reported. */
 enum status book_save(struct book *book);
 
 void book_close(struct book *book);

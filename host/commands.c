@@ -3,6 +3,7 @@
 
 #include "commands.h"
 
+#include "interrupt.h"
 #include "message.h"
 #include "node.h"
 #include "output.h"
@@ -128,12 +129,19 @@ static int stops(enum status status)
     return status == STATUS_BOOK || status == STATUS_BUSY || status == STATUS_FAILED;
 }
 
-/* The end line, and the status in which nothing that went wrong is forgotten. */
+/*
+ * The end line, and the status in which nothing that went wrong is forgotten. What is saved is reported then, but by a
+ * quiet host only by its exit status.
+ */
 static enum status finish(const struct session *session, unsigned long lines, enum status worst)
 {
     uint64_t answer = scalebench_intake(session->book->table, sizeof session->book->table);
     output(session->quiet, "end %lu %u %u\n", lines, scalebench_states(answer), scalebench_transitions(answer));
-    return written() ? worst : STATUS_FAILED;
+    if (!written())
+        return STATUS_FAILED;
+    if (!session->quiet)
+        interrupts_pass();
+    return worst;
 }
 
 enum status carry_out_line(const struct session *session, const char *line)
@@ -177,6 +185,7 @@ static enum status each_line(const struct session *session, FILE *input, struct 
         /* Whoever waits for a line's answer has it before the next line is read. */
         if (!session->batch && !written())
             return STATUS_FAILED;
+        interrupts_pass();
         tally->refused += status == STATUS_REFUSED;
         if (counted && tally->lines % 100 == 0)
             show_count("%lu lines", tally->lines);

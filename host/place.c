@@ -43,8 +43,8 @@ static int enter(struct place *place, char *path)
 }
 
 /*
- * Whoever may write a folder can put a link there that leads to a book of this user, who named another. So a link belongs
- * to this user, to root or to the owner of the folder, or the folder is one that only its owner may write.
+ * Whoever may write a folder can put a link there that leads to a book of this user, who named another. So a link
+ * belongs to this user, to root or to the owner of the folder, or the folder is one that only its owner may write.
  */
 static int trusted(const struct place *place, const struct stat *link)
 {

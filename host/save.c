@@ -8,6 +8,7 @@
 #include "save.h"
 
 #include "attributes.h"
+#include "interrupt.h"
 
 #include <dirent.h>
 #include <errno.h>
@@ -120,6 +121,7 @@ static int put_draft(struct draft *draft, const struct place *place, int old, mo
 static int save(const struct place *place, int old, mode_t mode, const uint8_t *table)
 {
     struct draft draft = {.file = -1};
+    interrupts_wait();
     if (!place_lasts(place)) {
         errno = EACCES;
         return -1;

@@ -9,12 +9,12 @@
 cp "$HOST-moments" ../moments
 # at MOMENT WHAT STATUS OUTPUT ARGUMENTS..: as run, but something happens at that moment
 at() {
-    moment=$1
+    happens=$1
     what=$2
     status=$3
     want=$4
     shift 4
-    MOMENT=$moment HOST=$host ../moments "$@" </dev/null >../out 2>../err
+    MOMENT=$happens HOST=$host ../moments "$@" <../in >../out 2>../err
     equal "$what: status" $? "$status"
     equal "$what: output" "$(cat ../out)" "$want"
 }
@@ -65,10 +65,49 @@ done
 fresh
 at 'write:1:=4' 'an interrupted write' 0 '1 done 1 2
 end 1 1 2' book '(add (3))'
+
+# An interrupt within a save waits for the report. A quiet host reports by its status alone.
+two='1 done 1 2
+end 1 1 2'
+for moment in write:1 renameat:1 fsync:2; do
+    for signal in INT TERM HUP; do
+        fresh
+        case $signal in INT) status=130 ;; TERM) status=143 ;; *) status=129 ;; esac
+        at "$moment:kill -$signal \$PPID" "$signal at $moment" $status "$two" book '(add (3))'
+        holds "$signal at $moment: nothing beside" book
+        run "$signal at $moment: saved" 0 '' -q book '(ask (3))'
+    done
+    fresh
+    at "$moment:kill -INT \$PPID" "quiet, an interrupt at $moment" 0 '' -q book '(add (3))'
+    run "quiet, an interrupt at $moment: saved" 0 '' -q book '(ask (3))'
+    fresh
+    printf '(add (3))\n(add (4))\n' | input
+    at "$moment:kill -INT \$PPID" "lines, an interrupt at $moment" 130 '1 done 1 2' book
+    run "lines, an interrupt at $moment: the first is saved" 0 '' -q book '(ask (3))'
+    run "lines, an interrupt at $moment: the second is not made" 1 '' -q book '(ask (4))'
+    fresh
+    at "$moment:kill -INT \$PPID" "quiet lines, an interrupt at $moment" 130 '' -q book
+    run "quiet lines, an interrupt at $moment: the second is not made" 1 '' -q book '(ask (4))'
+    fresh
+    at "$moment:kill -INT \$PPID" "a batch, an interrupt at $moment" 130 'end 2 1 3' --batch book
+    run "a batch, an interrupt at $moment: saved" 0 '' -q book '(ask (4))'
+    fresh
+    at "$moment:kill -INT \$PPID" "a quiet batch, an interrupt at $moment" 0 '' -q --batch book
+    input </dev/null
+done
+for moment in write:1 renameat2:1 fsync:2; do
+    fresh
+    at "$moment:kill -INT \$PPID" "a copy, an interrupt at $moment" 0 '' --backup copy book
+    same "a copy, an interrupt at $moment: made" copy book
+    holds "a copy, an interrupt at $moment: nothing beside" book copy
+done
 fresh
-at 'renameat:1:kill -INT $PPID' 'an interrupt within a save' 130 '' -q book '(add (3))'
-holds 'an interrupt within a save: nothing beside' book
-run 'an interrupt within a save: saved' 0 '' -q book '(ask (3))'
+at 'renameat2:1:kill -INT $PPID' 'a new book, an interrupt' 130 '' --new other '(add (3))'
+holds 'a new book, an interrupt: nothing beside' book other
+run 'a new book, an interrupt: empty' 0 'other is sound: 0 states, 0 transitions' --check other
+fresh
+at 'flock:1:kill -TERM $PPID' 'an interrupt before a save' 143 '' book '(add (3))'
+same 'an interrupt before a save: left' book ../sample
 fresh
 at 'renameat:1:kill -KILL $PPID' 'a kill within a save' 137 '' book '(add (3))'
 equal 'a kill within a save leaves its draft' "$(find . -name '.scalebench-*' | wc -l)" 1
