@@ -76,7 +76,7 @@ static enum status cannot_open(const struct book *book)
     return STATUS_BOOK;
 }
 
-/* An empty book where there is none; fine as well if another host is faster. */
+/* A book with the table where there is none; fine as well if another host is faster. */
 static enum status begin(struct book *book)
 {
     mode_t mask = umask(0);
@@ -86,7 +86,6 @@ static enum status begin(struct book *book)
         fstat(file, &book->seen);
         hold(book, file);
         book_release(book);
-        interrupts_pass(); /* an empty book is no change to be reported */
     } else if (errno != EEXIST) {
         complain("cannot begin", book->place.path, "%s", strerror(errno));
         return STATUS_FAILED;
@@ -102,6 +101,7 @@ enum status book_open(struct book *book, const char *path, int how, unsigned wai
     int file = place_open(&book->place, O_RDONLY);
     if (file < 0 && errno == ENOENT && how & BOOK_NEW) {
         enum status status = how & BOOK_TRY ? STATUS_FINE : begin(book);
+        interrupts_pass(); /* an empty book is no change to be reported */
         if (status != STATUS_FINE || how & BOOK_TRY || book->file >= 0)
             return status;
         file = place_open(&book->place, O_RDONLY);
@@ -187,6 +187,17 @@ static int changeable(struct book *book, int file)
     return !reason;
 }
 
+/* The book's file, locked, if it may be replaced; otherwise -1 and the status. */
+static int lock(struct book *book, enum status *status)
+{
+    int file = open_locked(book, status);
+    if (file < 0 || changeable(book, file))
+        return file;
+    close(file);
+    *status = STATUS_BOOK;
+    return -1;
+}
+
 enum status book_lock(struct book *book)
 {
     const struct timespec moment = {0, 100000};
@@ -195,13 +206,9 @@ enum status book_lock(struct book *book)
     /* A host that makes one change after another leaves the book alone for a moment, so that others get their turn. */
     if (book->locked_before)
         nanosleep(&moment, NULL);
-    int file = open_locked(book, &status);
+    int file = lock(book, &status);
     if (file < 0)
         return status;
-    if (!changeable(book, file)) {
-        close(file);
-        return STATUS_BOOK;
-    }
     if (fstat(file, &now) < 0 || !unchanged(&now, &book->seen))
         return take_in(book, file);
     hold(book, file);
@@ -232,6 +239,24 @@ enum status book_save(struct book *book)
     fstat(file, &book->seen);
     hold(book, file);
     return STATUS_FINE;
+}
+
+enum status book_replace(struct book *book, const char *path, int how, unsigned wait, const uint8_t *table)
+{
+    enum status status = STATUS_FINE;
+    *book = (struct book){.file = -1, .wait = wait};
+    memcpy(book->table, table, sizeof book->table);
+    if (!place_find(&book->place, path, (how & BOOK_NEW ? PLACE_NEW : 0) | PLACE_ADVISE))
+        return STATUS_BOOK;
+    if (how & BOOK_NEW && faccessat(book->place.folder, book->place.name, F_OK, AT_SYMLINK_NOFOLLOW) < 0)
+        status = begin(book);
+    if (status != STATUS_FINE || book->file >= 0)
+        return status;
+    int file = lock(book, &status);
+    if (file < 0)
+        return status;
+    hold(book, file);
+    return book_save(book);
 }
 
 void book_close(struct book *book)

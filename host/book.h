@@ -37,6 +37,9 @@ void book_release(struct book *book);
 /* Puts the table into the file of a locked book. Interrupts wait from then on, until the change is reported. */
 enum status book_save(struct book *book);
 
+/* Puts a sound table into the book at a path, whatever that holds, even if it is damaged; BOOK_NEW as above. */
+enum status book_replace(struct book *book, const char *path, int how, unsigned wait, const uint8_t *table);
+
 void book_close(struct book *book);
 
 #endif

@@ -45,6 +45,8 @@ static enum status carry_out_options(struct book *book, const struct options *op
         return check_book(book, options->book, options->quiet);
     if (options->backup)
         return back_up(book, options->book, options->backup);
+    if (options->restore)
+        return restore(book, options->book, options->restore, options->begin ? BOOK_NEW : 0, options->wait);
     if (options->tree)
         return print_number(book, options->book, options->tree, options->quiet);
     if (options->numbered)

@@ -13,6 +13,7 @@ const char help[] =
     "       scalebench --batch [--new] [--dry-run] [--wait SECONDS] [-q] BOOK\n"
     "       scalebench --check [-q] BOOK\n"
     "       scalebench --backup FILE BOOK\n"
+    "       scalebench --restore COPY [--new] [--wait SECONDS] BOOK\n"
     "       scalebench --number TREE [-q] BOOK\n"
     "       scalebench --tree NUMBER [-q] BOOK\n"
     "       scalebench --list [-q] BOOK\n"
@@ -41,6 +42,9 @@ const char help[] =
     "                      (5 if not given, 0 not to wait)\n"
     "      --check         say whether BOOK is sound, and if not why\n"
     "      --backup FILE   copy BOOK to FILE, which must not exist\n"
+    "      --restore COPY  put COPY, which must be a sound book, into BOOK, whatever\n"
+    "                      that holds, in one step, also while others use it; BOOK\n"
+    "                      keeps its owner, group and permissions\n"
     "      --number TREE   print the serial number of an approved assembly, from 0 to\n"
     "                      the total less one; else not part, not PLACE, refused\n"
     "                      NUMBER, form COLUMN or long. A change of BOOK may give an\n"
@@ -60,12 +64,12 @@ const char help[] =
     "\n"
     "exit status\n"
     "  0  COMMAND: approved, done or counted; standard input: each line done or\n"
-    "     answered; --check: sound; --backup: copied; --number, --tree: found;\n"
-    "     --list: all are listed; --widen: made\n"
+    "     answered; --check: sound; --backup: copied; --restore: restored;\n"
+    "     --number, --tree: found; --list: all are listed; --widen: made\n"
     "  1  COMMAND or --number: the assembly is not approved\n"
     "  2  the command line is wrong\n"
-    "  3  BOOK or OLD is missing, is damaged, has labels of another width, or may not\n"
-    "     be read or changed\n"
+    "  3  BOOK, COPY or OLD is missing, is damaged, has labels of another width, or\n"
+    "     may not be read or changed\n"
     "  4  another program is changing BOOK\n"
     "  5  BOOK or FILE could not be saved, or input or output failed; what was\n"
     "     printed as done is saved\n"
@@ -126,7 +130,7 @@ static int read_number(const char *text, struct options *options)
 
 static int takes_value(const char *option)
 {
-    static const char *const options[] = {"--wait", "--backup", "--number", "--tree", "--widen"};
+    static const char *const options[] = {"--wait", "--backup", "--restore", "--number", "--tree", "--widen"};
     for (size_t i = 0; i < sizeof options / sizeof options[0]; i++)
         if (strcmp(option, options[i]) == 0)
             return 1;
@@ -144,6 +148,8 @@ static int read_value(const char *option, const char *value, struct options *opt
         return read_number(value, options);
     if (strcmp(option, "--backup") == 0)
         options->backup = value;
+    else if (strcmp(option, "--restore") == 0)
+        options->restore = value;
     else if (strcmp(option, "--widen") == 0)
         options->widen = value;
     else
@@ -164,16 +170,18 @@ static int read_name(const char *argument, struct options *options)
 static int fits(const struct options *options)
 {
     int changes = options->begin || options->batch || options->dry_run;
-    int alone = options->check + !!options->backup + !!options->tree + options->numbered + options->list +
+    int looks = options->check + !!options->backup + !!options->tree + options->numbered + options->list +
                 !!options->widen;
     if (options->help || options->version)
         return 1;
     if (!options->book)
         explain("no book named");
-    else if (alone > 1)
-        explain("--check, --backup, --number, --tree, --list and --widen do not go together");
-    else if (alone && (changes || options->command))
+    else if (looks + !!options->restore > 1)
+        explain("--check, --backup, --restore, --number, --tree, --list and --widen do not go together");
+    else if (looks && (changes || options->command))
         explain("--check, --backup, --number, --tree, --list and --widen change nothing and take no COMMAND");
+    else if (options->restore && (options->batch || options->dry_run || options->command))
+        explain("--restore takes no COMMAND, --batch or --dry-run");
     else if (options->batch && options->command)
         explain("--batch reads standard input and takes no COMMAND");
     else

@@ -5,7 +5,7 @@
 #include <stdint.h>
 
 struct options {
-    const char *book, *command, *backup, *tree, *widen;
+    const char *book, *command, *backup, *restore, *tree, *widen;
     int begin, batch, check, dry_run, list, numbered, quiet, help, version;
     unsigned wait;   /* seconds */
     uint64_t number; /* of the assembly that is asked for, if `numbered` */

@@ -39,6 +39,16 @@ enum status back_up(struct book *book, const char *path, const char *copy)
     return status != STATUS_FINE ? status : put_new("cannot back up to", copy, book->table);
 }
 
+enum status restore(struct book *book, const char *path, const char *copy, int how, unsigned wait)
+{
+    static struct book from;
+    enum status status = book_open(&from, copy, 0, 0);
+    if (status == STATUS_FINE)
+        status = book_replace(book, path, how, wait, from.table);
+    book_close(&from);
+    return status;
+}
+
 enum status put_new(const char *doing, const char *path, const uint8_t *table)
 {
     struct place place;

@@ -10,6 +10,9 @@ enum status check_book(struct book *book, const char *path, int quiet);
 /* Copies the book, as it is at one moment, to a file that does not exist. */
 enum status back_up(struct book *book, const char *path, const char *copy);
 
+/* Puts a copy, which must be sound, into the book, which keeps its owner, group and permissions. */
+enum status restore(struct book *book, const char *path, const char *copy, int how, unsigned wait);
+
 /*
  * Puts a table into a file that does not exist; messages begin with `doing`. The file is private whatever the table is
  * from: who may read that is not known to be who may read the new file's folder.

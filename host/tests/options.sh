@@ -36,6 +36,12 @@ wrong 'an old book alone' 'no book named' --widen old
 wrong 'widen and back up' 'do not go together' --widen old --backup copy book
 wrong 'widen with a command' 'take no COMMAND' --widen old book '(ask (1))'
 wrong 'widen to a new book' 'change nothing' --widen old --new book
+wrong 'nothing to restore' 'a value is missing after --restore' book --restore
+wrong 'no book to restore' 'no book named' --restore copy
+wrong 'restore and back up' 'do not go together' --restore copy --backup copy book
+wrong 'restore with a command' '--restore takes no COMMAND' --restore copy book '(ask (1))'
+wrong 'restore in a dry run' '--restore takes no COMMAND, --batch or --dry-run' --dry-run --restore copy book
+wrong 'restore in a batch' '--restore takes no COMMAND, --batch or --dry-run' --batch --restore copy book
 wrong 'a list and a check' 'do not go together' --list --check book
 wrong 'a tree with a command' 'take no COMMAND' --tree 0 book '(ask (1))'
 wrong 'a list of a new book' 'change nothing' --list --new book
@@ -48,7 +54,7 @@ for option in -h --help; do
     equal "$option" "$? $(head -c 17 "$folder/out") $(wc -c <"$folder/err")" '0 usage: scalebench 0'
 done
 equal 'help within 80 columns' "$(awk 'length > 80' "$folder/out")" ''
-for word in --new --batch --dry-run --wait --check --backup --number --tree --list --widen \
+for word in --new --batch --dry-run --wait --check --backup --restore --number --tree --list --widen \
     --quiet -q --help -h --version; do
     grep -q -- "$word" "$folder/out"
     equal "help names $word" $? 0
