@@ -169,13 +169,11 @@ static int open_locked(const struct book *book, enum status *status)
 }
 
 /* Whether the locked file may be replaced. Root may write any file, but one that nobody may write is meant to stay. */
-static int changeable(struct book *book, int file)
+static int changeable(const struct book *book, int file)
 {
     struct stat status;
     const char *reason = NULL;
-    if (!book->locked_before)
-        remove_strays(book->place.folder, file);
-    book->locked_before = 1;
+    remove_second_names(book->place.folder, file);
     if (fstat(file, &status) < 0)
         reason = strerror(errno);
     else if ((status.st_mode & 0222) == 0)
@@ -190,6 +188,10 @@ static int changeable(struct book *book, int file)
 /* The book's file, locked, if it may be replaced; otherwise -1 and the status. */
 static int lock(struct book *book, enum status *status)
 {
+    /* Before the lock, so that nobody waits for it. */
+    if (!book->locked_before)
+        remove_strays(book->place.folder);
+    book->locked_before = 1;
     int file = open_locked(book, status);
     if (file < 0 || changeable(book, file))
         return file;

@@ -153,35 +153,57 @@ static int is_draft(const char *name)
            strspn(name + PREFIX_LENGTH, "0123456789abcdef") == 2 * RANDOM_BYTES;
 }
 
-/* What this host has locked, or can lock, has no living writer. */
-static int abandoned(int file, const struct stat *locked)
+/* So many names of a folder are read, and so many drafts looked at: anyone may fill a folder with them. */
+enum { MOST_NAMES = 10000, MOST_DRAFTS = 100 };
+
+/* What can be locked has no living writer. */
+static int abandoned(int folder, const char *name)
 {
     struct stat status;
-    if (fstat(file, &status) < 0 || !S_ISREG(status.st_mode))
+    int file = openat(folder, name, O_RDONLY | O_NOFOLLOW | O_NONBLOCK | O_NOCTTY | O_CLOEXEC);
+    if (file < 0)
         return 0;
-    if (status.st_dev == locked->st_dev && status.st_ino == locked->st_ino)
-        return 1;
-    return status.st_uid == geteuid() && status.st_size <= SCALEBENCH_TABLE_BYTES &&
-           flock(file, LOCK_EX | LOCK_NB) == 0;
+    int left = fstat(file, &status) == 0 && S_ISREG(status.st_mode) && status.st_uid == geteuid() &&
+               status.st_size <= SCALEBENCH_TABLE_BYTES && flock(file, LOCK_EX | LOCK_NB) == 0;
+    close(file);
+    return left;
 }
 
-void remove_strays(int folder, int locked)
+static int names_file(int folder, const struct dirent *entry, const struct stat *file)
 {
     struct stat status;
-    int copy = fstat(locked, &status) < 0 ? -1 : openat(folder, ".", O_RDONLY | O_DIRECTORY | O_CLOEXEC);
+    return entry->d_ino == file->st_ino && fstatat(folder, entry->d_name, &status, AT_SYMLINK_NOFOLLOW) == 0 &&
+           status.st_dev == file->st_dev && status.st_ino == file->st_ino;
+}
+
+/* Removes the drafts that are second names of a file, or if there is none those that are abandoned. */
+static void remove_drafts(int folder, const struct stat *file)
+{
+    int copy = openat(folder, ".", O_RDONLY | O_DIRECTORY | O_CLOEXEC);
     DIR *entries = copy < 0 ? NULL : fdopendir(copy);
     const struct dirent *entry;
-    while (entries && (entry = readdir(entries))) {
+    int names = 0, drafts = 0;
+    while (entries && names++ < MOST_NAMES && drafts < MOST_DRAFTS && (entry = readdir(entries))) {
         if (!is_draft(entry->d_name))
             continue;
-        int file = openat(folder, entry->d_name, O_RDONLY | O_NOFOLLOW | O_NONBLOCK | O_NOCTTY | O_CLOEXEC);
-        if (file >= 0 && abandoned(file, &status))
+        drafts += !file;
+        if (file ? names_file(folder, entry, file) : abandoned(folder, entry->d_name))
             unlinkat(folder, entry->d_name, 0);
-        if (file >= 0)
-            close(file);
     }
     if (entries)
         closedir(entries);
     else if (copy >= 0)
         close(copy);
+}
+
+void remove_strays(int folder)
+{
+    remove_drafts(folder, NULL);
+}
+
+void remove_second_names(int folder, int locked)
+{
+    struct stat status;
+    if (fstat(locked, &status) == 0 && status.st_nlink > 1)
+        remove_drafts(folder, &status);
 }

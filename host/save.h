@@ -20,9 +20,12 @@ int save_over(const struct place *place, int old, const uint8_t *table);
 int save_new(const struct place *place, mode_t mode, const uint8_t *table);
 
 /*
- * Removes what killed saves have left in the folder: files of this user that no living host writes, and second names
- * of the file that this host has locked.
+ * Removes what killed saves have left in the folder: drafts of this user that no living host writes. No more than a
+ * hundred drafts are looked at, so that this takes little time in any folder.
  */
-void remove_strays(int folder, int locked);
+void remove_strays(int folder);
+
+/* Removes second names that hosts killed by the end of save_new have left of the file, which this host has locked. */
+void remove_second_names(int folder, int locked);
 
 #endif

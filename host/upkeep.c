@@ -63,8 +63,8 @@ enum status put_new(const char *doing, const char *path, const uint8_t *table)
     if (file < 0) {
         complain(doing, path, "%s", strerror(errno));
     } else {
-        remove_strays(place.folder, file);
         close(file);
+        remove_strays(place.folder);
     }
     place_leave(&place);
     return file < 0 ? STATUS_FAILED : STATUS_FINE;
