@@ -41,6 +41,7 @@ static enum status carry_out_commands(struct book *book, const struct options *o
 
 static enum status carry_out_options(struct book *book, const struct options *options)
 {
+    const struct range range = {options->from, options->ranged ? options->to : UINT64_MAX, !options->ranged};
     if (options->check)
         return check_book(book, options->book, options->quiet);
     if (options->backup)
@@ -52,7 +53,7 @@ static enum status carry_out_options(struct book *book, const struct options *op
     if (options->numbered)
         return print_tree(book, options->book, options->number, options->quiet);
     if (options->list)
-        return list_book(book, options->book, options->quiet);
+        return list_book(book, options->book, &range, options->quiet);
     if (options->widen)
         return widen_book(options->widen, options->book);
     return carry_out_commands(book, options);

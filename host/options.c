@@ -16,7 +16,7 @@ const char help[] =
     "       scalebench --restore COPY [--new] [--wait SECONDS] BOOK\n"
     "       scalebench --number TREE [-q] BOOK\n"
     "       scalebench --tree NUMBER [-q] BOOK\n"
-    "       scalebench --list [-q] BOOK\n"
+    "       scalebench --list [-q] [FROM TO] BOOK\n"
     "       scalebench --widen OLD BOOK\n"
     "\n"
     "Keeps approved assemblies in the file BOOK. COMMAND, or each line of standard\n"
@@ -52,7 +52,8 @@ const char help[] =
     "      --tree NUMBER   print the approved assembly that has this number; else\n"
     "                      refused NUMBER\n"
     "      --list          print (add TREE) for every approved assembly, by number; a\n"
-    "                      batch of these lines makes an equal book. Numbers whose\n"
+    "                      batch of these lines makes an equal book. With FROM and TO\n"
+    "                      only for the numbers from FROM to TO. Numbers whose\n"
     "                      assembly has more than 48 modules go to standard error\n"
     "      --widen OLD     make BOOK, which must not exist, of OLD, a book of version\n"
     "                      0.5.0 or older with labels of one byte; each label keeps\n"
@@ -75,6 +76,8 @@ const char help[] =
     "     printed as done is saved\n"
     "  6  a line was refused, malformed or too long; the others were carried out,\n"
     "     with --batch none; --number, --tree: refused; --list: some are not listed\n";
+
+enum { MOST_NAMES = 3 };
 
 /* The options that are only given or not, and where that is noted. */
 static const struct {
@@ -117,12 +120,11 @@ static int read_seconds(const char *text, unsigned *seconds)
     return 1;
 }
 
-static int read_number(const char *text, struct options *options)
+static int read_number(const char *text, uint64_t *number)
 {
     size_t digits = strspn(text, "0123456789");
     errno = 0;
-    options->number = strtoull(text, NULL, 10);
-    options->numbered = 1;
+    *number = strtoull(text, NULL, 10);
     if (digits == 0 || text[digits] || errno == ERANGE)
         return wrong("not a number up to 18446744073709551615:", text);
     return 1;
@@ -144,8 +146,10 @@ static int read_value(const char *option, const char *value, struct options *opt
         return wrong("a value is missing after", option);
     if (strcmp(option, "--wait") == 0)
         return read_seconds(value, &options->wait);
-    if (strcmp(option, "--tree") == 0)
-        return read_number(value, options);
+    if (strcmp(option, "--tree") == 0) {
+        options->numbered = 1;
+        return read_number(value, &options->number);
+    }
     if (strcmp(option, "--backup") == 0)
         options->backup = value;
     else if (strcmp(option, "--restore") == 0)
@@ -157,13 +161,21 @@ static int read_value(const char *option, const char *value, struct options *opt
     return 1;
 }
 
-static int read_name(const char *argument, struct options *options)
+/* What is no option: the book, and a command after it or the numbers to be listed before it. */
+static int read_names(int count, const char *const *names, struct options *options)
 {
-    const char **place = options->book ? &options->command : &options->book;
-    if (*place)
-        return wrong("too many arguments:", argument);
-    *place = argument;
-    return 1;
+    options->ranged = options->list && count == MOST_NAMES;
+    if (count == MOST_NAMES && !options->list)
+        return wrong("too many arguments:", names[MOST_NAMES - 1]);
+    if (!options->ranged) {
+        options->book = names[0];
+        options->command = names[1];
+        return 1;
+    }
+    options->book = names[2];
+    if (!read_number(names[0], &options->from) || !read_number(names[1], &options->to))
+        return 0;
+    return options->from <= options->to || wrong("the first number to be listed is above the last:", names[0]);
 }
 
 /* Whether what was asked for goes together. */
@@ -178,6 +190,8 @@ static int fits(const struct options *options)
         explain("no book named");
     else if (looks + !!options->restore > 1)
         explain("--check, --backup, --restore, --number, --tree, --list and --widen do not go together");
+    else if (options->list && options->command)
+        explain("--list takes FROM and TO or neither, and no COMMAND");
     else if (looks && (changes || options->command))
         explain("--check, --backup, --number, --tree, --list and --widen change nothing and take no COMMAND");
     else if (options->restore && (options->batch || options->dry_run || options->command))
@@ -191,14 +205,17 @@ static int fits(const struct options *options)
 
 int read_options(int count, char **arguments, struct options *options)
 {
-    int ended = 0;
+    const char *names[MOST_NAMES] = {NULL};
+    int ended = 0, named = 0;
     *options = (struct options){.wait = 5};
     for (int i = 1; i < count; i++) {
         const char *argument = arguments[i];
         int fine = 1;
-        if (ended || *argument != '-')
-            fine = read_name(argument, options);
-        else if (strcmp(argument, "--") == 0)
+        if (ended || *argument != '-') {
+            if (named == MOST_NAMES)
+                return wrong("too many arguments:", argument);
+            names[named++] = argument;
+        } else if (strcmp(argument, "--") == 0)
             ended = 1;
         else if (takes_value(argument))
             fine = read_value(argument, arguments[++i], options);
@@ -207,5 +224,5 @@ int read_options(int count, char **arguments, struct options *options)
         if (!fine)
             return 0;
     }
-    return fits(options);
+    return read_names(named, names, options) && fits(options);
 }

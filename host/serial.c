@@ -8,6 +8,7 @@
 #include "output.h"
 
 #include <inttypes.h>
+#include <signal.h>
 #include <stdio.h>
 #include <string.h>
 #include <unistd.h>
@@ -117,20 +118,36 @@ enum status print_tree(struct book *book, const char *path, uint64_t number, int
     return answered(STATUS_FINE);
 }
 
-/* Numbers one after another that are refused alike. */
+/* Numbers one after another that are refused alike; it is reported when they have become so many, and at their end. */
 struct gap {
-    uint64_t first, count;
+    uint64_t first, count, report_at;
     unsigned refusal;
 };
 
-static void report_gap(struct gap *gap)
+static void report_numbers(uint64_t first, uint64_t last, const char *so_far, unsigned refusal)
 {
-    if (gap->count == 1)
-        explain("number %" PRIu64 ": %s", gap->first, scalebench_reason(gap->refusal));
-    else if (gap->count > 1)
-        explain("numbers %" PRIu64 " to %" PRIu64 ": %s", gap->first, gap->first + gap->count - 1,
-                scalebench_reason(gap->refusal));
-    gap->count = 0;
+    if (first == last)
+        explain("number %" PRIu64 "%s: %s", first, so_far, scalebench_reason(refusal));
+    else
+        explain("numbers %" PRIu64 " to %" PRIu64 "%s: %s", first, last, so_far, scalebench_reason(refusal));
+}
+
+static void report_gap(const struct gap *gap, const char *so_far)
+{
+    if (gap->count > 0)
+        report_numbers(gap->first, gap->first + gap->count - 1, so_far, gap->refusal);
+}
+
+/* A gap may have more numbers than anyone waits for. */
+static void lengthen(struct gap *gap, uint64_t number, unsigned refusal)
+{
+    if (gap->count == 0)
+        *gap = (struct gap){.first = number, .report_at = SHOWN_EACH};
+    gap->refusal = refusal;
+    if (++gap->count < gap->report_at)
+        return;
+    report_gap(gap, " so far");
+    gap->report_at *= 10;
 }
 
 /* Prints the assembly that has a number, or makes the gap longer by it; whether it is printed. */
@@ -138,48 +155,85 @@ static int list_one(const struct book *book, uint64_t number, struct gap *gap, i
 {
     char text[TREE_TEXT];
     unsigned refusal = tree_of(book, number, text);
-    if (!refusal) {
-        report_gap(gap);
-        output(quiet, "(add %s)\n", text);
-        return 1;
+    if (refusal) {
+        lengthen(gap, number, refusal);
+        return 0;
     }
-    if (gap->count == 0)
-        gap->first = number;
-    gap->refusal = refusal;
-    gap->count++;
-    return 0;
+    report_gap(gap, "");
+    gap->count = 0;
+    output(quiet, "(add %s)\n", text);
+    return 1;
 }
 
-static enum status list_all(const struct book *book, uint64_t total, int quiet)
+static volatile sig_atomic_t interrupt; /* the signal that ends the list */
+
+static void note_interrupt(int number)
+{
+    interrupt = number;
+}
+
+/* A second interrupt does not wait for the line that is written. */
+static void catch_interrupts(void)
+{
+    static const int signals[] = {SIGINT, SIGTERM, SIGHUP};
+    struct sigaction action = {.sa_handler = note_interrupt, .sa_flags = (int)(SA_RESTART | SA_RESETHAND)}, before;
+    sigemptyset(&action.sa_mask);
+    for (size_t i = 0; i < sizeof signals / sizeof signals[0]; i++)
+        if (sigaction(signals[i], NULL, &before) == 0 && before.sa_handler != SIG_IGN)
+            sigaction(signals[i], &action, NULL);
+}
+
+/* Ends the host as the signal would have ended it. */
+static enum status interrupted(uint64_t number)
+{
+    explain("interrupted before number %" PRIu64, number);
+    written();
+    signal(interrupt, SIG_DFL);
+    raise(interrupt);
+    return STATUS_FAILED;
+}
+
+/* Lists the numbers from one on, before the end; whether all are listed. */
+static enum status list_numbers(const struct book *book, uint64_t from, uint64_t end, int quiet)
 {
     struct gap gap = {0};
-    uint64_t listed = 0;
+    uint64_t listed = 0, number = from;
     int counted = !quiet && isatty(STDERR_FILENO) && !isatty(STDOUT_FILENO);
-    for (uint64_t number = 0; number < total; number++) {
+    for (; number < end && !interrupt; number++) {
         listed += (uint64_t)list_one(book, number, &gap, quiet);
-        if ((number + 1) % SHOWN_EACH != 0)
+        if ((number + 1 - from) % SHOWN_EACH != 0)
             continue;
         if (counted)
-            show_count("%" PRIu64 " of %" PRIu64 " assemblies", number + 1, total);
+            show_count("%" PRIu64 " of %" PRIu64 " assemblies", number + 1 - from, end - from);
         if (!written())
             return STATUS_FAILED;
     }
-    report_gap(&gap);
     if (counted)
-        show_count("%" PRIu64 " of %" PRIu64 " assemblies", total, total);
+        show_count("%" PRIu64 " of %" PRIu64 " assemblies", number - from, end - from);
+    report_gap(&gap, "");
     end_count();
-    if (listed < total)
-        explain("%" PRIu64 " of %" PRIu64 " assemblies are not listed", total - listed, total);
-    return answered(listed < total ? STATUS_REFUSED : STATUS_FINE);
+    if (number < end)
+        return interrupted(number);
+    if (listed < end - from)
+        explain("%" PRIu64 " of %" PRIu64 " assemblies are not listed", end - from - listed, end - from);
+    return answered(listed < end - from ? STATUS_REFUSED : STATUS_FINE);
 }
 
-enum status list_book(struct book *book, const char *path, int quiet)
+enum status list_book(struct book *book, const char *path, const struct range *range, int quiet)
 {
-    const unsigned no_numbers = 18;
+    const unsigned no_numbers = 18, no_such_number = 19;
     uint64_t total = 0;
     enum status status = book_open(book, path, 0, 0);
     if (status != STATUS_FINE)
         return status;
     uint64_t answer = scalebench_total(book->table, sizeof book->table, &total);
-    return scalebench_over(answer) ? refused(no_numbers, quiet) : list_all(book, total, quiet);
+    if (scalebench_over(answer))
+        return refused(no_numbers, quiet);
+    catch_interrupts();
+    if (range->from < total)
+        status = list_numbers(book, range->from, range->to < total ? range->to + 1 : total, quiet);
+    if (range->whole || range->to < total || status == STATUS_FAILED)
+        return status;
+    report_numbers(range->from < total ? total : range->from, range->to, "", no_such_number);
+    return STATUS_REFUSED;
 }

@@ -46,6 +46,13 @@ wrong 'a list and a check' 'do not go together' --list --check book
 wrong 'a tree with a command' 'take no COMMAND' --tree 0 book '(ask (1))'
 wrong 'a list of a new book' 'change nothing' --list --new book
 wrong 'a list of a batch' 'change nothing' --list --batch book
+wrong 'a list from one number' '--list takes FROM and TO or neither' --list 5 book
+wrong 'a list that ends before it begins' 'the first number to be listed is above the last: 5' --list 5 4 book
+wrong 'a list from no number' 'not a number up to 18446744073709551615: x' --list x 4 book
+wrong 'a list to no number' 'not a number up to 18446744073709551615: 18446744073709551616' \
+    --list 0 18446744073709551616 book
+wrong 'a list of four' 'too many arguments: more' --list 0 4 book more
+wrong 'numbers without a list' 'too many arguments: book' 0 4 book
 wrong 'a batch with a command' 'takes no COMMAND' --batch book '(ask (1))'
 holds 'nothing is begun'
 
