@@ -8,6 +8,7 @@
 
 #include "book.h"
 
+#include "holder.h"
 #include "interrupt.h"
 #include "message.h"
 #include "save.h"
@@ -135,6 +136,18 @@ static double seconds(void)
     return (double)now.tv_sec + (double)now.tv_nsec / 1e9;
 }
 
+/* The file is not locked, because of an error or if there is none because another program has it. */
+static int no_lock(const struct book *book, int file, int error)
+{
+    char holder[HOLDER_TEXT];
+    if (error)
+        complain("cannot lock", book->place.path, "%s", strerror(error));
+    else
+        complain("cannot change", book->place.path, "another program has it%s", holder_text(file, holder));
+    close(file);
+    return -1;
+}
+
 /*
  * The book's file, open for writing and locked, or -1 and the status. A host keeps the lock for the time of a save, so
  * a wait looks again often.
@@ -153,16 +166,13 @@ static int open_locked(const struct book *book, enum status *status)
         int locked = flock(file, LOCK_EX | LOCK_NB) == 0, error = errno;
         if (locked && place_holds(&book->place, file))
             return file;
-        close(file);
-        if (!locked && error != EWOULDBLOCK && error != EINTR) {
-            complain("cannot lock", book->place.path, "%s", strerror(error));
-            return -1;
-        }
+        if (!locked && error != EWOULDBLOCK && error != EINTR)
+            return no_lock(book, file, error);
         if (!locked && seconds() >= end) {
-            complain("cannot change", book->place.path, "another program has it");
             *status = STATUS_BUSY;
-            return -1;
+            return no_lock(book, file, 0);
         }
+        close(file);
         if (!locked)
             nanosleep(&moment, NULL);
     }

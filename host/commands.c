@@ -3,12 +3,12 @@
 
 #include "commands.h"
 
+#include "input.h"
 #include "interrupt.h"
 #include "message.h"
 #include "node.h"
 #include "output.h"
 
-#include <errno.h>
 #include <inttypes.h>
 #include <string.h>
 #include <unistd.h>
@@ -150,35 +150,19 @@ enum status carry_out_line(const struct session *session, const char *line)
     return stops(status) ? status : finish(session, 1, status);
 }
 
-/*
- * Reads a line without its end; false if none is left. Of a line that is too long only as many bytes are kept as show
- * that it is.
- */
-static int next_line(FILE *input, uint8_t *line, size_t *length)
-{
-    int byte = getc(input);
-    *length = 0;
-    if (byte == EOF)
-        return 0;
-    for (; byte != '\n' && byte != EOF; byte = getc(input))
-        if (*length <= SCALEBENCH_LINE_BYTES)
-            line[(*length)++] = (uint8_t)byte;
-    return 1;
-}
-
 /* What came of an input. */
 struct tally {
     unsigned long lines, refused;
-    int unread; /* reading failed before its end */
+    int unread; /* errno if reading failed before its end */
 };
 
 /* Carries out every line. A status other than fine ends the host at that line. */
-static enum status each_line(const struct session *session, FILE *input, struct tally *tally)
+static enum status each_line(const struct session *session, struct input *input, struct tally *tally)
 {
     uint8_t line[SCALEBENCH_LINE_BYTES + 1];
     size_t length;
     int counted = session->batch && !session->quiet && isatty(STDERR_FILENO);
-    while (next_line(input, line, &length)) {
+    while (input_line(input, line, &length)) {
         enum status status = carry_out(session, ++tally->lines, line, length);
         if (stops(status))
             return status;
@@ -191,9 +175,9 @@ static enum status each_line(const struct session *session, FILE *input, struct 
             show_count("%lu lines", tally->lines);
     }
     message_line(0);
-    tally->unread = ferror(input);
+    tally->unread = input->error;
     if (tally->unread)
-        explain("cannot read the input: %s", strerror(errno));
+        explain("cannot read the input: %s", strerror(tally->unread));
     if (counted)
         show_count("%lu lines", tally->lines);
     end_count();
@@ -208,30 +192,42 @@ static enum status worst(const struct tally *tally)
 enum status carry_out_all(const struct session *session, FILE *input)
 {
     struct tally tally = {0};
-    enum status status = each_line(session, input, &tally);
+    struct input lines = {.file = input};
+    enum status status = each_line(session, &lines, &tally);
     return status != STATUS_FINE ? status : finish(session, tally.lines, worst(&tally));
 }
 
+/* Saves what the lines have made of the book, if none was refused. */
+static enum status save_batch(const struct session *session, const uint8_t *before, const struct tally *tally)
+{
+    struct book *book = session->book;
+    if (worst(tally) != STATUS_FINE) {
+        explain("nothing is saved: %lu of %lu lines refused", tally->refused, tally->lines);
+        memcpy(book->table, before, sizeof book->table);
+        return STATUS_FINE;
+    }
+    if (session->dry_run || memcmp(before, book->table, sizeof book->table) == 0)
+        return STATUS_FINE;
+    message_line(tally->lines);
+    return book_save(book);
+}
+
+/* The input is read before the lock is taken: it may take any time to come. */
 enum status carry_out_batch(const struct session *session, FILE *input)
 {
     static uint8_t before[SCALEBENCH_TABLE_BYTES];
     struct book *book = session->book;
     struct tally tally = {0};
+    struct input lines = {.file = input};
+    input_read_ahead(&lines);
     enum status status = session->dry_run ? STATUS_FINE : book_lock(book);
-    if (status != STATUS_FINE)
-        return status;
     memcpy(before, book->table, sizeof before);
-    status = each_line(session, input, &tally);
+    if (status == STATUS_FINE)
+        status = each_line(session, &lines, &tally);
+    input_close(&lines);
     if (status == STATUS_FINE && !written())
         status = STATUS_FAILED;
-    if (status != STATUS_FINE)
-        return status;
-    if (worst(&tally) != STATUS_FINE) {
-        explain("nothing is saved: %lu of %lu lines refused", tally.refused, tally.lines);
-        memcpy(book->table, before, sizeof before);
-    } else if (!session->dry_run && memcmp(before, book->table, sizeof before) != 0) {
-        message_line(tally.lines);
-        status = book_save(book);
-    }
+    if (status == STATUS_FINE)
+        status = save_batch(session, before, &tally);
     return status != STATUS_FINE ? status : finish(session, tally.lines, worst(&tally));
 }

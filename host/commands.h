@@ -14,8 +14,9 @@ struct session {
 };
 
 /*
- * Carries out one line, every line of an input, or every line of an input as one change, and prints what came of each,
- * then the end line. Reasons go to standard error. What is printed as done is in the file, except in a dry run.
+ * Carries out one line, every line of an input, or every line of an input as one change, for which all of it is read
+ * first, and prints what came of each, then the end line. Reasons go to standard error. What is printed as done is in
+ * the file, except in a dry run.
  */
 enum status carry_out_line(const struct session *session, const char *line);
 enum status carry_out_all(const struct session *session, FILE *input);

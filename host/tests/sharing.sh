@@ -36,18 +36,22 @@ equal 'the second' "$? $(cat ../out2)" '0 1 approved
 end 2 1 3'
 holds 'nothing beside the book' book
 
-# A batch has the book to itself; others may ask, and wait to change it.
-"$host" --batch book <../first >../out1 2>&1 &
+# A host that saves has the book to itself; others may ask, and wait to change it. It stops until ../first has an end.
+cp "$HOST-moments" ../moments
+MOMENT='write:1:cat ../first >../seen' ../moments book '(add (7))' </dev/null >../out1 2>&1 &
 one=$!
 exec 3>../first
-echo '(add (7))' >&3
-busy() { ! "$host" --wait 0 -q book '(add (1))' 2>/dev/null && [ "$("$host" --wait 0 book '(add (1))' 2>&1)" = \
-    'scalebench: line 1: cannot change book: another program has it' ]; }
-until_true busy
+until_true test -e ../seen
 run 'busy' 4 '' --wait 0 book '(add (8))'
-told 'busy' 'line 1: cannot change book: another program has it'
+if grep -q 'FLOCK' /proc/locks 2>/dev/null; then
+    told 'busy' "line 1: cannot change book: another program has it (process $one, moments)"
+else
+    told 'busy' 'line 1: cannot change book: another program has it'
+    skip 'who has the book: the system does not say'
+fi
 run 'busy for a second' 4 '' --wait 1 book '(add (8))'
 run 'busy for a batch' 4 '' --batch --wait 0 book
+told 'busy for a batch' 'scalebench: cannot change book: another program has it'
 run 'asked meanwhile' 1 '1 not 1
 end 1 1 3' book '(ask (7))'
 run 'tried meanwhile' 0 '1 done 1 4
@@ -58,22 +62,30 @@ two=$!
 sleep 0.2
 exec 3>&-
 wait $one
-equal 'the batch' "$? $(cat ../out1)" '0 end 1 1 4'
+equal 'the one that saves' "$? $(cat ../out1)" '0 1 done 1 4
+end 1 1 4'
 wait $two
 equal 'the one that waited' "$? $(cat ../out2)" '0 1 done 1 5
 end 1 1 5'
 
+# A batch takes the lock after all of its input is there, and is made to the book as it is then.
+"$host" --batch book <../first >../out1 2>&1 &
+one=$!
+exec 3>../first
+printf '(add (11))\n(ask (12))\n' >&3
+run 'changed while a batch reads' 0 '1 done 1 6
+end 1 1 6' --wait 0 book '(add (12))'
+echo '(drop (12))' >&3
+exec 3>&-
+wait $one
+equal 'the batch' "$? $(cat ../out1)" '0 2 approved
+end 3 1 6'
+"$host" -q book '(drop (11))'
+
 # A book that is deleted or replaced while it is locked is not saved over.
 for how in 'rm book' 'cp book other && mv other book'; do
     cp book kept
-    "$host" --batch book <../first >../out1 2>../err &
-    one=$!
-    exec 3>../first
-    until_true busy
-    sh -c "$how"
-    echo '(add (11))' >&3
-    exec 3>&-
-    wait $one
+    MOMENT="write:1:$how" ../moments book '(add (11))' >../out1 2>../err
     equal "$how" "$? $(cat ../out1)" '5 '
     told "$how" 'cannot save book: another program has put another file in its place'
     [ "$how" = 'rm book' ] && mv kept book
