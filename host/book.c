@@ -94,10 +94,15 @@ static enum status begin(struct book *book)
     return STATUS_FINE;
 }
 
+static int place_how(int how)
+{
+    return (how & BOOK_NEW ? PLACE_NEW : 0) | (how & BOOK_ADVISE ? PLACE_ADVISE : 0);
+}
+
 enum status book_open(struct book *book, const char *path, int how, unsigned wait)
 {
     *book = (struct book){.file = -1, .wait = wait};
-    if (!place_find(&book->place, path, (how & BOOK_NEW ? PLACE_NEW : 0) | PLACE_ADVISE))
+    if (!place_find(&book->place, path, place_how(how)))
         return STATUS_BOOK;
     int file = place_open(&book->place, O_RDONLY);
     if (file < 0 && errno == ENOENT && how & BOOK_NEW) {
@@ -113,7 +118,7 @@ enum status book_open(struct book *book, const char *path, int how, unsigned wai
 enum status book_look(struct book *book, const char *path, unsigned *refusal)
 {
     *book = (struct book){.file = -1};
-    if (!place_find(&book->place, path, PLACE_ADVISE))
+    if (!place_find(&book->place, path, 0))
         return STATUS_BOOK;
     int file = place_open(&book->place, O_RDONLY);
     return file < 0 ? cannot_open(book) : read_file(book, file, refusal);
@@ -258,7 +263,7 @@ enum status book_replace(struct book *book, const char *path, int how, unsigned 
     enum status status = STATUS_FINE;
     *book = (struct book){.file = -1, .wait = wait};
     memcpy(book->table, table, sizeof book->table);
-    if (!place_find(&book->place, path, (how & BOOK_NEW ? PLACE_NEW : 0) | PLACE_ADVISE))
+    if (!place_find(&book->place, path, place_how(how)))
         return STATUS_BOOK;
     if (how & BOOK_NEW && faccessat(book->place.folder, book->place.name, F_OK, AT_SYMLINK_NOFOLLOW) < 0)
         status = begin(book);

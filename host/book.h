@@ -18,8 +18,11 @@ struct book {
     int locked_before; /* by this host */
 };
 
-/* A missing book is begun, as the empty table. The book is only tried: it is read once and not written. */
-enum { BOOK_NEW = 1, BOOK_TRY = 2 };
+/*
+ * A missing book is begun, as the empty table. The book is only tried: it is read once and not written. The message of
+ * a missing book advises to begin it.
+ */
+enum { BOOK_NEW = 1, BOOK_TRY = 2, BOOK_ADVISE = 4 };
 
 /* Opens the book at a path and takes it in. Whatever fails here and below is reported on standard error. */
 enum status book_open(struct book *book, const char *path, int how, unsigned wait);

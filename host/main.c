@@ -30,7 +30,7 @@ static int fill_descriptors(void)
 static enum status carry_out_commands(struct book *book, const struct options *options)
 {
     const struct session session = {book, options->dry_run, options->batch, options->quiet};
-    int how = (options->begin ? BOOK_NEW : 0) | (options->dry_run ? BOOK_TRY : 0);
+    int how = (options->begin ? BOOK_NEW : BOOK_ADVISE) | (options->dry_run ? BOOK_TRY : 0);
     enum status status = book_open(book, options->book, how, options->wait);
     if (status != STATUS_FINE)
         return status;
@@ -47,7 +47,7 @@ static enum status carry_out_options(struct book *book, const struct options *op
     if (options->backup)
         return back_up(book, options->book, options->backup);
     if (options->restore)
-        return restore(book, options->book, options->restore, options->begin ? BOOK_NEW : 0, options->wait);
+        return restore(book, options->book, options->restore, options->begin ? BOOK_NEW : BOOK_ADVISE, options->wait);
     if (options->tree)
         return print_number(book, options->book, options->tree, options->quiet);
     if (options->numbered)

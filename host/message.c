@@ -19,6 +19,23 @@ void message_line(unsigned long number)
     line = number;
 }
 
+/*
+ * Whether the character is seen where it stands, and changes nothing about the others. Those that turn the direction of
+ * text or take no room are printable to the C library; those whose width libraries differ about are named.
+ */
+static int visible(wchar_t wide)
+{
+    static const struct {
+        unsigned long first, last;
+    } hidden[] = {{0xad, 0xad},     {0x61c, 0x61c},   {0x115f, 0x1160},   {0x17b4, 0x17b5},   {0x180b, 0x180f},
+                  {0x200b, 0x200f}, {0x2028, 0x202e}, {0x2060, 0x206f},   {0x3164, 0x3164},   {0xfe00, 0xfe0f},
+                  {0xfeff, 0xfeff}, {0xffa0, 0xffa0}, {0xfff0, 0xfffb},   {0xe0000, 0xe0fff}};
+    for (size_t i = 0; i < sizeof hidden / sizeof hidden[0]; i++)
+        if ((unsigned long)wide >= hidden[i].first && (unsigned long)wide <= hidden[i].last)
+            return 0;
+    return iswprint((wint_t)wide) && wcwidth(wide) > 0;
+}
+
 const char *shown(const char *name)
 {
     static char out[ROOM];
@@ -29,7 +46,7 @@ const char *shown(const char *name)
     while (left > 0 && used + 8 < ROOM) {
         wchar_t wide;
         size_t length = mbrtowc(&wide, name, left, &state);
-        if (length <= left && iswprint((wint_t)wide) && wide != L'\\' && used + length < ROOM) {
+        if (length <= left && visible(wide) && wide != L'\\' && used + length < ROOM) {
             memcpy(out + used, name, length);
             used += length;
         } else {

@@ -12,8 +12,9 @@ void complain(const char *what, const char *name, const char *why, ...) __attrib
 void explain(const char *why, ...) __attribute__((format(printf, 1, 2)));
 
 /*
- * The name, with every byte that is no part of a printable character written as \xNN, and the backslash too, so that
- * two names never look alike. A name longer than some thousand bytes is cut. It stands until the next name is shown.
+ * The name, with every byte that is no part of a printable character written as \xNN. So are characters that turn the
+ * direction of text or take no room, and the backslash, so that two names do not look alike. A name longer than some
+ * thousand bytes is cut. It stands until the next name is shown.
  */
 const char *shown(const char *name);
 

@@ -6,6 +6,15 @@
 run 'no book' 3 '' book
 told 'no book' 'cannot open book: No such file or directory (--new begins a book)'
 run 'no book in a batch' 3 '' --batch book
+told 'no book in a batch' '(--new begins a book)'
+run 'no book that may be begun' 3 '' --dry-run book
+told 'no book that may be begun' '(--new begins a book)'
+# Nothing that only looks at a book begins one.
+for how in --check '--widen book' '--backup copy' '--number (1)' '--tree 0' --list '--restore book'; do
+    # shellcheck disable=SC2086 # the option and its value are words
+    run "no book: $how" 3 '' $how book
+    equal "no book: $how: told" "$(cat "$folder/err")" 'scalebench: cannot open book: No such file or directory'
+done
 holds 'nothing is left'
 "$host" --new sample '(add (1 (1) (1)))' >/dev/null
 

@@ -94,6 +94,18 @@ told 'a name that is not ASCII' 'cannot open B\xc3\xbcch \xc2\x9b \xff:'
 if locale -a 2>/dev/null | grep -qi '^C\.utf-\?8$'; then
     LC_ALL=C.UTF-8 "$host" "$name" 2>"$folder/err"
     told 'a name in UTF-8' "$(printf 'cannot open B\303\274ch')"' \xc2\x9b \xff:'
+    # Each character, in UTF-8: right-to-left override, isolate, mark, zero-width space, joiner, byte order mark, soft
+    # hyphen, an accent by itself, a filler, a variation selector, a tag.
+    for bytes in '342 200 256' '342 201 246' '342 200 217' '342 200 213' '342 200 215' '357 273 277' '302 255' \
+        '314 210' '343 205 244' '357 270 217' '363 240 201 201'; do
+        name=$(for byte in $bytes; do printf '%b' "\\0$byte"; done)
+        want=$(for byte in $bytes; do printf '\\x%02x' "0$byte"; done)
+        LC_ALL=C.UTF-8 "$host" "a${name}b" 2>"$folder/err"
+        told "a hidden character in a name: $bytes" "cannot open a${want}b: "
+    done
+    name=$(printf '\327\251\346\234\254\342\202\254')
+    LC_ALL=C.UTF-8 "$host" "$name" 2>"$folder/err"
+    told 'letters of other scripts' "cannot open $name: "
 else
     skip 'a name in UTF-8: no such locale'
 fi
