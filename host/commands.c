@@ -3,6 +3,7 @@
 
 #include "commands.h"
 
+#include "form.h"
 #include "input.h"
 #include "interrupt.h"
 #include "message.h"
@@ -16,7 +17,7 @@
 static enum status refused(const struct session *session, unsigned long number, unsigned refusal)
 {
     output(session->quiet, "%lu refused %u\n", number, refusal);
-    explain("%s", scalebench_reason(refusal));
+    give_reason("%s", scalebench_reason(refusal));
     return STATUS_REFUSED;
 }
 
@@ -62,7 +63,7 @@ static enum status total(const struct session *session, unsigned long number)
         return refused(session, number, scalebench_refusal(answer));
     if (scalebench_over(answer)) {
         output(session->quiet, "%lu total over\n", number);
-        explain("more than %" PRIu64 " assemblies are approved", UINT64_MAX);
+        give_reason("more than %" PRIu64 " assemblies are approved", UINT64_MAX);
     } else
         output(session->quiet, "%lu total %" PRIu64 "\n", number, trees);
     return STATUS_FINE;
@@ -100,6 +101,16 @@ static enum status change(const struct session *session, unsigned long number, u
     return status;
 }
 
+static enum status malformed(const struct session *session, unsigned long number, const uint8_t *line, size_t length,
+                             unsigned column)
+{
+    char text[FORM_TEXT];
+    output(session->quiet, "%lu form %u\n", number, column);
+    give_reason("not (add TREE), (drop TREE), (ask TREE) or (total) from column %u on: expected %s", column,
+                expected(line, length, column, 0, text));
+    return STATUS_REFUSED;
+}
+
 static enum status carry_out(const struct session *session, unsigned long number, const uint8_t *line, size_t length)
 {
     uint8_t tree[SCALEBENCH_READ_BYTES];
@@ -114,12 +125,10 @@ static enum status carry_out(const struct session *session, unsigned long number
     case SCALEBENCH_TOTAL:
         return total(session, number);
     case SCALEBENCH_FORM:
-        output(session->quiet, "%lu form %u\n", number, scalebench_column(read));
-        explain("not (add TREE), (drop TREE), (ask TREE) or (total) from column %u on", scalebench_column(read));
-        return STATUS_REFUSED;
+        return malformed(session, number, line, length, scalebench_column(read));
     default:
         output(session->quiet, "%lu long\n", number);
-        explain("above %d bytes", SCALEBENCH_LINE_BYTES);
+        give_reason("above %d bytes", SCALEBENCH_LINE_BYTES);
         return STATUS_REFUSED;
     }
 }
@@ -172,14 +181,14 @@ static enum status each_line(const struct session *session, struct input *input,
         interrupts_pass();
         tally->refused += status == STATUS_REFUSED;
         if (counted && tally->lines % 100 == 0)
-            show_count("%lu lines", tally->lines);
+            show_count("%lu line%s", tally->lines, plural(tally->lines));
     }
     message_line(0);
     tally->unread = input->error;
     if (tally->unread)
         explain("cannot read the input: %s", strerror(tally->unread));
     if (counted)
-        show_count("%lu lines", tally->lines);
+        show_count("%lu line%s", tally->lines, plural(tally->lines));
     end_count();
     return STATUS_FINE;
 }

@@ -72,6 +72,8 @@ int main(int count, char **arguments)
         explain("--help shows how to use it");
         return STATUS_USAGE;
     }
+    if (options.quiet)
+        message_quiet();
     if (options.help || options.version) {
         output(0, "%s", options.help ? help : "scalebench " SCALEBENCH_VERSION "\n");
         status = written() ? STATUS_FINE : STATUS_FAILED;

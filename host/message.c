@@ -12,7 +12,12 @@
 enum { ROOM = 8192 };
 
 static unsigned long line;
-static int counting;
+static int counting, quiet;
+
+void message_quiet(void)
+{
+    quiet = 1;
+}
 
 void message_line(unsigned long number)
 {
@@ -88,6 +93,15 @@ void explain(const char *why, ...)
     va_list values;
     va_start(values, why);
     put("", why, values);
+    va_end(values);
+}
+
+void give_reason(const char *why, ...)
+{
+    va_list values;
+    va_start(values, why);
+    if (!quiet)
+        put("", why, values);
     va_end(values);
 }
 

@@ -11,6 +11,12 @@ void complain(const char *what, const char *name, const char *why, ...) __attrib
 /* A message that names no file. */
 void explain(const char *why, ...) __attribute__((format(printf, 1, 2)));
 
+/* The reason of an answer, unless the host is quiet: then the answer is all that is asked for. */
+void give_reason(const char *why, ...) __attribute__((format(printf, 1, 2)));
+
+/* From here on no reasons are given. */
+void message_quiet(void);
+
 /*
  * The name, with every byte that is no part of a printable character written as \xNN. So are characters that turn the
  * direction of text or take no room, and the backslash, so that two names do not look alike. A name longer than some

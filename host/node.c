@@ -59,9 +59,9 @@ void explain_not(const uint8_t *tree, uint64_t answer)
 {
     char node[NODE_TEXT];
     if (scalebench_part(answer)) {
-        explain("not approved: part of an approved assembly");
+        give_reason("not approved: part of an approved assembly");
         return;
     }
     node_text(tree, scalebench_place(answer), node);
-    explain("not approved: %s", node);
+    give_reason("not approved: %s", node);
 }

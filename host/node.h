@@ -23,7 +23,7 @@ void tree_text(const uint8_t *tree, char *text);
 /* What is printed of a tree that is not approved, by the answer of ask: "not part" or "not" and the place. */
 const char *not_text(uint64_t answer, char *text);
 
-/* Reports on standard error why the tree is not approved. */
+/* Gives the reason why the tree is not approved. */
 void explain_not(const uint8_t *tree, uint64_t answer);
 
 #endif

@@ -17,6 +17,11 @@ void output(int quiet, const char *format, ...)
     va_end(values);
 }
 
+const char *plural(unsigned long count)
+{
+    return count == 1 ? "" : "s";
+}
+
 int written(void)
 {
     if (fflush(stdout) == 0 && !ferror(stdout))

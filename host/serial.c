@@ -3,6 +3,7 @@
 
 #include "serial.h"
 
+#include "form.h"
 #include "message.h"
 #include "node.h"
 #include "output.h"
@@ -23,7 +24,7 @@ static enum status answered(enum status status)
 static enum status refused(unsigned refusal, int quiet)
 {
     output(quiet, "refused %u\n", refusal);
-    explain("%s", scalebench_reason(refusal));
+    give_reason("%s", scalebench_reason(refusal));
     return answered(STATUS_REFUSED);
 }
 
@@ -40,24 +41,30 @@ static size_t first_closed(const char *text)
     return length;
 }
 
+/* What stands before an assembly in a line that asks for it. */
+static const char asking[] = "(ask ";
+
+enum { START = sizeof asking - 1 };
+
 /* Whatever reading the line made of the bracket behind the text: what follows the assembly is wrong in it. */
-static enum status malformed(const char *text, size_t column, int quiet)
+static enum status malformed(const char *line, const char *text, size_t column, int quiet)
 {
-    size_t last = first_closed(text) + 1;
+    char words[FORM_TEXT];
+    size_t last = first_closed(text) + 1, length = START + strlen(text);
     if (column > last)
         column = last;
     output(quiet, "form %zu\n", column);
-    explain("not an assembly in brackets from column %zu on", column);
+    give_reason("not an assembly in brackets from column %zu on: expected %s", column,
+                expected((const uint8_t *)line, length, START + column, 1, words));
     return STATUS_REFUSED;
 }
 
 /* The listing of an assembly in brackets, read as a line that asks for it. A text that is none is reported. */
 static enum status read_tree(const char *text, uint8_t *listing, size_t *length, int quiet)
 {
-    static const char head[] = "(ask ";
     char line[SCALEBENCH_LINE_BYTES + 2]; /* one more, so that a longer line is noticed, and the end of the text */
-    size_t start = sizeof head - 1, whole = start + strlen(text) + 1;
-    snprintf(line, sizeof line, "%s%s)", head, text);
+    size_t whole = START + strlen(text) + 1;
+    snprintf(line, sizeof line, "%s%s)", asking, text);
     if (whole > sizeof line - 1)
         whole = sizeof line - 1;
     uint64_t read = scalebench_read((const uint8_t *)line, whole, listing, SCALEBENCH_READ_BYTES);
@@ -65,9 +72,9 @@ static enum status read_tree(const char *text, uint8_t *listing, size_t *length,
     if (scalebench_kind(read) == SCALEBENCH_ASK)
         return STATUS_FINE;
     if (scalebench_kind(read) == SCALEBENCH_FORM)
-        return malformed(text, scalebench_column(read) - start, quiet);
+        return malformed(line, text, scalebench_column(read) - START, quiet);
     output(quiet, "long\n");
-    explain("above %zu bytes", SCALEBENCH_LINE_BYTES - sizeof head);
+    give_reason("above %zu bytes", SCALEBENCH_LINE_BYTES - sizeof asking);
     return STATUS_REFUSED;
 }
 
@@ -127,9 +134,9 @@ struct gap {
 static void report_numbers(uint64_t first, uint64_t last, const char *so_far, unsigned refusal)
 {
     if (first == last)
-        explain("number %" PRIu64 "%s: %s", first, so_far, scalebench_reason(refusal));
+        give_reason("number %" PRIu64 "%s: %s", first, so_far, scalebench_reason(refusal));
     else
-        explain("numbers %" PRIu64 " to %" PRIu64 "%s: %s", first, last, so_far, scalebench_reason(refusal));
+        give_reason("numbers %" PRIu64 " to %" PRIu64 "%s: %s", first, last, so_far, scalebench_reason(refusal));
 }
 
 static void report_gap(const struct gap *gap, const char *so_far)
@@ -215,7 +222,8 @@ static enum status list_numbers(const struct book *book, uint64_t from, uint64_t
     if (number < end)
         return interrupted(number);
     if (listed < end - from)
-        explain("%" PRIu64 " of %" PRIu64 " assemblies are not listed", end - from - listed, end - from);
+        give_reason("%" PRIu64 " of %" PRIu64 " assemblies %s not listed", end - from - listed, end - from,
+                    end - from - listed == 1 ? "is" : "are");
     return answered(listed < end - from ? STATUS_REFUSED : STATUS_FINE);
 }
 

@@ -28,8 +28,9 @@ enum status check_book(struct book *book, const char *path, int quiet)
         return written() ? STATUS_BOOK : STATUS_FAILED;
     }
     uint64_t answer = scalebench_intake(book->table, sizeof book->table);
-    output(quiet, "%s is sound: %u states, %u transitions\n", shown(path), scalebench_states(answer),
-           scalebench_transitions(answer));
+    unsigned states = scalebench_states(answer), transitions = scalebench_transitions(answer);
+    output(quiet, "%s is sound: %u state%s, %u transition%s\n", shown(path), states, plural(states), transitions,
+           plural(transitions));
     return written() ? STATUS_FINE : STATUS_FAILED;
 }
 

@@ -58,7 +58,7 @@ run 'refused' 6 '1 refused 14
 end 1 2 3' book '(add (7))'
 run 'malformed' 6 '1 form 6
 end 1 2 3' book '(add 7)'
-told 'malformed' 'from column 6 on'
+told 'malformed' 'from column 6 on: expected an assembly, which begins with "("'
 run 'an end of line' 6 '1 form 10
 end 1 2 3' book '(ask (1))
 '
@@ -69,7 +69,15 @@ equal 'quiet: counted, nothing is told' "$(cat "$folder/err")" ''
 run 'quiet: done' 0 '' -q book '(drop (7))'
 same 'quiet: saved' book sample
 run 'quiet: refused' 6 '' -q book '(drop (7))'
-told 'quiet: refused' 'the tree is not approved'
+equal 'quiet: refused, nothing is told' "$(cat "$folder/err")" ''
+printf '(ask (8))\n(drop (7))\n(add\n%600s\n(total)\n' x | input
+run 'quiet lines' 6 '' -q book
+equal 'quiet lines, nothing is told' "$(cat "$folder/err")" ''
+run 'quiet lines in a batch' 6 '' -q --batch book
+equal 'quiet lines in a batch: told' "$(cat "$folder/err")" 'scalebench: nothing is saved: 3 of 5 lines refused'
+input </dev/null
+run 'quiet: no book' 3 '' -q none '(ask (7))'
+told 'quiet: no book' 'cannot open none'
 
 run 'a dry run' 0 '1 done 0 0
 end 1 0 0' --dry-run book '(drop (1 (1) (1)))'

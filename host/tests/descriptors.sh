@@ -6,7 +6,7 @@
 "$host" --new sample '(add (1))' >/dev/null
 try() { # WHAT WANT: after a run with some descriptors closed
     equal "$1" "$(cat ../status)" "$2"
-    equal "$1: the book" "$("$host" --check book)" 'book is sound: 1 states, 2 transitions'
+    equal "$1: the book" "$("$host" --check book)" 'book is sound: 1 state, 2 transitions'
     holds "$1: nothing beside" book sample
     cp sample book
 }

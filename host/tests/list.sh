@@ -40,6 +40,7 @@ equal 'interrupted' "$? $(cat ../out)" "130 $two"
 told 'interrupted' 'scalebench: interrupted before number '
 timeout --preserve-status -s INT 0.3 "$host" -q --list deep >../out 2>../err
 equal 'interrupted, quiet' "$? $(cat ../out)" '130 '
+equal 'interrupted, quiet: told' "$(sed 's/[0-9]*$//' ../err)" 'scalebench: interrupted before number '
 
 # Some numbers.
 run 'both that can be listed' 0 "$two" --list 0 1 deep
@@ -48,7 +49,7 @@ run 'the second' 0 '(add (2))' --list 1 1 deep
 run 'quiet' 0 '' -q --list 0 1 deep
 run 'one in the gap' 6 '' --list 2 2 deep
 equal 'one in the gap: told' "$(cat ../err)" "scalebench: number 2: $words
-scalebench: 1 of 1 assemblies are not listed"
+scalebench: 1 of 1 assemblies is not listed"
 run 'into the gap' 6 '(add (2))' --list 1 9 deep
 equal 'into the gap: told' "$(cat ../err)" "scalebench: numbers 2 to 9: $words
 scalebench: 8 of 9 assemblies are not listed"
@@ -59,7 +60,7 @@ scalebench: 3000 of 3000 assemblies are not listed"
 none='the number is not below the number of approved trees'
 run 'over the end' 6 '' --list 1152921504606846977 18446744073709551615 deep
 equal 'over the end: told' "$(cat ../err)" "scalebench: number 1152921504606846977: $words
-scalebench: 1 of 1 assemblies are not listed
+scalebench: 1 of 1 assemblies is not listed
 scalebench: numbers 1152921504606846978 to 18446744073709551615: $none"
 "$host" --new book '(add (7))' >/dev/null
 run 'beyond the end' 6 '' --list 1 1 book

@@ -60,6 +60,8 @@ run 'quiet: not approved' 1 '' -q --number '(1)' book
 run 'quiet: a tree' 0 '' -q --tree 0 book
 run 'quiet: no tree' 6 '' -q --tree 6 book
 run 'quiet: a list' 0 '' -q --list book
+run 'quiet: malformed' 6 '' -q --number '(7' book
+equal 'quiet: malformed, nothing is told' "$(cat "$folder/err")" ''
 run 'a number, no book' 3 '' --number '(7)' none
 told 'a number, no book' 'cannot open none'
 run 'a tree, no book' 3 '' --tree 0 none
@@ -117,7 +119,7 @@ chains 2 200 0 >great
 run 'one great assembly' 6 'refused 20' --tree 0 great
 run 'a list of it' 6 '' --list great
 equal 'a list of it: told' "$(cat ../err)" 'scalebench: number 0: the tree has more than 48 nodes
-scalebench: 1 of 1 assemblies are not listed'
+scalebench: 1 of 1 assemblies is not listed'
 
 # 10,000 assemblies, ten leaves for each of four places: listed, and put in again one by one in either order.
 # shellcheck disable=SC2046 # the bytes are words

@@ -56,7 +56,7 @@ run 'asked meanwhile' 1 '1 not 1
 end 1 1 3' book '(ask (7))'
 run 'tried meanwhile' 0 '1 done 1 4
 end 1 1 4' --dry-run book '(add (7))'
-run 'checked meanwhile' 0 'book is sound: 1 states, 3 transitions' --check book
+run 'checked meanwhile' 0 'book is sound: 1 state, 3 transitions' --check book
 "$host" --wait 20 book '(add (10))' >../out2 2>&1 3>&- &
 two=$!
 sleep 0.2

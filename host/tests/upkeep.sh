@@ -5,6 +5,9 @@
 
 "$host" --new book '(add (1 (1) (2)))' >/dev/null
 run 'a sound book' 0 'book is sound: 3 states, 3 transitions' --check book
+"$host" --new one '(add (1))' >/dev/null
+run 'one of each' 0 'one is sound: 1 state, 1 transition' --check one
+rm one
 run 'a quiet check' 0 '' --check -q book
 run 'no book' 3 '' --check none
 told 'no book' 'cannot open none'
