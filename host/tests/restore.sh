@@ -61,7 +61,7 @@ same 'begun, where one is: the copy' book copy
 fresh
 chmod 444 book
 run 'a book that nobody may write' 3 '' --restore copy book
-told 'a book that nobody may write' 'cannot change book: nobody may write it'
+told 'a book that nobody may write' 'cannot change book: '
 chmod 640 book
 same 'a book that nobody may write: left' book kept
 ln book second
