@@ -80,15 +80,21 @@ static int set_list(int file, const struct attributes *model)
     return fsetxattr(file, access_list, list, model->length, 0) == 0;
 }
 
-/*
- * First the owner's permissions alone, since the owner may change; then the owner, since a change of owner clears
- * permissions; the mode last, which opens the file to all others.
- */
+/* The file's owner may change, and the next one may have fewer rights to the model. Not every file system has modes. */
+static int narrow(int file, const struct stat *model)
+{
+    struct stat status;
+    if (fstat(file, &status) < 0)
+        return 0;
+    return (status.st_mode & 0777 & ~model->st_mode) == 0 || fchmod(file, model->st_mode & 0700) == 0;
+}
+
+/* The owner before the permissions, since a change of owner clears some; the mode last, which opens the file to all. */
 int copy_attributes(int file, int model)
 {
     static struct attributes attributes;
-    return read_attributes(model, &attributes) && fchmod(file, attributes.status.st_mode & 0700) == 0 &&
-           drop_list(file) && copy_owner(file, &attributes.status) && set_list(file, &attributes) &&
+    return read_attributes(model, &attributes) && narrow(file, &attributes.status) && drop_list(file) &&
+           copy_owner(file, &attributes.status) && set_list(file, &attributes) &&
            fchmod(file, attributes.status.st_mode & 0777) == 0;
 }
 

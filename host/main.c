@@ -75,7 +75,10 @@ int main(int count, char **arguments)
     if (options.quiet)
         message_quiet();
     if (options.help || options.version) {
-        output(0, "%s", options.help ? help : "scalebench " SCALEBENCH_VERSION "\n");
+        for (size_t i = 0; options.help && help[i]; i++)
+            output(0, "%s", help[i]);
+        if (!options.help)
+            output(0, "scalebench " SCALEBENCH_VERSION "\n");
         status = written() ? STATUS_FINE : STATUS_FAILED;
     } else
         status = carry_out_options(&book, &options);

@@ -12,7 +12,8 @@ struct options {
     uint64_t from, to; /* the first and the last number to be listed, if `ranged` */
 };
 
-extern const char help[];
+/* The text of --help, in parts; NULL ends them. */
+extern const char *const help[];
 
 /* Whether the arguments are right; what is wrong is reported on standard error. */
 int read_options(int count, char **arguments, struct options *options);

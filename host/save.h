@@ -8,11 +8,11 @@
 #include <sys/types.h>
 
 /*
- * Replaces the file at the place, which `old` is open on, by one with this table and with the owner, group, mode and
- * access list of the old one. Returns the new file, open and locked; -1 with errno if that fails. ESTALE: the place
- * holds another file than `old`. ECANCELED: permissions or access list change meanwhile, or are not kept. Whenever the
- * host or the machine stops, the place has either file whole. Interrupts wait from the start of a save on, so that none
- * leaves a draft; the caller lets them through after the report.
+ * Replaces the file at the place, which `old` is open on, by one with this table and with the attributes of the old one
+ * (attributes.h). Returns the new file, open and locked; -1 with errno if that fails. ESTALE: the place holds another
+ * file than `old`. ECANCELED: permissions or access list change meanwhile, or are not kept. Whenever the host or the
+ * machine stops, the place has either file whole. Interrupts wait from the start of a save on, so that none leaves a
+ * draft; the caller lets them through after the report.
  */
 int save_over(const struct place *place, int old, const uint8_t *table);
 

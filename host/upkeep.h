@@ -10,7 +10,7 @@ enum status check_book(struct book *book, const char *path, int quiet);
 /* Copies the book, as it is at one moment, to a file that does not exist. */
 enum status back_up(struct book *book, const char *path, const char *copy);
 
-/* Puts a copy, which must be sound, into the book, which keeps its owner, group and permissions. */
+/* Puts a copy, which must be sound, into the book, whose rights stay as in a change. */
 enum status restore(struct book *book, const char *path, const char *copy, int how, unsigned wait);
 
 /*
