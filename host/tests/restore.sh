@@ -106,13 +106,14 @@ same 'begun by another: the copy' book copy
 awk 'BEGIN { for (k = 0; k < 2000; k++) print "(ask (1))" }' >../lines
 "$host" book <../lines >../asked 2>/dev/null &
 one=$!
-awk 'BEGIN { for (k = 0; k < 100; k++) print "(add (5))\n(drop (5))" }' | "$host" book >../changed 2>/dev/null &
+awk 'BEGIN { for (k = 0; k < 100; k++) print "(add (5))\n(drop (5))" }' |
+    "$host" --wait 60 book >../changed 2>/dev/null &
 two=$!
 k=0
 restored=0
 while [ $k -lt 50 ]; do
     k=$((k + 1))
-    "$host" --restore other book && "$host" --restore copy book && restored=$((restored + 1))
+    "$host" --wait 60 --restore other book && "$host" --wait 60 --restore copy book && restored=$((restored + 1))
 done
 equal 'restored while others use it' $restored 50
 wait $one
