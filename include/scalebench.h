@@ -51,7 +51,7 @@ extern "C" {
 #endif
 
 /* The version of the library, of this header and of the host. */
-#define SCALEBENCH_VERSION "0.6.3"
+#define SCALEBENCH_VERSION "0.7.0"
 
 /*
  * The lengths that a table and a scratch must have. The greatest length of a listing for ask, rank, add and remove is

@@ -87,9 +87,9 @@ FILENAME == ARGV[3] { if (match($0, /^[a-z_]+:/)) crate[substr($0, 1, RLENGTH - 
 FNR == 1 {
     split("check ci dev doc fmt goals must-fail prove staticlib", list, " "); for (i in list) command[list[i]] = 1
     # words of Rattle, antt, the kit and the system, and needs of proofs
-    split("abbrev arith break cc cond drop flock getD k let match miss omega p pub refl return rt rw search unfolding " \
-        "u8 unfoldable where OneOf _ add-i loop-again loop-holds loop-less mark-output-requires returns-2 " \
-        "slice-write-scratch", list, " ")
+    split("abbrev arith break cc cond cp drop flock getD k let match miss omega p protected_symlinks pub refl return " \
+        "rt rw search unfolding u8 unfoldable where OneOf _ add-i loop-again loop-holds loop-less " \
+        "mark-output-requires returns-2 slice-write-scratch", list, " ")
     for (i in list) word[list[i]] = 1
 }
 {
