@@ -69,7 +69,7 @@ fn flush(p: Progress, out: &[u8]) -> Turn
         progress: Progress {
             held: p.held,
             lines: p.lines,
-            printed: printed - handed,
+            printed: p.printed - handed,
         },
     })
 }

@@ -19,7 +19,7 @@ returns c = tt
 
 sub-t7 : tie.Need-sub-t7
 sub-t7 c =
-    let after-handed = c .before in
+    let after-handed = c .before .before in
     let after-hand-over = after-handed .before .before in
     let start = after-hand-over .before .before .before in
     omega (
@@ -31,7 +31,7 @@ sub-t7 c =
 returns-2 : tie.Need-returns-2
 unfolding Flushed
 returns-2 c =
-    let after-handed = c .before in
+    let after-handed = c .before .before in
     let after-hand-over = after-handed .before .before in
     let start = after-hand-over .before .before .before in
     let p = start .args .p in
