@@ -1,3 +1,4 @@
+-- `fingerprints::values::salt` meets its contract: products of numbers below 2^32 fit 64 bits.
 use mathlib.Core.Path.{refl}
 use Rattle.fingerprints.specs.Fingerprints.{salted}
 use borrow.Author.Needs.{needs}

@@ -1,3 +1,4 @@
+-- `validity::ranks::depth_first` is safe and ends. Nothing is promised of its ranks.
 use Prim.Native.Nat.{ℕ}
 use native.Mathlib.Omega.{arith}
 use lib.ListN.{length-replicate}
