@@ -25,12 +25,13 @@ two='(add (1))
 words='the tree has more than 48 nodes'
 
 # A gap is reported while it is passed, and an interrupt loses nothing that was listed. A shell lets what it starts in
-# the background ignore some signals; timeout does not, and sends on what it gets.
+# the background ignore some signals; timeout does not, and sends on what it gets. In the foreground it sends it once:
+# else the group gets it too, and a second interrupt ends the host before it says how far it came.
 reported() { grep -q 'so far' ../err; }
 for signal in INT TERM HUP; do
     case $signal in INT) status=130 ;; TERM) status=143 ;; *) status=129 ;; esac
     : >../err
-    timeout --preserve-status 60 "$host" --list deep >../out 2>../err &
+    timeout --foreground --preserve-status 60 "$host" --list deep >../out 2>../err &
     lister=$!
     until_true reported
     kill -$signal $lister
@@ -39,7 +40,7 @@ for signal in INT TERM HUP; do
     equal "$signal: reported before" "$(sed -n 1p ../err)" "scalebench: numbers 2 to 1001 so far: $words"
     told "$signal: how far it came" 'scalebench: interrupted before number '
 done
-timeout --preserve-status -s INT 0.3 "$host" -q --list deep >../out 2>../err
+timeout --foreground --preserve-status -s INT 0.3 "$host" -q --list deep >../out 2>../err
 equal 'interrupted, quiet' "$? $(cat ../out)" '130 '
 
 # Some numbers.
