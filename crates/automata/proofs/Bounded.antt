@@ -15,7 +15,7 @@ use Rattle.automata.specs.Canonical.{Canonical, Occurs, Subtree, eachTre
 use Rattle.automata.specs.ContextRun.{runContext, stepFrame}
 use Rattle.automata.specs.Valid.{statesInRange}
 use Rattle.lists.specs.Positions.{upFrom}
-use Rattle.lists.specs.Tests.{_∈_, any, filter, sameList}
+use Rattle.lists.specs.Tests.{_∈_, any, filter}
 use Rattle.trees.specs.Context.{Context, Frame, plug}
 use Rattle.trees.specs.Tree.{Forest, Tree, _⧺_, cons, depth, depths, nil, node}
 use Rattle.automata.proofs.CanonicalChange.{canonical-ranged}
@@ -156,33 +156,34 @@ module _ (S : Tree → Bool) (A : Automaton) (X : Canonical S A) where
       let e = runContext-append A d (f ∷ []) p ∙ ap (stepFrame A f) r ∙ w in
       (d ++ (f ∷ []), omega (arith, length-append d (f ∷ [])), e)
 
-  no-way : Bounded S → (q : ℕ) → IsState A q → Way q q → ⊥
-  unfolding Bounded
-  no-way (n, bound) q (low, high) (d, h, r) = go (X .onto q low high)
+  -- a state that comes back to itself: the way around, taken often enough, gives a tree of the set of any depth
+  pub way-deep : (q : ℕ) → Leads A q q → (n : ℕ) → (t : Tree) × (S t ≡ true) × (n < depth t)
+  way-deep q l n = go (leads-range A (canonical-ranged S A X) l .0) (leads-way l)
     where
-      go : (t : Tree) × Subtree S t × (X .group t ≡ q) → ⊥
-      go (t, (c, e), g) =
+      go : IsState A q → Way q q → (t : Tree) × (S t ≡ true) × (n < depth t)
+      go (low, high) (d, h, r) =
+          let (t, (c, e), g) = X .onto q low high in
           let rt : run A t ≡ q = run-group S A X t (c, e) ∙ g in
           let T : Tree = plug c (plug (pow d (suc n)) t) in
-          let sameList : run A T ≡ run A (plug c t) = run-plug A c (plug (pow d (suc n)) t)
+          let same : run A T ≡ run A (plug c t) = run-plug A c (plug (pow d (suc n)) t)
           ∙ ap (runContext A c)
           (run-plug A (pow d (suc n)) t ∙ ap (runContext A (pow d (suc n))) rt
-          ∙ pow-run A d q r (suc n) ∙ sym rt) ∙ sym (run-plug A c t) in
-          omega (
-            arith,
-            bound T
-                (sym (canonical-accepts S A X T) ∙ ap (accepting A) sameList
-                ∙ canonical-accepts S A X (plug c t) ∙ e),
-            depth-plug c (plug (pow d (suc n)) t),
-            depth-plug
-                (pow d (suc n)) t,
-            pow-length d h (suc n),
+          ∙ pow-run A d q r (suc n) ∙ sym rt) ∙ sym (run-plug A c t) in (
+            T,
+            sym (canonical-accepts S A X T) ∙ ap (accepting A) same ∙ canonical-accepts S A X (plug c t) ∙ e,
+            omega (
+              arith,
+              depth-plug c (plug (pow d (suc n)) t),
+              depth-plug (pow d (suc n)) t,
+              pow-length d h (suc n),
+            ),
           )
 
   pub bounded-acyclic : Bounded S → acyclic A ≡ true
-  bounded-acyclic b =
-      let ranged = canonical-ranged S A X in
-      acyclic-iff A ranged .1 (λ q l. no-way b q (leads-range A ranged l .0) (leads-way l))
+  unfolding Bounded
+  bounded-acyclic (n, bound) =
+      acyclic-iff A (canonical-ranged S A X) .1
+      (λ q l. let (t, e, m) = way-deep q l n in omega (arith, bound t e))
 
 -- a canonical automaton is acyclic exactly when its set is bounded
 pub bounded-iff : (A : Automaton) → Canonical (accepts A) A → (acyclic A ≡ true) ↔ Bounded (accepts A)

@@ -47,6 +47,8 @@ pub mod TotalsFinite
 pub mod Totals
 pub mod TotalsCapped
 pub mod TotalSamples
+pub mod LoopSamples
+pub mod Sizes
 pub mod RankChoices
 pub mod RankFinite
 pub mod RankTrees

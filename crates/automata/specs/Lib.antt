@@ -22,8 +22,10 @@ pub mod Valid
 pub mod Example
 pub mod Others
 pub mod Totals
+pub mod Sizes
 pub mod OpenStates
 pub mod TotalSamples
+pub mod LoopSamples
 pub mod Ranks
 pub mod RankSamples
 pub mod Names
