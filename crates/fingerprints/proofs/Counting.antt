@@ -1,7 +1,7 @@
 -- The last 16 bits of a fingerprint: the class, and before it the number of uses, as long as that has 15 bits.
 use mathlib.Core.Bool.{Bool, false, true}
 use mathlib.Core.List.{List, [], _∷_}
-use mathlib.Core.Path.{_∙_, _≡_, refl, sym}
+use mathlib.Core.Path.{_≡_, refl}
 use Prim.Native.Nat.{_%_, _*_, _+_, _-_, _^_, _≤_, ℕ}
 use native.Mathlib.Omega.{arith}
 use lib.ListN.{length, length-append}
@@ -48,20 +48,3 @@ unfolding fingerprint
 print-counts A m first q b few =
     counted (bit (accepting A q)) (gains (A .transitions) q) (length (uses (A .transitions) q))
     (first .each q b) (small (accepting A q)) (gains-count (A .transitions) q) few
-
--- ---- the class is the last bit
-
-same-bit : (a b : Bool) (g k x y : ℕ) → g % 65536 ≡ (2 * x) % 65536 → k % 65536 ≡ (2 * y) % 65536 →
-    (bit a + g) % 2 ^ 64 ≡ (bit b + k) % 2 ^ 64 → a ≡ b
-same-bit true true g k x y d e f = refl
-same-bit true false g k x y d e f = absurd (omega arith)
-same-bit false true g k x y d e f = absurd (omega arith)
-same-bit false false g k x y d e f = refl
-
-pub print-class : (A : Automaton) (m : List ℕ) → Fingerprinted A m → (p q : ℕ) → p ≤ states A → q ≤ states A →
-    printOf m p ≡ printOf m q → accepting A p ≡ accepting A q
-unfolding fingerprint
-print-class A m first p q a b e =
-    same-bit (accepting A p) (accepting A q) _ _ (length (uses (A .transitions) p)) (length (uses (A .transitions) q))
-    (gains-count (A .transitions) p) (gains-count (A .transitions) q)
-    (sym (first .each p a) ∙ e ∙ first .each q b)

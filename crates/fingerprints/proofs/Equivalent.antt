@@ -70,7 +70,7 @@ module _ (A : Automaton) (ranged : statesInRange A ≡ true) (rises : rising (A 
       (in-upFrom 1 (states A) q h (omega arith)) e
 
   -- a useful state is separated from 0
-  useful-separated : (q : ℕ) → coaccessible A q ≡ true → distinguishable A q 0 ≡ true
+  pub useful-separated : (q : ℕ) → coaccessible A q ≡ true → distinguishable A q 0 ≡ true
   useful-separated = closure-all eqb eqb-true eqb-same (coaccessibleRule A) (upFrom 1 (states A)) Separated made
     where
       Separated : ℕ → Type 0

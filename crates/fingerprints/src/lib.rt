@@ -14,7 +14,8 @@ ghost use Rattle.fingerprints.specs.Fingerprints.{Settled};
 ghost use Rattle.table.specs.Layout.{transitionsIn};
 use differing::all_differ;
 use differing::all_some;
-pub use prints::state_prints;
+pub use prints::class_prints;
+use prints::state_prints;
 
 // Conditions 10 and 12 of an automaton without loops, by fingerprints. If this returns false, nothing is known: a
 // state has neither a class nor a use, or two share a fingerprint.

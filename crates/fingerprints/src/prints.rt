@@ -85,7 +85,7 @@ fn class_print(classes: &[u8], q: usize) -> usize
 }
 
 // What fingerprints start from.
-fn class_prints(classes: &[u8], n: usize) -> [usize; BYTE_VALUES]
+pub fn class_prints(classes: &[u8], n: usize) -> [usize; BYTE_VALUES]
     requires { ⌜ n < length (now classes) ⌝ }
     requires { ⌜ n ≤ 255 ⌝ }
     ensures { λ r. ⌜ ClassPrints (now (classes .entry)) n r ⌝ }

@@ -23,7 +23,7 @@ use format::TABLE_BYTES;
 use format::wide;
 use packed::layout_fits;
 use packed::rises;
-use twins::all_distinguishable;
+use partition::all_apart;
 use validity::acyclic;
 use validity::all_accessible;
 use validity::all_coaccessible;
@@ -74,7 +74,7 @@ fn searched_refusal(classes: &[u8], transitions: &[u8], count: usize, n: usize) 
     if !loopless(transitions, count, n, rule.climbing) {
         return 11;
     }
-    if !all_distinguishable(classes, transitions, count, n) {
+    if !all_apart(classes, transitions, count, n) {
         return 12;
     }
     if !rule.numbered {

@@ -44,19 +44,13 @@ returns-3 c =
     (at-all-coaccessible .all-coaccessible .ensures) (at-if2 .if2 .left) (c .before .loopless .ensures (start
     .args .classes .now)) (c .if3 .taken)
 
-all-distinguishable-requires : tie.Need-all-distinguishable-requires
-all-distinguishable-requires c κs =
+all-apart-requires : tie.Need-all-apart-requires
+all-apart-requires c κs =
     let at-if2 = c .before .before in
     let at-all-coaccessible = at-if2 .before in
     let start = at-all-coaccessible .before .before .before .before .before .before in (
       start .pre .0,
-      (
-        start .pre .1 .1,
-        (
-          kept (at-all-coaccessible .all-coaccessible .ensures) (at-if2 .if2 .left),
-          kept (c .before .loopless .ensures (start .args .classes .now)) (c .if3 .left),
-        ),
-      ),
+      (start .pre .1 .1, kept (at-all-coaccessible .all-coaccessible .ensures) (at-if2 .if2 .left)),
     )
 
 returns-4 : tie.Need-returns-4
@@ -71,12 +65,12 @@ returns-4 c =
     refused-12 (viewed (start .args .classes .now) (start .args .transitions .now) (start .args .n) (start .args
     .count)) ((at-reached .reached .ensures (start .args .classes .now))) (at-if1 .if1 .left)
     (at-all-coaccessible .all-coaccessible .ensures) (at-if2 .if2 .left) (at-loopless .loopless .ensures (start
-    .args .classes .now)) (at-if3 .if3 .left) (c .before .all-distinguishable .ensures) (c .if4 .taken)
+    .args .classes .now)) (at-if3 .if3 .left) (c .before .all-apart .ensures) (c .if4 .taken)
 
 returns-5 : tie.Need-returns-5
 returns-5 c =
-    let at-all-distinguishable = c .before .before .before in
-    let at-if3 = at-all-distinguishable .before in
+    let at-all-apart = c .before .before .before in
+    let at-if3 = at-all-apart .before in
     let at-loopless = at-if3 .before in
     let at-if2 = at-loopless .before in
     let at-all-coaccessible = at-if2 .before in
@@ -87,14 +81,14 @@ returns-5 c =
     refused-13 (viewed (start .args .classes .now) (start .args .transitions .now) (start .args .n) (start .args
     .count)) ((at-reached .reached .ensures (start .args .classes .now))) (at-if1 .if1 .left)
     (at-all-coaccessible .all-coaccessible .ensures) (at-if2 .if2 .left) (at-loopless .loopless .ensures (start
-    .args .classes .now)) (at-if3 .if3 .left) (at-all-distinguishable .all-distinguishable
+    .args .classes .now)) (at-if3 .if3 .left) (at-all-apart .all-apart
     .ensures) (c .before .before .if4 .left) ((at-ruled .ruled .ensures .0 (start .args .classes .now))) (c .if5
     .taken)
 
 returns-6 : tie.Need-returns-6
 returns-6 c =
-    let at-all-distinguishable = c .before .before .before in
-    let at-if3 = at-all-distinguishable .before in
+    let at-all-apart = c .before .before .before in
+    let at-if3 = at-all-apart .before in
     let at-loopless = at-if3 .before in
     let at-if2 = at-loopless .before in
     let at-all-coaccessible = at-if2 .before in
@@ -105,11 +99,11 @@ returns-6 c =
     not-refused (viewed (start .args .classes .now) (start .args .transitions .now) (start .args .n) (start .args
     .count)) ((at-reached .reached .ensures (start .args .classes .now))) (at-if1 .if1 .left)
     (at-all-coaccessible .all-coaccessible .ensures) (at-if2 .if2 .left) (at-loopless .loopless .ensures (start
-    .args .classes .now)) (at-if3 .if3 .left) (at-all-distinguishable .all-distinguishable
+    .args .classes .now)) (at-if3 .if3 .left) (at-all-apart .all-apart
     .ensures) (c .before .before .if4 .left) ((at-ruled .ruled .ensures .0 (start .args .classes .now))) (c .if5
     .left)
 
 pub searched-refusal-spec : {M : Type 1} → statement M
 searched-refusal-spec =
     tie.close (tie.spec (λ c κs. search needs) reached-requires returns (λ c κs. search needs) returns-2
-    loopless-requires returns-3 all-distinguishable-requires returns-4 returns-5 returns-6)
+    loopless-requires returns-3 all-apart-requires returns-4 returns-5 returns-6)

@@ -1,2 +1,0 @@
-pub mod Unseparated
-pub mod Alone
