@@ -101,13 +101,12 @@ module _ (A : Automaton) where
 
 module _ (cl s : List ℕ) (n c : ℕ) (over : HoldsTransitionsOver s c n) where
   -- numbered, without loops and settled: nothing is broken
-  pub passes : {o a : Bool} → o ≡ numbered (viewed cl s n c) → not o ≡ false → a ≡ acyclic (viewed cl s n c) →
-      not a ≡ false → Settled (viewed cl s n c) → _≡_ {A = ℕ} 0 (firstBroken (automatonConditions (viewed cl s n c)))
-  passes p x q y t =
-      let ac = kept q y in
+  pub passes : {o : Bool} → o ≡ numbered (viewed cl s n c) → not o ≡ false → acyclic (viewed cl s n c) ≡ true →
+      Settled (viewed cl s n c) → _≡_ {A = ℕ} 0 (firstBroken (automatonConditions (viewed cl s n c)))
+  passes p x ac t =
       not-refused (viewed cl s n c)
       (sym (numbered-accessible (viewed cl s n c) (viewed-ranged cl s n c over) (kept p x))) refl
-      (sym (t .useful ac)) refl q y (sym (t .separated ac)) refl p x
+      (sym (t .useful ac)) refl (sym ac) refl (sym (t .separated ac)) refl p x
 
 -- refusals 5, 7 and 8
 pub refused-7 : (b : List ℕ) {r : Bool} → r ≡ layoutFits b → not r ≡ true → _≡_ {A = ℕ} 7 (firstBroken

@@ -27,6 +27,7 @@ use partition::all_apart;
 use validity::acyclic;
 use validity::all_accessible;
 use validity::all_coaccessible;
+use validity::ranks_show;
 use validity::ruled;
 
 // Condition 9. If the states are numbered by the rule it holds, and no search is needed.
@@ -42,17 +43,17 @@ fn reached(transitions: &[u8], count: usize, n: usize, in_order: bool) -> bool
     all_accessible(transitions, count, n)
 }
 
-// Condition 11. If every output is above its arguments it holds, and no search is needed.
+// Whether there is seen to be no loop: every output is above its arguments, or ranks show it. If not, nothing is shown.
 fn loopless(transitions: &[u8], count: usize, n: usize, above: bool) -> bool
     requires { ⌜ HoldsTransitionsOver (now transitions) count n ⌝ }
     requires { ⌜ n ≤ 255 ⌝ }
     requires { ⌜ (above ≡ true → climbing (transitionsIn (now transitions) count) ≡ true) ⌝ }
-    ensures { λ r. ⌜ ((cl : List ℕ) → r ≡ acyclic (viewed cl (now (transitions .entry)) n count)) ⌝ }
+    ensures { λ r. ⌜ (r ≡ true → (cl : List ℕ) → acyclic (viewed cl (now (transitions .entry)) n count) ≡ true) ⌝ }
 {
     if above {
         return true;
     }
-    acyclic(transitions, count, n)
+    ranks_show(transitions, count, n)
 }
 
 // Refusals 9 to 13 of an automaton whose fields are in range and whose transitions rise, or 0: each condition by a
@@ -71,7 +72,7 @@ fn searched_refusal(classes: &[u8], transitions: &[u8], count: usize, n: usize) 
     if !all_coaccessible(classes, transitions, count, n) {
         return 10;
     }
-    if !loopless(transitions, count, n, rule.climbing) {
+    if !acyclic(transitions, count, n) {
         return 11;
     }
     if !all_apart(classes, transitions, count, n) {
@@ -83,7 +84,7 @@ fn searched_refusal(classes: &[u8], transitions: &[u8], count: usize, n: usize) 
     0
 }
 
-// The same. An automaton that passes is seen to pass in few passes; only one that may not is searched.
+// The same, by a fast path for automata that pass. Only if that shows nothing is each condition searched.
 fn automaton_refusal(classes: &[u8], transitions: &[u8], count: usize, n: usize) -> u8
     requires { ⌜ Viewed (now classes) (now transitions) n count ⌝ }
     requires { ⌜ HoldsPadded (now transitions) count ⌝ }

@@ -1,5 +1,6 @@
 // Condition 11: a state is grounded if every transition into it has only grounded arguments. No state comes back
 // to itself exactly if all are grounded in the end.
+ghost use mathlib.Core.Bool.{true};
 ghost use mathlib.Core.List.{List};
 ghost use mathlib.Core.Path.{_≡_};
 ghost use Prim.Native.Nat.{_*_, _+_, _<_, _≤_, ℕ};
@@ -104,14 +105,24 @@ fn all_grounded(transitions: &[u8], count: usize, n: usize) -> bool
     all_marked(&marks, 1, n + 1)
 }
 
-// Condition 11: no state comes back to itself going from arguments to outputs. If it holds, ranks show it; the marks
-// decide if they do not.
+// Whether ranks that a search finds rise from arguments to outputs. Then no state comes back to itself. If they do not
+// rise, nothing is shown.
+pub fn ranks_show(transitions: &[u8], count: usize, n: usize) -> bool
+    requires { ⌜ HoldsTransitionsOver (now transitions) count n ⌝ }
+    requires { ⌜ n ≤ 255 ⌝ }
+    ensures { λ r. ⌜ (r ≡ true → (cl : List ℕ) → acyclic (viewed cl (now (transitions .entry)) n count) ≡ true) ⌝ }
+{
+    ranks_rise(transitions, count, &depth_first(transitions, count, n))
+}
+
+// Condition 11: no state comes back to itself going from arguments to outputs. If it holds, ranks mostly show it;
+// otherwise the marks decide.
 pub fn acyclic(transitions: &[u8], count: usize, n: usize) -> bool
     requires { ⌜ HoldsTransitionsOver (now transitions) count n ⌝ }
     requires { ⌜ n ≤ 255 ⌝ }
     ensures { λ r. ⌜ ((cl : List ℕ) → r ≡ acyclic (viewed cl (now (transitions .entry)) n count)) ⌝ }
 {
-    if ranks_rise(transitions, count, &depth_first(transitions, count, n)) {
+    if ranks_show(transitions, count, n) {
         return true;
     }
     all_grounded(transitions, count, n)

@@ -8,6 +8,7 @@ mod ranks; // numbers that rise from arguments to outputs
 mod grounding; // condition 11
 
 pub use grounding::acyclic;
+pub use grounding::ranks_show;
 pub use marks::args_marked;
 pub use numbering::Ruling;
 pub use numbering::all_seen;

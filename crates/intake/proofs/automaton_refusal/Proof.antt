@@ -1,3 +1,4 @@
+-- `intake::automaton_refusal` meets its contract: numbered, without loops and settled, or searched.
 use borrow.Author.Tests.{not-false}
 use Rattle.intake.proofs.Checks.{passes}
 use borrow.Author.Needs.{needs}
@@ -41,7 +42,7 @@ returns-4 c =
     let start = at-ruled .before .before .before in
     passes (start .args .classes .now) (start .args .transitions .now) (start .args .n) (start .args .count)
     (start .pre .0 .over) (at-ruled .ruled .ensures .0 (start .args .classes .now)) (at-if1 .if1 .left)
-    (at-loopless .loopless .ensures (start .args .classes .now)) (at-if2 .if2 .left)
+    (at-loopless .loopless .ensures (not-false _ (at-if2 .if2 .left)) (start .args .classes .now))
     (at-settled .settled .ensures (not-false _ (c .if3 .left)))
 
 pub automaton-refusal-spec : {M : Type 1} → statement M

@@ -1,4 +1,5 @@
--- `intake::loopless` meets its contract: states in the order of their numbers come back to none.
+-- `intake::loopless` meets its contract: outputs above their arguments, or ranks, show that there is no loop.
+use mathlib.Core.Path.{sym}
 use Rattle.validity.proofs.Rising.{climbing-acyclic}
 use borrow.Author.Needs.{needs}
 use Rattle.intake.proofs.loopless.Statement.{statement}
@@ -7,8 +8,8 @@ use Rattle.intake.proofs.loopless.Tie as tie
 returns : tie.Need-returns
 returns c =
     let start = c .before .before in
-    climbing-acyclic (start .args .transitions .now) (start .args .n) (start .args .count) (start .pre .0)
-    (start .pre .1 .1 (c .if1 .taken))
+    λ _ cl. sym (climbing-acyclic (start .args .transitions .now) (start .args .n) (start .args .count) (start .pre .0)
+    (start .pre .1 .1 (c .if1 .taken)) cl)
 
 pub loopless-spec : {M : Type 1} → statement M
 loopless-spec = tie.close (tie.spec returns (λ c κs. search needs) (λ c. search needs))

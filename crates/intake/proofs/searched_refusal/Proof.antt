@@ -26,12 +26,6 @@ returns-2 c =
     .count)) ((at-reached .reached .ensures (start .args .classes .now))) (at-if1 .if1 .left) (c .before
     .all-coaccessible .ensures) (c .if2 .taken)
 
-loopless-requires : tie.Need-loopless-requires
-loopless-requires c κs =
-    let at-ruled = c .before .before .before .before in
-    let start = at-ruled .before .before .before in
-    (start .pre .0 .over, (start .pre .0 .states, at-ruled .ruled .ensures .1))
-
 returns-3 : tie.Need-returns-3
 returns-3 c =
     let at-if2 = c .before .before in
@@ -41,7 +35,7 @@ returns-3 c =
     let start = at-reached .before .before .before .before in
     refused-11 (viewed (start .args .classes .now) (start .args .transitions .now) (start .args .n) (start .args
     .count)) ((at-reached .reached .ensures (start .args .classes .now))) (at-if1 .if1 .left)
-    (at-all-coaccessible .all-coaccessible .ensures) (at-if2 .if2 .left) (c .before .loopless .ensures (start
+    (at-all-coaccessible .all-coaccessible .ensures) (at-if2 .if2 .left) (c .before .acyclic .ensures (start
     .args .classes .now)) (c .if3 .taken)
 
 all-apart-requires : tie.Need-all-apart-requires
@@ -56,23 +50,23 @@ all-apart-requires c κs =
 returns-4 : tie.Need-returns-4
 returns-4 c =
     let at-if3 = c .before .before in
-    let at-loopless = at-if3 .before in
-    let at-if2 = at-loopless .before in
+    let at-acyclic = at-if3 .before in
+    let at-if2 = at-acyclic .before in
     let at-all-coaccessible = at-if2 .before in
     let at-if1 = at-all-coaccessible .before in
     let at-reached = at-if1 .before in
     let start = at-reached .before .before .before .before in
     refused-12 (viewed (start .args .classes .now) (start .args .transitions .now) (start .args .n) (start .args
     .count)) ((at-reached .reached .ensures (start .args .classes .now))) (at-if1 .if1 .left)
-    (at-all-coaccessible .all-coaccessible .ensures) (at-if2 .if2 .left) (at-loopless .loopless .ensures (start
+    (at-all-coaccessible .all-coaccessible .ensures) (at-if2 .if2 .left) (at-acyclic .acyclic .ensures (start
     .args .classes .now)) (at-if3 .if3 .left) (c .before .all-apart .ensures) (c .if4 .taken)
 
 returns-5 : tie.Need-returns-5
 returns-5 c =
     let at-all-apart = c .before .before .before in
     let at-if3 = at-all-apart .before in
-    let at-loopless = at-if3 .before in
-    let at-if2 = at-loopless .before in
+    let at-acyclic = at-if3 .before in
+    let at-if2 = at-acyclic .before in
     let at-all-coaccessible = at-if2 .before in
     let at-if1 = at-all-coaccessible .before in
     let at-reached = at-if1 .before in
@@ -80,7 +74,7 @@ returns-5 c =
     let start = at-ruled .before .before .before in
     refused-13 (viewed (start .args .classes .now) (start .args .transitions .now) (start .args .n) (start .args
     .count)) ((at-reached .reached .ensures (start .args .classes .now))) (at-if1 .if1 .left)
-    (at-all-coaccessible .all-coaccessible .ensures) (at-if2 .if2 .left) (at-loopless .loopless .ensures (start
+    (at-all-coaccessible .all-coaccessible .ensures) (at-if2 .if2 .left) (at-acyclic .acyclic .ensures (start
     .args .classes .now)) (at-if3 .if3 .left) (at-all-apart .all-apart
     .ensures) (c .before .before .if4 .left) ((at-ruled .ruled .ensures .0 (start .args .classes .now))) (c .if5
     .taken)
@@ -89,8 +83,8 @@ returns-6 : tie.Need-returns-6
 returns-6 c =
     let at-all-apart = c .before .before .before in
     let at-if3 = at-all-apart .before in
-    let at-loopless = at-if3 .before in
-    let at-if2 = at-loopless .before in
+    let at-acyclic = at-if3 .before in
+    let at-if2 = at-acyclic .before in
     let at-all-coaccessible = at-if2 .before in
     let at-if1 = at-all-coaccessible .before in
     let at-reached = at-if1 .before in
@@ -98,7 +92,7 @@ returns-6 c =
     let start = at-ruled .before .before .before in
     not-refused (viewed (start .args .classes .now) (start .args .transitions .now) (start .args .n) (start .args
     .count)) ((at-reached .reached .ensures (start .args .classes .now))) (at-if1 .if1 .left)
-    (at-all-coaccessible .all-coaccessible .ensures) (at-if2 .if2 .left) (at-loopless .loopless .ensures (start
+    (at-all-coaccessible .all-coaccessible .ensures) (at-if2 .if2 .left) (at-acyclic .acyclic .ensures (start
     .args .classes .now)) (at-if3 .if3 .left) (at-all-apart .all-apart
     .ensures) (c .before .before .if4 .left) ((at-ruled .ruled .ensures .0 (start .args .classes .now))) (c .if5
     .left)
@@ -106,4 +100,4 @@ returns-6 c =
 pub searched-refusal-spec : {M : Type 1} → statement M
 searched-refusal-spec =
     tie.close (tie.spec (λ c κs. search needs) reached-requires returns (λ c κs. search needs) returns-2
-    loopless-requires returns-3 all-apart-requires returns-4 returns-5 returns-6)
+    (λ c κs. search needs) returns-3 all-apart-requires returns-4 returns-5 returns-6)
