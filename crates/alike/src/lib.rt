@@ -1,5 +1,7 @@
 // The local criterion: whether a subtree can stand for a state or for another subtree after a change of the set. The
 // arrays of the m subtrees are those of crate subtrees. The names of subtrees with greater numbers are known.
+#![tactic(auto)]
+
 mod classed; // the class and the names in the frames
 mod frames; // the names in the frames over a subtree
 mod nodes; // the name of a node over subtrees

@@ -1,4 +1,6 @@
 // The calls on byte slices. No call has a `requires`: any bytes of any length get the answer that document 01 gives.
+#![tactic(auto)]
+
 mod serials; // serial numbers of trees
 
 ghost use Rattle.std.specs.Prelude.{◌≡◌};

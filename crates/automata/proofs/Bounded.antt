@@ -120,6 +120,7 @@ pow-run A d q e (suc k) = run_context-append A d (pow d k) q ∙ ap (run_context
 
 split-each : (g : Tree → ℕ) (f : Forest) (p : ℕ) → p ∈ each_tree g f →
     (b : Forest) × (t : Tree) × (c : Forest) × (f ≡ b ⧺ cons t c) × (p ≡ g t)
+split-each g nil p x' = elim x' [ ]
 split-each g (cons u f) p (inl e) = (nil, u, f, refl, e)
 split-each g (cons u f) p (inr i) = let (b, t, c, d, e) = split-each g f p i in
     (cons u b, t, c, ap (cons u) d, e)

@@ -36,6 +36,7 @@ in-slots_of a (p ∷ l) q r =
 
 slots_of-in : (a : ℕ) (qs : List ℕ) (s : Slot) → s ∈ slots_of a qs →
     (s.label ≡ a) × ((q : ℕ) × (qs ≡ s.before ++ (q ∷ s.after)))
+slots_of-in a [] s x' = elim x' [ ]
 slots_of-in a (q ∷ qs) s (inl e) = (ap (λ (s : Slot). s.label) e, (q, rw e))
 slots_of-in a (q ∷ qs) s (inr m) = let r = map-in (push q) (slots_of a qs) s m in
     go r.0 r.2 (slots_of-in a qs r.0 r.1)
@@ -46,6 +47,7 @@ slots_of-in a (q ∷ qs) s (inr m) = let r = map-in (push q) (slots_of a qs) s m
 
 pub in-slots : (ls : List Transition) (l : Transition) (b : List ℕ) (q : ℕ) (c : List ℕ) → l ∈ ls →
     l.args ≡ b ++ (q ∷ c) → slot l.label b c ∈ slots ls
+in-slots [] l b q c x'' h = elim x'' [ ]
 in-slots (m ∷ ls) l b q c (inl e) h =
     in_append_left (slots_of m.label m.args) (slots ls) (slot l.label b c)
     (rw (← e, h) (in-slots_of l.label b q c))
@@ -56,6 +58,7 @@ in-slots (m ∷ ls) l b q c (inr i) h =
 pub slots-in : (ls : List Transition) (s : Slot) → s ∈ slots ls →
     (l : Transition) × (l ∈ ls) × (s.label ≡ l.label) ×
     ((q : ℕ) × (l.args ≡ s.before ++ (q ∷ s.after)))
+slots-in [] s m = elim m [ ]
 slots-in (l ∷ ls) s m = go (append-in (slots_of l.label l.args) (slots ls) s m) (slots-in ls s)
   where
     go : (s ∈ slots_of l.label l.args) ⊎ (s ∈ slots ls) →

@@ -140,6 +140,7 @@ once-distinct (f ∷ F) = go (once-distinct F) (elem eq_frame f (distinct_frames
     go ih false e = (λ i. true≢false (sym (in-elem eq_frame eq_frame-true eq_frame-same f (distinct_frames F) i) ∙ e), ih)
 
 pub once-in : (F : List Frame) (g : Frame) → g ∈ distinct_frames F → g ∈ F
+once-in [] g i = elim i [ ]
 once-in (f ∷ F) g i = go (λ j. once-in F g j) (elem eq_frame f (distinct_frames F)) i
   where
     go : (g ∈ distinct_frames F → g ∈ F) → (b : Bool) → g ∈ cond b (distinct_frames F) (f ∷ distinct_frames F) →
@@ -149,6 +150,7 @@ once-in (f ∷ F) g i = go (λ j. once-in F g j) (elem eq_frame f (distinct_fram
     go ih false (inr j) = inr (ih j)
 
 pub in-once : (F : List Frame) (g : Frame) → g ∈ F → g ∈ distinct_frames F
+in-once [] g x' = elim x' [ ]
 in-once (f ∷ F) g (inl e) = go (elem eq_frame f (distinct_frames F)) refl
   where
     go : (b : Bool) → elem eq_frame f (distinct_frames F) ≡ b → g ∈ cond b (distinct_frames F) (f ∷ distinct_frames F)

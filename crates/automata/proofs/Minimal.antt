@@ -27,6 +27,7 @@ use Rattle.lists.proofs.Tests.{filter-in, in-filter, in_map, map-in}
 
 first-pass : (p : ℕ → Bool) (xs : List ℕ) (x : ℕ) → x ∈ xs → p x ≡ true →
     (p (first p xs) ≡ true) × (first p xs ∈ xs)
+first-pass p [] x i e = elim i [ ]
 first-pass p (y ∷ xs) x i e = go (λ j. first-pass p xs x j e) (p y) refl i
   where
     go : (x ∈ xs → (p (first p xs) ≡ true) × (first p xs ∈ xs)) → (b : Bool) → p y ≡ b → x ∈ (y ∷ xs) →

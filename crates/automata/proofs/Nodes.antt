@@ -17,6 +17,7 @@ use Rattle.lists.proofs.Tests.{map_inj}
 module _ {A B : Type 0} where
   pub concat_map-in : (f : A → List B) (xs : List A) (y : B) → y ∈ concat_map f xs →
       (x : A) × (x ∈ xs) × (y ∈ f x)
+  concat_map-in f [] y i = elim i [ ]
   concat_map-in f (x ∷ xs) y i = go (λ j. concat_map-in f xs y j) (append-in (f x) (concat_map f xs) y i)
     where
       go : (y ∈ concat_map f xs → (z : A) × (z ∈ xs) × (y ∈ f z)) → (y ∈ f x) ⊎ (y ∈ concat_map f xs) →
@@ -25,6 +26,7 @@ module _ {A B : Type 0} where
       go ih (inr j) = let r = ih j in (r.0, inr r.1, r.2)
 
   pub in-concat_map : (f : A → List B) (xs : List A) (x : A) (y : B) → x ∈ xs → y ∈ f x → y ∈ concat_map f xs
+  in-concat_map f [] x y x4 j = elim x4 [ ]
   in-concat_map f (z ∷ xs) x y (inl e) j = in_append_left (f z) (concat_map f xs) y (rw e at j)
   in-concat_map f (z ∷ xs) x y (inr i) j =
       in_append_right (f z) (concat_map f xs) y (in-concat_map f xs x y i j)
@@ -85,6 +87,7 @@ module _ (R : List Pair) (side : Pair → ℕ) where
       (in_map (λ ks. (l.label, ks)) (lists R side l.args) ks (rw e (in-lists ks h)))
 
 pub all-member : (R ks : List Pair) → AllIn R ks → (k : Pair) → k ∈ ks → k ∈ R
+all-member R [] h k x'' = elim x'' [ ]
 all-member R (j ∷ ks) h k (inl e) = rw e h.0
 all-member R (j ∷ ks) h k (inr i) = all-member R ks h.1 k i
 

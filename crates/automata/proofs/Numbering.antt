@@ -76,6 +76,7 @@ best-view o (l ∷ ls) = go (best o ls) (ready o l) refl (best-view o ls)
         first x (inr j) h = least x j h
 
 in-length : {A : Type 0} (xs : List A) (x : A) → x ∈ xs → 1 ≤ length xs
+in-length {A = A} [] x i = elim i [ ]
 in-length (y ∷ xs) x i = omega arith
 
 pub elem-append : (q : ℕ) (xs ys : List ℕ) → elem eqb q (xs ++ ys) ≡ (elem eqb q xs || elem eqb q ys)

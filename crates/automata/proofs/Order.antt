@@ -92,6 +92,7 @@ rising-tail l (m ∷ ms) e = and_right (precedes l m) _ e
 
 pub rising-head : (l : Transition) (ls : List Transition) → rising_from l ls ≡ true → (m : Transition) →
     m ∈ ls → precedes l m ≡ true
+rising-head l [] e m x'' = elim x'' [ ]
 rising-head l (k ∷ ls) e m (inl q) = rw q (and_left _ _ e)
 rising-head l (k ∷ ls) e m (inr i) =
     precedes-trans l k m (and_left _ _ e) (rising-head k ls (and_right (precedes l k) _ e) m i)
@@ -157,6 +158,7 @@ pub first-open : (k : ℕ) (ls : List Transition) → rising ls ≡ true → (x 
     opens k x ≡ true →
     (m : Transition) × (m ∈ ls) × (opens k m ≡ true) × (first_open k ls ≡ m.out) ×
     ((x ≡ m) ⊎ (precedes m x ≡ true))
+first-open k [] r x i o = elim i [ ]
 first-open k (l ∷ ls) r x i o = go (λ j. first-open k ls (rising-tail l ls r) x j o) (opens k l) refl i
   where
     go : (x ∈ ls →
@@ -172,6 +174,7 @@ first-open k (l ∷ ls) r x i o = go (λ j. first-open k ls (rising-tail l ls r)
 -- in a strictly rising list a key has one transition
 pub rising-one : (ls : List Transition) → rising ls ≡ true → (l m : Transition) → l ∈ ls → m ∈ ls →
     key l ≡ key m → l ≡ m
+rising-one [] r l m x4 _ e = elim x4 [ ]
 rising-one (x ∷ ls) r l m (inl p) (inl q) e = cc
 rising-one (x ∷ ls) r l m (inl p) (inr j) e =
     absurd (lex_irrefl (key m)

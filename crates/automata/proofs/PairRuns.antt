@@ -39,6 +39,7 @@ module _ (A B : Automaton) where
   -- a child that has no state in either automaton
   none_any : (f : Forest) → ◌∈◌ {A = Pair} (0, 0) (both f) →
       (any (eqb 0) (runs A f) ≡ true) × (any (eqb 0) (runs B f) ≡ true)
+  none_any nil x' = elim x' [ ]
   none_any (cons t f) (inl e) = (
     or_left (eqb 0 (run A t)) (any (eqb 0) (runs A f)) (eq-eqb 0 (run A t) (ap fst e)),
     or_left (eqb 0 (run B t)) (any (eqb 0) (runs B f)) (eq-eqb 0 (run B t) (ap snd e)),

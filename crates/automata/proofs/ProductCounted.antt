@@ -131,6 +131,7 @@ module _ (t : Tree) where
     all-pairs (k ∷ ks) h = (is-pair k (h k (inl refl)), all-pairs ks (λ j i. h j (inr i)))
 
     each-pair : (f : Forest) → AllIn R (map to_pair (pairs_of A t f)) → (k : TreePair) → k ∈ pairs_of A t f → IsPair A t k
+    each-pair nil h k x'' = elim x'' [ ]
     each-pair (cons u f) h k (inl e) = subst (IsPair A t) (sym e) (pair_is u h.0)
     each-pair (cons u f) h k (inr i) = each-pair f h.1 k i
 

@@ -31,6 +31,7 @@ module _ (w : ℕ → ℕ) where
 
   -- a factor is no more than the product
   pub factor-within : (qs : List ℕ) → ((q : ℕ) → q ∈ qs → 1 ≤ w q) → (q : ℕ) → q ∈ qs → w q ≤ product_over w qs
+  factor-within [] h q x'' = elim x'' [ ]
   factor-within (p ∷ qs) h q (inl e) =
       let l : w p ≤ w p * product_over w qs =
       le-mul_of_pos_right (w p) (product-some qs (λ r i. h r (inr i))) in
@@ -42,6 +43,7 @@ module _ (w : ℕ → ℕ) where
   -- a part is no more than the sum
   pub part-within : (q : ℕ) (τs : List Transition) (τ : Transition) → τ ∈ τs → τ.out ≡ q →
       product_over w τ.args ≤ sum_into w q τs
+  part-within q [] τ x'' o = elim x'' [ ]
   part-within q (σ ∷ τs) τ (inl e) o =
       rw (eq-eqb σ.out q (ap (λ (υ : Transition). υ.out) (sym e) ∙ o))
       (omega (arith, ap (λ (υ : Transition). product_over w υ.args) e))
@@ -49,6 +51,7 @@ module _ (w : ℕ → ℕ) where
 
   pub accepting-within : (A : Automaton) (qs : List ℕ) (q : ℕ) → q ∈ qs → accepting A q ≡ true →
       w q ≤ sum_accepting A w qs
+  accepting-within A [] q x'' a = elim x'' [ ]
   accepting-within A (p ∷ qs) q (inl e) a = rw (ap (accepting A) (sym e) ∙ a) (omega (arith, ap w e))
   accepting-within A (p ∷ qs) q (inr i) a = omega (arith, accepting-within A qs q i a)
 

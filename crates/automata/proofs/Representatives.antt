@@ -153,6 +153,7 @@ module _ (A : Automaton) (t : Tree) (ts : List Tree) (ν : Tree → ℕ) where
 
     one_found : (a : ℕ) (xs : List ℕ) (o : ℕ) (w : Tree) (us : List Tree) → w ∈ us → is_node_of A ts a xs w ≡ true →
         ((u : Tree) → u ∈ us → is_node_of A ts a xs u ≡ true → u ≡ w) → node_name A ts ν a xs o us ≡ ν w
+    one_found a xs o w [] i m h = elim i [ ]
     one_found a xs o w (u ∷ us) i m h =
         go (is_node_of A ts a xs u) refl i (λ j. one_found a xs o w us j m (λ v k. h v (inr k)))
       where

@@ -56,6 +56,7 @@ step-view A a qs = go (any (eqb 0) qs) refl (lookup-view a qs A.transitions)
 pub lookup-in : (ls : List Transition) (l : Transition) → l ∈ ls →
     (m : Transition) × (m ∈ ls) × (m.label ≡ l.label) × (m.args ≡ l.args) ×
     (lookup l.label l.args ls ≡ m.out)
+lookup-in [] l i = elim i [ ]
 lookup-in (x ∷ ls) l i = go (λ j. lookup-in ls l j) (matches l.label l.args x) refl i
   where
     go : (l ∈ ls →

@@ -84,6 +84,7 @@ module _ (A : Automaton) (ranged : states_in_range A ≡ true) (rises : rising A
     accepted-in : (qs : List ℕ) → ((q : ℕ) → q ∈ qs → IsState A q) → (t : Tree) → t ∈ accepted_over A qs →
         (run A t ∈ qs) × (accepts A t ≡ true)
     unfolding accepted_over
+    accepted-in [] s t i = elim i [ ]
     accepted-in (q ∷ qs) s t i =
         go (λ j. accepted-in qs (λ p k. s p (inr k)) t j) (accepting A q) refl
         (append-in (cond (accepting A q) (tree_list A (states A) q) []) (accepted_over A qs) t i)
@@ -99,6 +100,7 @@ module _ (A : Automaton) (ranged : states_in_range A ≡ true) (rises : rising A
     in-accepted : (qs : List ℕ) → ((q : ℕ) → q ∈ qs → IsState A q) → (t : Tree) → run A t ∈ qs →
         accepts A t ≡ true → t ∈ accepted_over A qs
     unfolding accepted_over
+    in-accepted [] s t x3 e = elim x3 [ ]
     in-accepted (q ∷ qs) s t (inl r) e =
         let a : accepting A q ≡ true = ap (accepting A) (sym r) ∙ e in
         in_append_left (cond (accepting A q) (tree_list A (states A) q) []) (accepted_over A qs) t

@@ -116,6 +116,7 @@ module _ (T : ℕ → List Tree) where
   pub nodes_into-in : (q : ℕ) (τs : List Transition) (t : Tree) → t ∈ nodes_into q τs →
       (τ : Transition) × (τ ∈ τs) × (τ.out ≡ q) × (t ∈ nodes_over τ)
   unfolding nodes_into
+  nodes_into-in q [] t i = elim i [ ]
   nodes_into-in q (τ ∷ τs) t i =
       go (λ j. nodes_into-in q τs t j) (eqb τ.out q) refl
       (append-in (cond (eqb τ.out q) (nodes_over τ) []) (nodes_into q τs) t i)
@@ -130,6 +131,7 @@ module _ (T : ℕ → List Tree) where
   pub in-nodes_into : (q : ℕ) (τs : List Transition) (t : Tree) (τ : Transition) → τ ∈ τs → τ.out ≡ q →
       t ∈ nodes_over τ → t ∈ nodes_into q τs
   unfolding nodes_into
+  in-nodes_into q [] t τ x3 o j = elim x3 [ ]
   in-nodes_into q (σ ∷ τs) t τ (inl e) o j =
       in_append_left (cond (eqb σ.out q) (nodes_over σ) []) (nodes_into q τs) t
       (rw (eq-eqb σ.out q (ap (λ (υ : Transition). υ.out) (sym e) ∙ o))

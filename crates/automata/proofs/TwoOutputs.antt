@@ -57,6 +57,7 @@ inserted-in (t ∷ ts) u e =
     go ih (inr h) = inl (eq_tree-true u t h)
 
 in-inserted : (ts : List Tree) (u : Tree) → u ∈ ts → accepts (inserted ts) u ≡ true
+in-inserted [] u x' = elim x' [ ]
 in-inserted (t ∷ ts) u (inl e) =
     inserted-one t ts u
     ∙ or_right (accepts (inserted ts) u) (eq_tree u t) (rw e (eq_tree-same t))
@@ -84,6 +85,7 @@ runs-to-1 (node a f) (qs, r, inl e) = inl (leaf-of a 1 f qs r e)
 runs-to-1 (node a f) (qs, r, inr (inl e)) = absurd (out-differs e (λ z. omega arith))
 runs-to-1 (node a f) (qs, r, inr (inr (inl e))) = inr (leaf-of a 2 f qs r e)
 runs-to-1 (node a f) (qs, r, inr (inr (inr (inl e)))) = absurd (out-differs e (λ z. omega arith))
+runs-to-1 (node a f) (qs , r , inr (inr (inr (inr (inr x7))))) = elim x7 [ ]
 runs-to-1 (node a f) (qs, r, inr (inr (inr (inr (inl e))))) = absurd (out-differs e (λ z. omega arith))
 
 runs-to-2 : (t : Tree) → RunsTo two_outputs t 2 → (t ≡ leaf 1) ⊎ (t ≡ leaf 3)
@@ -91,6 +93,7 @@ runs-to-2 (node a f) (qs, r, inl e) = absurd (out-differs e (λ z. omega arith))
 runs-to-2 (node a f) (qs, r, inr (inl e)) = inl (leaf-of a 1 f qs r e)
 runs-to-2 (node a f) (qs, r, inr (inr (inl e))) = absurd (out-differs e (λ z. omega arith))
 runs-to-2 (node a f) (qs, r, inr (inr (inr (inl e)))) = inr (leaf-of a 3 f qs r e)
+runs-to-2 (node a f) (qs , r , inr (inr (inr (inr (inr x7))))) = elim x7 [ ]
 runs-to-2 (node a f) (qs, r, inr (inr (inr (inr (inl e))))) = absurd (out-differs e (λ z. omega arith))
 
 two-children : (f : Forest) → RunEach two_outputs f (1 ∷ 2 ∷ []) → node 5 f ∈ cross_trees
@@ -110,6 +113,7 @@ runs-to-3 (node a f) (qs, r, inl e) = absurd (out-differs e (λ z. omega arith))
 runs-to-3 (node a f) (qs, r, inr (inl e)) = absurd (out-differs e (λ z. omega arith))
 runs-to-3 (node a f) (qs, r, inr (inr (inl e))) = absurd (out-differs e (λ z. omega arith))
 runs-to-3 (node a f) (qs, r, inr (inr (inr (inl e)))) = absurd (out-differs e (λ z. omega arith))
+runs-to-3 (node a f) (qs , r , inr (inr (inr (inr (inr x7))))) = elim x7 [ ]
 runs-to-3 (node a f) (qs, r, inr (inr (inr (inr (inl e))))) =
     let l : a ≡ 5 = ap (λ (υ : Transition). υ.label) e in
     let n : qs ≡ 1 ∷ 2 ∷ [] = ap (λ (υ : Transition). υ.args) e in
@@ -130,6 +134,7 @@ accepted-cross t (inl e) = rw e (crossed (leaf 1) (leaf 1) first second)
 accepted-cross t (inr (inl e)) = rw e (crossed (leaf 1) (leaf 3) ([], tt, inl refl) ([], tt, inr (inr (inr (inl refl)))))
 accepted-cross t (inr (inr (inl e))) =
     rw e (crossed (leaf 2) (leaf 1) ([], tt, inr (inr (inl refl))) ([], tt, inr (inl refl)))
+accepted-cross t (inr (inr (inr (inr x4)))) = elim x4 [ ]
 accepted-cross t (inr (inr (inr (inl e)))) =
     rw e (crossed (leaf 2) (leaf 3) ([], tt, inr (inr (inl refl))) ([], tt, inr (inr (inr (inl refl)))))
 

@@ -1,5 +1,7 @@
 // The bench program: reads standard input, and prints what came of each line and, last, the numbers of the table.
 // What is printed is written when its buffer is full and before each read, so someone typing sees each answer.
+#![tactic(auto)]
+
 mod output;
 
 ghost use Rattle.std.specs.Prelude.{◌≡◌, length};

@@ -1,1 +1,2 @@
 // No code: definitions and laws.
+#![tactic(auto)]

@@ -1,5 +1,7 @@
 // What a call answers. specs/Calls says which answer a call gives, for any bytes.
 
+#![tactic(auto)]
+
 // Ask: approved; not approved, but part of an approved tree; or not approved, with the place of the node that stops
 // the tree, counted in nodes of the listing from 1. Intake and the changes: accepted or done, with the numbers of
 // states and of transitions. The total: the number of trees, or that it does not fit 64 bits. Tree to number: the serial

@@ -1,6 +1,8 @@
 // A tree put into the set of a table, or taken out. Each distinct subtree of the tree gets a name, which stands for
 // its state in the new automaton. The new transitions are made between names, then the names get numbers. Refusals 16
 // and 17 are found by counting, before anything is written.
+#![tactic(auto)]
+
 mod arrays; // the arrays that a change works in
 mod classes; // a class for each name
 mod fallback; // the new table by a plain search, as a last resort

@@ -1,5 +1,7 @@
 // The bench program as a console, without its input and output: the input's bytes come in parts of any length, and what
 // is printed goes to a buffer that the caller writes out. A console's numbers go by value, and its buffers are lent.
+#![tactic(auto)]
+
 ghost use Rattle.std.specs.Prelude.{◌≡◌, ◌+◌, ◌<◌, ◌≤◌, length};
 ghost use Rattle.console.specs.Buffers.{ClosedTo, FedTo, LineKept, Moved, Buffered, ProgressRoom, empty_scratch};
 ghost use Rattle.console.specs.Buffers.{empty_table};

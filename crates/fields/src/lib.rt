@@ -1,5 +1,7 @@
 // Fields of a table and of its transitions. `transitions` has transition i at byte 12 i: the part `&table[203..]` of a
 // table, or a scratch.
+#![tactic(auto)]
+
 mod transition; // fields of one transition
 
 ghost use Rattle.std.specs.Prelude.{◌≡◌, ◌<◌, ◌≤◌, length, take};

@@ -2,6 +2,8 @@
 // without loops whose fingerprints all differ no two states are equivalent.
 // `transitions` has `count` sorted transitions over the states 1 to n; `classes` has the class of state q at byte q.
 // 0, "no state", takes part.
+#![tactic(auto)]
+
 mod values; // what a use adds
 mod prints; // the fingerprints of all states
 mod differing; // whether all differ

@@ -1,4 +1,6 @@
 // The widths and limits of document 01 for code. specs/Format.antt has the same numbers, and says what each is.
+#![tactic(auto)]
+
 ghost use Rattle.std.specs.Prelude.{◌≡◌, ◌%◌, ◌/◌, ◌≤◌};
 ghost use Rattle.format.specs.Format.{byte_values, label_from, max_label};
 

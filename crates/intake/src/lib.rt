@@ -1,4 +1,6 @@
 // The check of a table, whole: refusals 5 and 7 to 13, the first that 01's order names. Every call makes it.
+#![tactic(auto)]
+
 ghost use Rattle.std.specs.Prelude.{true, List, [], ◌≡◌, ℕ, ◌≤◌, length};
 ghost use Rattle.automata.specs.Accessible.{all_accessible};
 ghost use Rattle.automata.specs.Acyclic.{acyclic};

@@ -1,5 +1,7 @@
 // Listings of trees in bytes: the tree reader, and document 01's refusals 1 to 4. No reader has a `requires`:
 // each returns for every slice of any length.
+#![tactic(auto)]
+
 ghost use Rattle.std.specs.Prelude.{◌≡◌, ◌*◌, ◌+◌, ◌≤◌, length};
 ghost use Rattle.format.specs.Format.{max_label, node_bytes};
 ghost use Rattle.trees.specs.Listing.{children_at, label_at, whole_nodes, all_labelled, all_narrow, one_tree, listing_refusal};

@@ -67,6 +67,7 @@ distinct-length {A} xs ys d h =
 -- a list without duplicates that is as long as a list that holds all its elements holds all of that list's
 pub distinct-all : {A : Type 0} (xs ys : List A) → Distinct xs → ((x : A) → x ∈ xs → x ∈ ys) →
     length ys ≤ length xs → (y : A) → y ∈ ys → y ∈ xs
+distinct-all {A = A} [] [] d h l y i = elim i [ ]
 distinct-all [] (z ∷ ys) d h l y i = absurd (omega arith)
 distinct-all {A} (x ∷ xs) ys d h l y i = go (in_split ys x (h x (inl refl))) (λ zs. distinct-all xs zs d.1)
   where
@@ -110,10 +111,12 @@ up_from-distinct k zero = tt
 up_from-distinct k (suc n) = (λ i. omega (arith, up_from-in (suc k) n k i), up_from-distinct (suc k) n)
 
 row_in : (p : ℕ) (qs : List ℕ) (k : Pair) → k ∈ row p qs → (k.0 ≡ p) × (k.1 ∈ qs)
+row_in p [] k x' = elim x' [ ]
 row_in p (q ∷ qs) k (inl e) = (ap (λ (j : Pair). j.0) e, inl (ap (λ (j : Pair). j.1) e))
 row_in p (q ∷ qs) k (inr i) = let r = row_in p qs k i in (r.0, inr r.1)
 
 pub grid-in : (ps qs : List ℕ) (k : Pair) → k ∈ grid ps qs → (k.0 ∈ ps) × (k.1 ∈ qs)
+grid-in [] qs k i = elim i [ ]
 grid-in (p ∷ ps) qs k i = go (append-in (row p qs) (grid ps qs) k i) (λ j. grid-in ps qs k j)
   where
     go : (k ∈ row p qs) ⊎ (k ∈ grid ps qs) → (k ∈ grid ps qs → (k.0 ∈ ps) × (k.1 ∈ qs)) →

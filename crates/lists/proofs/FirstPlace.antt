@@ -35,6 +35,7 @@ module _ {A : Type 0} (p : A → Bool) where
   first-none (x ∷ xs) h = rw (h x (inl refl), first-none xs (λ y i. h y (inr i)))
 
   pub none_passes : (xs : List A) → first_place p xs ≡ 0 → (x : A) → x ∈ xs → p x ≡ false
+  none_passes [] e x i = elim i [ ]
   none_passes (y ∷ xs) e x i = go (λ f j. none_passes xs f x j) (p y) refl e i
     where
       go : (first_place p xs ≡ 0 → x ∈ xs → p x ≡ false) → (b : Bool) → p y ≡ b →

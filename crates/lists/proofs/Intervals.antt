@@ -21,6 +21,7 @@ module _ {A : Type 0} where
   get_d-in (x ∷ xs) (suc i) d h = inr (get_d-in xs i d (omega arith))
 
   pub in-get_d : (xs : List A) (x d : A) → x ∈ xs → (i : ℕ) × (i < length xs) × (x ≡ get_or xs i d)
+  in-get_d [] x d x3 = elim x3 [ ]
   in-get_d (y ∷ xs) x d (inl e) = (0, omega arith, e)
   in-get_d (y ∷ xs) x d (inr m) = let (i, h, e) = in-get_d xs x d m in (suc i, omega arith, e)
 

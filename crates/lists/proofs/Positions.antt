@@ -1,4 +1,5 @@
 -- Laws of positions, intervals and pairs.
+use mathlib.Core.List.{[]}
 use mathlib.Core.Bool.{Bool, false, true}
 use mathlib.Core.List.{List, ◌∷◌}
 use mathlib.Core.Logic.{inl, inr}
@@ -58,6 +59,7 @@ in-up_from k (suc n) q h l = go (λ m. in-up_from (suc k) n q m (omega arith)) (
     go ih false e = let ne = eqb-false q k e in inr (ih (omega arith))
 
 pub up_from-in : (k n q : ℕ) → q ∈ up_from k n → (k ≤ q) × (q < k + n)
+up_from-in k zero q x' = elim x' [ ]
 up_from-in k (suc n) q (inl e) = omega arith
 up_from-in k (suc n) q (inr m) = let r = up_from-in (suc k) n q m in omega arith
 
@@ -73,10 +75,12 @@ pub eq_pair-same : (k : Pair) → eq_pair k k ≡ true
 eq_pair-same k = and_both (eqb_same k.0) (eqb_same k.1)
 
 in_row : (p : ℕ) (qs : List ℕ) (q : ℕ) → q ∈ qs → ◌∈◌ {A = Pair} (p, q) (row p qs)
+in_row p [] q x' = elim x' [ ]
 in_row p (x ∷ qs) q (inl e) = inl (λ i. (p, e i))
 in_row p (x ∷ qs) q (inr m) = inr (in_row p qs q m)
 
 pub in-grid : (ps qs : List ℕ) (p q : ℕ) → p ∈ ps → q ∈ qs → ◌∈◌ {A = Pair} (p, q) (grid ps qs)
+in-grid [] qs p q x'' m = elim x'' [ ]
 in-grid (x ∷ ps) qs p q (inl e) m =
     in_append_left (row x qs) (grid ps qs) (p, q) (rw (← e) (in_row p qs q m))
 in-grid (x ∷ ps) qs p q (inr i) m = in_append_right (row x qs) (grid ps qs) (p, q) (in-grid ps qs p q i m)

@@ -73,10 +73,12 @@ module _ {A : Type 0} where
       go ih (inr h) = let r = ih h in (r.0, inr r.1, r.2)
 
   pub in-any : (p : A → Bool) (xs : List A) (x : A) → x ∈ xs → p x ≡ true → any p xs ≡ true
+  in-any p [] x x4 h = elim x4 [ ]
   in-any p (y ∷ xs) x (inl e) h = or_left _ _ (rw e at h)
   in-any p (y ∷ xs) x (inr m) h = or_right (p y) _ (in-any p xs x m h)
 
   pub every_in : (p : A → Bool) (xs : List A) → every p xs ≡ true → (x : A) → x ∈ xs → p x ≡ true
+  every_in p [] e x x4 = elim x4 [ ]
   every_in p (y ∷ xs) e x (inl q) = rw q (and_left _ _ e)
   every_in p (y ∷ xs) e x (inr m) = every_in p xs (and_right (p y) _ e) x m
 
@@ -85,6 +87,7 @@ module _ {A : Type 0} where
   in-every p (x ∷ xs) h = and_both (h x (inl refl)) (in-every p xs (λ y m. h y (inr m)))
 
   pub filter-in : (p : A → Bool) (xs : List A) (x : A) → x ∈ filter p xs → (x ∈ xs) × (p x ≡ true)
+  filter-in p [] x m = elim m [ ]
   filter-in p (y ∷ xs) x m = go (λ n. filter-in p xs x n) (p y) refl m
     where
       go : (x ∈ filter p xs → (x ∈ xs) × (p x ≡ true)) → (b : Bool) → p y ≡ b →
@@ -94,6 +97,7 @@ module _ {A : Type 0} where
       go ih false e n = let r = ih n in (inr r.0, r.1)
 
   pub in-filter : (p : A → Bool) (xs : List A) (x : A) → x ∈ xs → p x ≡ true → x ∈ filter p xs
+  in-filter p [] x x4 h = elim x4 [ ]
   in-filter p (y ∷ xs) x (inl q) h = let e : p y ≡ true = rw q at h in rw e (inl q)
   in-filter p (y ∷ xs) x (inr m) h = go (in-filter p xs x m h) (p y)
     where
@@ -131,6 +135,7 @@ module _ {A : Type 0} where
 
 module _ {A : Type 0} where
   pub in_append_left : (xs ys : List A) (x : A) → x ∈ xs → x ∈ (xs ++ ys)
+  in_append_left [] ys x x3 = elim x3 [ ]
   in_append_left (z ∷ xs) ys x (inl e) = inl e
   in_append_left (z ∷ xs) ys x (inr m) = inr (in_append_left xs ys x m)
 
@@ -154,10 +159,12 @@ module _ {A : Type 0} where
 
 module _ {A B : Type 0} where
   pub in_map : (f : A → B) (xs : List A) (x : A) → x ∈ xs → f x ∈ map f xs
+  in_map f [] x x3 = elim x3 [ ]
   in_map f (y ∷ xs) x (inl e) = inl (ap f e)
   in_map f (y ∷ xs) x (inr m) = inr (in_map f xs x m)
 
   pub map-in : (f : A → B) (xs : List A) (y : B) → y ∈ map f xs → (x : A) × (x ∈ xs) × (y ≡ f x)
+  map-in f [] y x' = elim x' [ ]
   map-in f (x ∷ xs) y (inl e) = (x, inl refl, e)
   map-in f (x ∷ xs) y (inr m) = let r = map-in f xs y m in (r.0, inr r.1, r.2)
 
@@ -193,6 +200,7 @@ none-zero (q ∷ qs) h = rw (ne_eqb 0 q (λ e. omega (arith, h q (inl refl)))) (
 
 -- a list around one of its members
 pub in_split : {A : Type 0} (xs : List A) (x : A) → x ∈ xs → (l : List A) × (r : List A) × (xs ≡ l ++ (x ∷ r))
+in_split {A = A} [] x x3 = elim x3 [ ]
 in_split (y ∷ xs) x (inl e) = ([], xs, rw e)
 in_split (y ∷ xs) x (inr i) = let (l, r, e) = in_split xs x i in (y ∷ l, r, ap (λ z. y ∷ z) e)
 

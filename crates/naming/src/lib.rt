@@ -1,6 +1,8 @@
 // Names of the distinct subtrees of a tree after that tree is put into the set or taken out. Two trees have the same
 // name if and only if they are equivalent for the new set. A name is 0 for a tree that is no subtree of the new set,
 // q if the subtree joins the other trees of open state q, or n + j, the own name of subtree j, counted from 1.
+#![tactic(auto)]
+
 mod classes; // the class of each subtree after the change
 mod models; // subtrees that a subtree can stand for
 mod parents; // parents of subtrees, and what their names imply

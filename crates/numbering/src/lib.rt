@@ -1,6 +1,8 @@
 // Transitions over names turned into a table. An order of the names is guessed, the transitions get its numbers and
 // are sorted, and then the result is checked. Only one result is right by the rule, so if this one is, it is that
 // one.
+#![tactic(auto)]
+
 mod reading; // the parts of a packed transition
 mod renumbering; // names replaced by their numbers
 mod sorting; // sorting by merging runs

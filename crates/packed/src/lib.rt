@@ -1,5 +1,7 @@
 // Transitions as two numbers, read from their bytes each time. So comparing two transitions takes two comparisons of
 // numbers.
+#![tactic(auto)]
+
 mod layout; // condition 7
 mod filling; // digits padded with zeros
 mod searching; // binary search

@@ -1,5 +1,7 @@
 // Refusal 16 by counting: how many transitions the product of a table's automaton and a tree has, before any of them
 // is made. A state is in one pair for each subtree that runs to it, and in one more if it is open.
+#![tactic(auto)]
+
 mod opening; // which states are open
 mod sums; // products over arguments and their sums
 

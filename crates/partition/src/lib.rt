@@ -2,6 +2,8 @@
 // are in one part at every moment. When no slot splits a part, states of one part are equivalent.
 // `parts[q]` is the least state of q's part, its leader. `transitions` has `count` sorted transitions over the states
 // 1 to n; `classes` has the class of state q at byte q.
+#![tactic(auto)]
+
 mod grouping; // a split by keys
 mod repairing; // a split by slots
 

@@ -1,6 +1,8 @@
 // The transitions of the new automaton, between names. They come from the transitions of the table, for all choices
 // of kept names for the arguments, and from subtrees that run to no state. Refusal 17 is known by counting before any
 // is made. With n states and m subtrees, a name x up to n is a state, and n + j is the own name of subtree j.
+#![tactic(auto)]
+
 mod choosing; // all choices of names for the arguments of a transition
 mod counting; // how many states and transitions the new table has
 mod entries; // transitions put into two arrays

@@ -1,5 +1,7 @@
 // Serial numbers of accepted trees (02, order 4): the number of a tree, and the tree of a number. Both go by how many
 // trees each state has, as crate totals finds them.
+#![tactic(auto)]
+
 mod choosing; // the place that a number falls in
 mod exact; // numbers of 64 bits beside numbers of trees
 mod ranking; // the number of a tree within its state

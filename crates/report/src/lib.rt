@@ -1,4 +1,6 @@
 // What the bench program prints for a line and at the end of its input, written into a buffer that the caller lends.
+#![tactic(auto)]
+
 ghost use Rattle.std.specs.Prelude.{◌≡◌, [], ◌++◌, ◌∷◌, ◌+◌, ◌<◌, ◌≤◌, length};
 ghost use Rattle.lists.specs.Decimal.{decimal, digit};
 ghost use Rattle.report.specs.Printing.{Printed, Put, TextRoom, answer_bytes, field_bytes, line_bytes};

@@ -1,5 +1,7 @@
 // A listing run over the transitions of a table (01: the state that a tree leads to), with a byte for the state of
 // each node. `transitions` is as in crate fields: the part `&table[203..]` of a table, or a scratch.
+#![tactic(auto)]
+
 pub mod stops; // where a tree stops
 
 ghost use Rattle.std.specs.Prelude.{false, [], ◌++◌, ◌≡◌, ◌-◌, ◌≤◌, eqb, get_or, length, replicate, take};

@@ -1,4 +1,6 @@
 // The functions for a C host: each call's answer as a number, and a line of text. No function here has a `requires`.
+#![tactic(auto)]
+
 mod lines; // lines of text
 mod numbers; // the number of an answer
 

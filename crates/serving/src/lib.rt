@@ -1,5 +1,7 @@
 // One line of the bench program: read, its tree handed to the call, and the answer printed into a lent buffer. No line
 // and no table is refused here: any bytes of any length have a text.
+#![tactic(auto)]
+
 ghost use Rattle.std.specs.Prelude.{◌≡◌, length};
 ghost use Rattle.report.specs.Printing.{Printed, line_bytes};
 ghost use Rattle.text.specs.Reader.{read_line};

@@ -1,5 +1,7 @@
 // The distinct subtrees of a listed tree, each with its state. A pass goes through the nodes from the last to the
 // first. The numbers of a node's children are then on top of a stack, and the node's own number takes their place.
+#![tactic(auto)]
+
 ghost use Rattle.std.specs.Prelude.{◌≡◌, List, ◌*◌, ◌+◌, ◌<◌, ◌≤◌, length, take};
 ghost use Rattle.automata.specs.Automaton.{Automaton, run};
 ghost use Rattle.format.specs.Format.{max_arity, max_label, max_nodes};

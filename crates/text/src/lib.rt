@@ -1,5 +1,7 @@
 // Lines of the bench program: a line of text to a command and the listing of its tree. The readers hold a text cursor
 // and step it over every byte that they accept; the column of a malformed line is what the cursor then says.
+#![tactic(auto)]
+
 ghost use Rattle.std.specs.Prelude.{◌≡◌, ◌-◌, ◌*◌, ◌≤◌, length, slice_set};
 ghost use Rattle.std.proofs.lemmas.List.Edits.{sets};
 ghost use Rattle.format.specs.Format.{label_written, listing_bytes, max_label, max_line, node_bytes};

@@ -1,5 +1,7 @@
 // How many trees a table accepts (02, order 2). Numbers of states are found by a search without a contract, and an
 // exact test shows that they are right. If it fails, they are worked out by depth, as the definition does.
+#![tactic(auto)]
+
 mod limited; // sums and products up to 2^64
 mod numbers; // a number for each state
 mod rounds; // the numbers of all states, from those before

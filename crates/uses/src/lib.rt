@@ -2,6 +2,8 @@
 // the given subtrees cover the slot. `transitions` has transition i at byte 12 i, sorted. The arrays of the m
 // subtrees are those of crate subtrees. `weights` has the number of pairs of each state. The uses of a state lie
 // between its entries of `lows` and `lasts`, the parents of the given subtrees between `start` and `end`.
+#![tactic(auto)]
+
 mod spans; // for each state, its first and last use
 mod frames; // frames over a slot, counted
 mod covering; // covered slots

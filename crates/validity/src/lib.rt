@@ -1,5 +1,7 @@
 // Conditions 9 to 11 and 13 of a table, each an equation with its definition. `transitions` holds `count` transitions
 // over the states 1 to n, and stands in a table or in a scratch. `classes` has the class of state q at byte q.
+#![tactic(auto)]
+
 mod marks; // a mark for each state
 mod numbering; // condition 13
 mod reaching; // condition 9
