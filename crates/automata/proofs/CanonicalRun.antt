@@ -9,7 +9,7 @@ use lib.Dec.{eqb}
 use borrow.Author.Tests.{eqb-false, ne_eqb}
 use Rattle.automata.specs.Automaton.{Automaton, accepting, accepts, run, runs, step}
 use Rattle.automata.specs.Canonical.{Canonical, Occurs, Subtree, each_tree, transition_of}
-use Rattle.lists.specs.Tests.{any, same_list}
+use Rattle.lists.specs.Tests.{any}
 use Rattle.trees.specs.Tree.{AllTrees, Forest, Tree, cons, nil, node}
 use Rattle.automata.proofs.Order.{lookup-transition}
 use Rattle.automata.proofs.Renumbered.{Grouping, equivalent-after}

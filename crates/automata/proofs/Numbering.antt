@@ -105,21 +105,21 @@ module _ (Q : List Transition) where
   pub opened-none : Opened-each []
   opened-none k h = absurd (omega arith)
 
+  opened-at : (o : List ℕ) (l : Transition) → Best o Q l → Opened o l.out
+  unfolding Opened
+  opened-at o l b = (l, refl, b)
+
   -- the output of the first ready transition comes next
   pub opened-extend : (o : List ℕ) → Opened-each o → (l : Transition) → Best o Q l → Opened-each (o ++ (l.out ∷ []))
-  unfolding Opened
   opened-extend o inv l b k h = go (ltb k (length o)) refl
     where
-      last : Opened o l.out
-      last = (l, refl, b)
-
       go : (t : Bool) → ltb k (length o) ≡ t →
           Opened (take k (o ++ (l.out ∷ []))) (get_or (o ++ (l.out ∷ [])) k 0)
       go true e = let lt = ltb-true k (length o) e in
           rw (take-append-le k o (l.out ∷ []) (omega arith), get_or-append o (l.out ∷ []) 0 k lt)
           (inv k lt)
       go false e = let eq : k ≡ length o = omega (arith, ltb-false, length-append o (l.out ∷ [])) in
-          rw (eq, take-append_seam o (l.out ∷ []), get_or-append_seam o l.out [] 0) last
+          rw (eq, take-append_seam o (l.out ∷ []), get_or-append_seam o l.out [] 0) (opened-at o l b)
 
   left : List ℕ → ℕ
   left o = length (filter (λ l. not (elem eqb l.out o)) Q)

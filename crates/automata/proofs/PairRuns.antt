@@ -82,6 +82,8 @@ module _ (A B : Automaton) where
     module _ (P : Automaton) (F : Follows P) where
       each-positive : (ps : List ℕ) (ks : List Pair) → EachNumber ps ks → any (eqb 0) ps ≡ false
       each-positive [] [] h = refl
+      each-positive [] (k ∷ ks) h = elim h [ ]
+      each-positive (p ∷ ps) [] h = elim h [ ]
       each-positive (p ∷ ps) (k ∷ ks) h =
           rw (ne_eqb 0 p (λ e. omega (arith, F.positive p k h.0))) (each-positive ps ks h.1)
 

@@ -160,6 +160,8 @@ module _ (A B : Automaton) where
     each_number : (ps : List ℕ) (ks : List Pair) → EachNumber A B Number ps ks →
         AllIn R ks × (ps ≡ map (pair_number R) ks)
     each_number [] [] h = (tt, refl)
+    each_number [] (k ∷ ks) h = elim h [ ]
+    each_number (p ∷ ps) [] h = elim h [ ]
     each_number (p ∷ ps) (k ∷ ks) h = let r = each_number ps ks h.1 in
         ((h.0.0, r.0), cc (h.0.1, r.1))
 

@@ -40,6 +40,8 @@ module _ (A : Automaton) (fit : Fits A) (t : Tree) (δ : ℕ → Pair) (acc : �
   each_number : (ps : List ℕ) (ks : List Pair) → EachNumber A B Number ps ks →
       (every acc ps ≡ true) × (map δ ps ≡ ks)
   each_number [] [] h = (refl, refl)
+  each_number [] (k ∷ ks) h = elim h [ ]
+  each_number (p ∷ ps) [] h = elim h [ ]
   each_number (p ∷ ps) (k ∷ ks) h = let r = each_number ps ks h.1 in
       (and_both h.0.0 r.0, cc (h.0.1, r.1))
 

@@ -85,7 +85,7 @@ runs-to-1 (node a f) (qs, r, inl e) = inl (leaf-of a 1 f qs r e)
 runs-to-1 (node a f) (qs, r, inr (inl e)) = absurd (out-differs e (λ z. omega arith))
 runs-to-1 (node a f) (qs, r, inr (inr (inl e))) = inr (leaf-of a 2 f qs r e)
 runs-to-1 (node a f) (qs, r, inr (inr (inr (inl e)))) = absurd (out-differs e (λ z. omega arith))
-runs-to-1 (node a f) (qs , r , inr (inr (inr (inr (inr x7))))) = elim x7 [ ]
+runs-to-1 (node a f) (qs, r, inr (inr (inr (inr (inr x7))))) = elim x7 [ ]
 runs-to-1 (node a f) (qs, r, inr (inr (inr (inr (inl e))))) = absurd (out-differs e (λ z. omega arith))
 
 runs-to-2 : (t : Tree) → RunsTo two_outputs t 2 → (t ≡ leaf 1) ⊎ (t ≡ leaf 3)
@@ -93,7 +93,7 @@ runs-to-2 (node a f) (qs, r, inl e) = absurd (out-differs e (λ z. omega arith))
 runs-to-2 (node a f) (qs, r, inr (inl e)) = inl (leaf-of a 1 f qs r e)
 runs-to-2 (node a f) (qs, r, inr (inr (inl e))) = absurd (out-differs e (λ z. omega arith))
 runs-to-2 (node a f) (qs, r, inr (inr (inr (inl e)))) = inr (leaf-of a 3 f qs r e)
-runs-to-2 (node a f) (qs , r , inr (inr (inr (inr (inr x7))))) = elim x7 [ ]
+runs-to-2 (node a f) (qs, r, inr (inr (inr (inr (inr x7))))) = elim x7 [ ]
 runs-to-2 (node a f) (qs, r, inr (inr (inr (inr (inl e))))) = absurd (out-differs e (λ z. omega arith))
 
 two-children : (f : Forest) → RunEach two_outputs f (1 ∷ 2 ∷ []) → node 5 f ∈ cross_trees
@@ -113,7 +113,7 @@ runs-to-3 (node a f) (qs, r, inl e) = absurd (out-differs e (λ z. omega arith))
 runs-to-3 (node a f) (qs, r, inr (inl e)) = absurd (out-differs e (λ z. omega arith))
 runs-to-3 (node a f) (qs, r, inr (inr (inl e))) = absurd (out-differs e (λ z. omega arith))
 runs-to-3 (node a f) (qs, r, inr (inr (inr (inl e)))) = absurd (out-differs e (λ z. omega arith))
-runs-to-3 (node a f) (qs , r , inr (inr (inr (inr (inr x7))))) = elim x7 [ ]
+runs-to-3 (node a f) (qs, r, inr (inr (inr (inr (inr x7))))) = elim x7 [ ]
 runs-to-3 (node a f) (qs, r, inr (inr (inr (inr (inl e))))) =
     let l : a ≡ 5 = ap (λ (υ : Transition). υ.label) e in
     let n : qs ≡ 1 ∷ 2 ∷ [] = ap (λ (υ : Transition). υ.args) e in

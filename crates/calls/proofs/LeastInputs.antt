@@ -1,10 +1,9 @@
 -- The rows of specs/LeastInputs hold: a table of an automaton within the limits passes 5 and 7 and holds that automaton,
 -- and what is left computes.
 use mathlib.Core.Bool.{Bool, ◌&&◌, true}
-use mathlib.Core.List.{List, [], ◌++◌, ◌∷◌}
+use mathlib.Core.List.{List, ◌++◌, ◌∷◌}
 use mathlib.Core.Path.{◌∙◌, ◌≡◌, ap, ap₂, refl, subst}
-use Prim.Native.Nat.{◌≤◌, ℕ}
-use native.Mathlib.Omega.{arith}
+use Prim.Native.Nat.{ℕ}
 use lib.Dec.{eqb, leb}
 use lib.ListN.{length, length-replicate, replicate}
 use borrow.Author.Tests.{eq-eqb, leb-true}
@@ -25,7 +24,7 @@ use Rattle.calls.specs.Calls.{Change, accepted_with, ask_answer, ask_refusal, as
 use Rattle.calls.specs.Calls.{change_result, changed, changed_tree, early_conditions, intake_answer, number_conditions}
 use Rattle.calls.specs.Calls.{outcome, presence, rank_answer, ranked, refused_or, scratch_condition, size_conditions}
 use Rattle.calls.specs.Calls.{total_answer, totalled, unrank_refusal, unrank_result, written}
-use Rattle.calls.specs.Calls.{Response, Result, add_result, delete, fits_listing, insert, padded_listing, remove_result}
+use Rattle.calls.specs.Calls.{Response, add_result, delete, fits_listing, insert, padded_listing, remove_result}
 use Rattle.calls.specs.LeastInputs.{AllDo, RowsHold, answered, buffers, contents, early, falling, late, looped, many}
 use Rattle.calls.specs.LeastInputs.{misnumbered, one, one_of_many, sevens, single, tall, twofold, unreached, unused, zeros}
 use Rattle.calls.specs.Series.{Query, Reply, ask, intake, only_answer, perform, query, query_result, rank, replied}

@@ -17,7 +17,7 @@ use Rattle.calls.specs.Calls.{Response, asked, buffer_condition, number_conditio
 use Rattle.calls.specs.Claim.{NumberReports, Numbers, Ranked, Reports, Unranked}
 use Rattle.calls.specs.Series.{only_answer}
 use Rattle.calls.specs.declared.Answer.{Answer}
-use Rattle.calls.specs.declared.Answer.TheVariants.{Approved, NotAt, NotPart, Refused, Serial}
+use Rattle.calls.specs.declared.Answer.TheVariants.{Total, Over, Finished, Done, Accepted, Approved, NotAt, NotPart, Refused, Serial}
 use Rattle.format.specs.Format.{number_limit}
 use Rattle.lists.specs.Conditions.{first_broken}
 use Rattle.table.specs.Intake.{table_refusal}
@@ -88,6 +88,13 @@ module _ (S : Tree → Bool) (A : Automaton) (X : Canonical S A) (bounded : Boun
       other Approved r n = absurd (n refl)
       other NotPart r n = r
       other (NotAt k) r n = r
+      other (Accepted _ _) r n = elim r [ ]
+      other (Done _ _) r n = elim r [ ]
+      other (Total _) r n = elim r [ ]
+      other Over r n = elim r [ ]
+      other (Serial _) r n = elim r [ ]
+      other Finished r n = elim r [ ]
+      other (Refused _) r n = elim r [ ]
 
       go : (x : Bool) → accepts A t ≡ x → (y : Bool) → ltb (total A) number_limit ≡ y →
           NumberReports S A (total A) t (cond x (cond y (Serial (rank A t)) (Refused 18)) (asked A t))
@@ -130,6 +137,36 @@ module _ (S : Tree → Bool) (A : Automaton) (X : Canonical S A) (bounded : Boun
   reports-one n t (Refused j) (NotAt k) p q = absurd (first-stop-none S t k q ([], p.2))
   reports-one n t (Refused j) (Serial k) p q = absurd (omega (arith, q.0, p.1))
   reports-one n t (Refused j) (Refused k) p q = ap Refused (p.0 ∙ sym q.0)
+  reports-one n t Approved b p q = elim p [ ]
+  reports-one n t NotPart Approved p q = elim q [ ]
+  reports-one n t NotPart (Accepted _ _) p q = elim q [ ]
+  reports-one n t NotPart (Done _ _) p q = elim q [ ]
+  reports-one n t NotPart (Total _) p q = elim q [ ]
+  reports-one n t NotPart Over p q = elim q [ ]
+  reports-one n t NotPart Finished p q = elim q [ ]
+  reports-one n t (NotAt j) Approved p q = elim q [ ]
+  reports-one n t (NotAt j) (Accepted _ _) p q = elim q [ ]
+  reports-one n t (NotAt j) (Done _ _) p q = elim q [ ]
+  reports-one n t (NotAt j) (Total _) p q = elim q [ ]
+  reports-one n t (NotAt j) Over p q = elim q [ ]
+  reports-one n t (NotAt j) Finished p q = elim q [ ]
+  reports-one n t (Accepted _ _) b p q = elim p [ ]
+  reports-one n t (Done _ _) b p q = elim p [ ]
+  reports-one n t (Total _) b p q = elim p [ ]
+  reports-one n t Over b p q = elim p [ ]
+  reports-one n t (Serial j) Approved p q = elim q [ ]
+  reports-one n t (Serial j) (Accepted _ _) p q = elim q [ ]
+  reports-one n t (Serial j) (Done _ _) p q = elim q [ ]
+  reports-one n t (Serial j) (Total _) p q = elim q [ ]
+  reports-one n t (Serial j) Over p q = elim q [ ]
+  reports-one n t (Serial j) Finished p q = elim q [ ]
+  reports-one n t Finished b p q = elim p [ ]
+  reports-one n t (Refused j) Approved p q = elim q [ ]
+  reports-one n t (Refused j) (Accepted _ _) p q = elim q [ ]
+  reports-one n t (Refused j) (Done _ _) p q = elim q [ ]
+  reports-one n t (Refused j) (Total _) p q = elim q [ ]
+  reports-one n t (Refused j) Over p q = elim q [ ]
+  reports-one n t (Refused j) Finished p q = elim q [ ]
 
   pub ranked-same : (s : List ℕ) (r q : Response) → Ranked S A s r → Ranked S A s q → r ≡ q
   ranked-same s r q R Q =

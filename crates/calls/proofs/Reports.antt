@@ -14,7 +14,7 @@ use Rattle.calls.specs.Calls.{Response, asked, refused_or}
 use Rattle.calls.specs.Claim.{Reported, Reports}
 use Rattle.calls.specs.Series.{only_answer}
 use Rattle.calls.specs.declared.Answer.{Answer}
-use Rattle.calls.specs.declared.Answer.TheVariants.{Approved, NotAt, NotPart}
+use Rattle.calls.specs.declared.Answer.TheVariants.{Total, Serial, Refused, Over, Finished, Done, Accepted, Approved, NotAt, NotPart}
 use Rattle.trees.specs.Listing.{listing_refusal, read_tree}
 use Rattle.trees.specs.Tree.{Tree}
 use Rattle.automata.proofs.CanonicalRun.{canonical-accepts, run-or-subtree}
@@ -45,6 +45,34 @@ reports-same S t NotPart (NotAt k) p q = absurd (first-stop-none S t k q p.1)
 reports-same S t (NotAt j) Approved p q = absurd (first-stop-none S t j p ([], q))
 reports-same S t (NotAt j) NotPart p q = absurd (first-stop-none S t j p q.1)
 reports-same S t (NotAt j) (NotAt k) p q = ap NotAt (first-stop-same S t j k p q)
+reports-same S t Approved (Accepted _ _) p q = elim q [ ]
+reports-same S t Approved (Done _ _) p q = elim q [ ]
+reports-same S t Approved (Total _) p q = elim q [ ]
+reports-same S t Approved Over p q = elim q [ ]
+reports-same S t Approved (Serial _) p q = elim q [ ]
+reports-same S t Approved Finished p q = elim q [ ]
+reports-same S t Approved (Refused _) p q = elim q [ ]
+reports-same S t NotPart (Accepted _ _) p q = elim q [ ]
+reports-same S t NotPart (Done _ _) p q = elim q [ ]
+reports-same S t NotPart (Total _) p q = elim q [ ]
+reports-same S t NotPart Over p q = elim q [ ]
+reports-same S t NotPart (Serial _) p q = elim q [ ]
+reports-same S t NotPart Finished p q = elim q [ ]
+reports-same S t NotPart (Refused _) p q = elim q [ ]
+reports-same S t (NotAt j) (Accepted _ _) p q = elim q [ ]
+reports-same S t (NotAt j) (Done _ _) p q = elim q [ ]
+reports-same S t (NotAt j) (Total _) p q = elim q [ ]
+reports-same S t (NotAt j) Over p q = elim q [ ]
+reports-same S t (NotAt j) (Serial _) p q = elim q [ ]
+reports-same S t (NotAt j) Finished p q = elim q [ ]
+reports-same S t (NotAt j) (Refused _) p q = elim q [ ]
+reports-same S t (Accepted _ _) b p q = elim p [ ]
+reports-same S t (Done _ _) b p q = elim p [ ]
+reports-same S t (Total _) b p q = elim p [ ]
+reports-same S t Over b p q = elim p [ ]
+reports-same S t (Serial _) b p q = elim p [ ]
+reports-same S t Finished b p q = elim p [ ]
+reports-same S t (Refused _) b p q = elim p [ ]
 
 -- so what ask gives back follows from the set and the bytes
 pub reported-same : (S : Tree → Bool) (s : List ℕ) (r q : Response) → Reported S s r → Reported S s q → r ≡ q

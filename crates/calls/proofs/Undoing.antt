@@ -1,7 +1,7 @@
 -- Order 4, of the calls: tree to number and number to tree undo each other.
 use mathlib.Core.Bool.{Bool, cond, false, true}
-use mathlib.Core.List.{List, [], ◌++◌, ◌∷◌}
-use mathlib.Core.Path.{◌∙◌, ◌≡◌, ap, refl, subst, sym}
+use mathlib.Core.List.{List, ◌++◌, ◌∷◌}
+use mathlib.Core.Path.{◌∙◌, ◌≡◌, ap, refl, sym}
 use Prim.Native.Nat.{◌-◌, ◌<◌, ◌≤◌, ℕ}
 use native.Mathlib.Omega.{arith}
 use lib.Dec.{eqb, ltb}
@@ -11,16 +11,15 @@ use Rattle.automata.specs.Automaton.{Automaton, accepts, run}
 use Rattle.automata.specs.Ranks.{rank, unrank}
 use Rattle.automata.specs.Stops.{stop_place}
 use Rattle.automata.specs.Totals.{total}
-use Rattle.calls.specs.Calls.{Response, ask_refusal, asked, buffer_condition, fits_listing, number_conditions}
+use Rattle.calls.specs.Calls.{ask_refusal, asked, buffer_condition, fits_listing, number_conditions}
 use Rattle.calls.specs.Calls.{padded_listing, rank_answer, ranked, refused_or, unrank_refusal, unrank_result, written}
 use Rattle.calls.specs.declared.Answer.{Answer}
 use Rattle.calls.specs.declared.Answer.TheVariants.{Accepted, Approved, Done, Finished, NotAt, NotPart, Over}
 use Rattle.calls.specs.declared.Answer.TheVariants.{Refused, Serial, Total}
 use Rattle.format.specs.Format.{AllBytes, max_listing, max_nodes, number_limit}
-use Rattle.lists.specs.Conditions.{Condition, first_broken}
+use Rattle.lists.specs.Conditions.{Condition}
 use Rattle.table.specs.Intake.{content_conditions, length_condition, table_refusal}
 use Rattle.table.specs.Layout.{decode}
-use Rattle.trees.specs.Legal.{Legal}
 use Rattle.trees.specs.Listing.{first_listing, listing, listing_conditions, listing_refusal, read_tree}
 use Rattle.trees.specs.Preorder.{preorder}
 use Rattle.trees.specs.Tree.{Tree}

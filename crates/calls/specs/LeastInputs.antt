@@ -1,11 +1,11 @@
 -- The least input that meets each refusal, through the call's own definition, and what the call leaves: rows of one
 -- table. 16 and 17 take thousands of transitions and are met in the differential runs.
-use Rattle.std.specs.Prelude.{Bool, false, true, List, [], ◌++◌, ◌∷◌, map, ◌≡◌, suc, zero, ℕ, replicate}
+use Rattle.std.specs.Prelude.{false, true, List, [], ◌++◌, ◌∷◌, map, ◌≡◌, suc, zero, ℕ, replicate}
 use Rattle.automata.specs.Automaton.{Automaton, Transition}
-use Rattle.automata.specs.Example.{fork, leaf, transition}
-use Rattle.calls.specs.Series.{Call, Reply, add, ask, intake, perform, query, rank, remove, total, unrank}
+use Rattle.automata.specs.Example.{leaf, transition}
+use Rattle.calls.specs.Series.{Call, add, ask, intake, perform, query, rank, remove, total, unrank}
 use Rattle.calls.specs.declared.Answer.{Answer}
-use Rattle.calls.specs.declared.Answer.TheVariants.{Accepted, Approved, Done, Finished, NotAt, NotPart, Over}
+use Rattle.calls.specs.declared.Answer.TheVariants.{Accepted, Approved, Done, Finished, NotAt, Over}
 use Rattle.calls.specs.declared.Answer.TheVariants.{Refused, Serial, Total}
 use Rattle.lists.specs.Positions.{up_from}
 use Rattle.table.specs.Layout.{encode}

@@ -7,14 +7,12 @@ use native.Mathlib.Omega.{arith}
 use lib.Dec.{leb, ltb}
 use lib.ListN.{get_or}
 use borrow.Author.Tests.{eq-eqb, eqb-true, le-leb, le-ltb, leb-false, leb-true, lt-leb, lt-ltb, ltb-false, ltb-true}
-use Rattle.automata.specs.Automaton.{states}
 use Rattle.automata.specs.Valid.{in_range}
 use Rattle.format.specs.Format.{max_arity, max_states, max_transitions, transition_bytes}
 use Rattle.lists.specs.Positions.{up_from}
 use Rattle.lists.specs.Tests.{every}
 use Rattle.table.specs.Layout.{arg_fits, arg_of, arity_of, body, class_fits, label_of, layout_fits, nth_fits, out_of}
 use Rattle.table.specs.Layout.{state_count, transition_count, transition_fits, zero_at}
-use Rattle.trees.specs.Tree.{count}
 use Rattle.automata.proofs.Valid.{in-range, range-in}
 use Rattle.lists.proofs.Intervals.{at_every, every-at}
 use Rattle.lists.proofs.Tests.{and_both, and_left, and_right}

@@ -10,7 +10,7 @@ use lib.ListN.{get_or, length}
 use lib.Seq.{ext_get_or, get_or-drop}
 use borrow.Author.Tests.{eqb-false, eqb-true, leb-false, leb-true, ltb-false, ltb-true}
 use Rattle.lists.specs.Tests.{bit}
-use Rattle.automata.specs.Automaton.{Automaton, Transition, accepting, states}
+use Rattle.automata.specs.Automaton.{Automaton, Transition, accepting}
 use Rattle.format.specs.Format.{AllBytes, args_at, count_at, head_bytes, label_bytes, label_written, max_arity}
 use Rattle.format.specs.Format.{max_states, max_transitions, out_at, table_bytes, transition_bytes}
 use Rattle.lists.specs.Positions.{up_from}
