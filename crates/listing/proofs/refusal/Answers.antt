@@ -1,14 +1,12 @@
 -- `refusal` answers with the first condition that its check finds broken. The five laws are what each `return` knows,
 -- and search finds which of them fits.
-use borrow.Author.Rules.{rules}
 use mathlib.Core.Bool.{Bool, false, not, true}
 use mathlib.Core.List.{List}
 use mathlib.Core.Path.{◌≡◌}
 use Prim.Native.Nat.{ℕ}
 use Rattle.trees.specs.Listing.{all_labelled, all_narrow, listing_conditions, listing_refusal, one_tree, whole_nodes}
 use Rattle.listing.proofs.Checks.{broken, kept}
-use Rattle.listing.proofs.refusal.Statement.{statement}
-use Rattle.listing.proofs.refusal.Tie as tie
+use Rattle.listing.proofs.refusal.Goals as goal
 
 module _ (s : List ℕ) where
   refused-1 : {w : Bool} → w ≡ whole_nodes s → not w ≡ true → ◌≡◌ {A = ℕ} 1 (listing_refusal s)
@@ -37,22 +35,17 @@ module _ (s : List ℕ) where
 
 ruleset answers = (refused-1, refused-2, refused-3, refused-4, not-refused)
 
-returns : tie.Need-returns
+pub returns-then-not-whole_nodes : goal.returns-then-not-whole_nodes
+returns-then-not-whole_nodes c = search answers
+
+pub returns-then-not-all_labelled : goal.returns-then-not-all_labelled
+returns-then-not-all_labelled c = search answers
+
+pub returns-then-not-all_narrow : goal.returns-then-not-all_narrow
+returns-then-not-all_narrow c = search answers
+
+pub returns-then-not-one_tree : goal.returns-then-not-one_tree
+returns-then-not-one_tree c = search answers
+
+pub returns : goal.returns
 returns c = search answers
-
-returns-2 : tie.Need-returns-2
-returns-2 c = search answers
-
-returns-3 : tie.Need-returns-3
-returns-3 c = search answers
-
-returns-4 : tie.Need-returns-4
-returns-4 c = search answers
-
-returns-5 : tie.Need-returns-5
-returns-5 c = search answers
-
-pub refusal-spec : {M : Type 1} → statement M
-refusal-spec =
-    tie.close (tie.spec (λ c κs. search rules) returns (λ c κs. search rules) returns-2 (λ c κs. search rules)
-    returns-3 (λ c κs. search rules) returns-4 returns-5)
