@@ -6,14 +6,13 @@ use native.Mathlib.Omega.{arith}
 use lib.IntN.{ℤ}
 use lib.ListN.{length, length-take, take}
 use Rattle.io.specs.Counts.{clamp_len}
-use Rattle.libc.specs.Io.{Moved}
 use Rattle.console.specs.Buffers.{Buffered, empty_scratch, empty_table, out_bytes, console}
 use Rattle.console.specs.Console.{Console, fed, held_bytes, start, written}
 use Rattle.console.specs.declared.Progress.{Progress}
 use Rattle.console.proofs.Feeding.{fed-append}
 use Rattle.console.proofs.Parts.{fed-written}
 use Rattle.bench.specs.Output.{Idle, Took, begun}
-use Rattle.bench.specs.Turns.{Brings, EachBrings, Met, MetAll, Read, ReadTurn, Turned, brought, chunk_bytes}
+use Rattle.bench.specs.Turns.{Brings, EachBrings, Met, MetAll, Moved, Read, ReadTurn, Turned, brought, chunk_bytes}
 use Rattle.bench.specs.Turns.{input_of}
 use Rattle.bench.specs.declared.output.Turn.{Turn}
 use Rattle.bench.specs.declared.output.Turn.TheVariants.{Ended, Failed, More}

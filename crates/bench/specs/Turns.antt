@@ -1,8 +1,7 @@
 -- What a read and all reads leave. What a read brought stands in the chunk that it left: the first bytes, as many as
 -- the read returned.
-use Rattle.std.specs.Prelude.{List, [], ◌++◌, ◌∷◌, ◌≡◌, ◌<◌, ℕ, ℤ, length, take}
+use Rattle.std.specs.Prelude.{List, [], ◌++◌, ◌∷◌, ◌≡◌, ◌<◌, ◌≤◌, ℕ, ℤ, pos, negsuc, length, take}
 use Rattle.io.specs.Counts.{clamp_len}
-use Rattle.libc.specs.Io.{Moved}
 use Rattle.console.specs.Buffers.{Buffered, ProgressRoom, console}
 use Rattle.console.specs.Console.{Console, fed, start, written}
 use Rattle.console.specs.declared.Progress.{Progress}
@@ -15,6 +14,11 @@ abbrev pub chunk_bytes : ℕ
 chunk_bytes = 65536
 
 -- ---- one read
+
+-- what a read into n bytes returns: the number of bytes that it brought, or -1
+abbrev pub Moved : ℕ → ℤ → Type 0
+Moved n (pos k) = k ≤ n
+Moved n (negsuc k) = k ≡ 0
 
 -- the bytes that a read brought which returned a number and left a chunk: none if it failed
 unfoldable pub brought : ℤ → List ℕ → List ℕ

@@ -5,34 +5,37 @@
 mod output;
 
 ghost use Rattle.std.specs.Prelude.{◌≡◌, length};
-ghost use Rattle.libc.specs.Io.{Moved};
 ghost use Rattle.console.specs.Buffers.{Buffered, empty_scratch, empty_table, out_bytes, console};
 ghost use Rattle.console.specs.Console.{held_bytes};
 ghost use Rattle.bench.specs.Output.{Idle};
-ghost use Rattle.bench.specs.Turns.{MetAll, ReadTurn, Turned, brought, chunk_bytes};
+ghost use Rattle.bench.specs.Turns.{MetAll, Moved, ReadTurn, Turned, brought, chunk_bytes};
 
 use console::{HELD_BYTES, OUT_BYTES, empty_scratch, empty_table};
-use libc::STDIN_FILENO;
-use output::{Turn, Written, begin, finish, take};
+use output::{Streams, Turn, Written, begin, fail, finish, take};
+use std::io::Read;
 
 // A proved loop has to end, and nothing says that an input does. So many reads of 65,536 bytes are more than a run
 // makes, and the lines of fewer than 2^64 bytes can be counted.
 const READS: u64 = 281474976710655;
 
 // One read of standard input. A failure is reported on standard error.
-fn read_chunk(chunk: &mut [u8]) -> isize
+fn read_chunk(streams: Streams, chunk: &mut [u8]) -> isize
     ensures { Moved (length chunk.old) result }
 {
-    let got = libc::read(STDIN_FILENO, chunk);
-    if got < 0 {
-        os::fail(b"read");
+    let mut input = streams.input;
+    match input.read(chunk) {
+        Ok(got) => got as isize,
+        Err(why) => {
+            fail(streams, "read", &why);
+            -1
+        }
     }
-    got
 }
 
 // Takes what a read left in the chunk: `got` is what the read returned. A read that brought nothing or failed ends the
 // input.
 fn take_chunk(
+    streams: Streams,
     w: Written,
     got: isize,
     chunk: &[u8],
@@ -51,11 +54,12 @@ fn take_chunk(
     if n == 0 {
         return Turn::Ended(w);
     }
-    take(w, &chunk[0..n], line, table, scratch, out)
+    take(streams, w, &chunk[0..n], line, table, scratch, out)
 }
 
 // Reads a part of the input and takes it.
 fn read_some(
+    streams: Streams,
     w: Written,
     chunk: &mut [u8],
     line: &mut [u8; HELD_BYTES],
@@ -70,12 +74,13 @@ fn read_some(
         scratch.old out.old) chunk.new result line.new table.new
         scratch.new out.new }
 {
-    let got = read_chunk(chunk);
-    take_chunk(w, got, chunk, line, table, scratch, out)
+    let got = read_chunk(streams, chunk);
+    take_chunk(streams, w, got, chunk, line, table, scratch, out)
 }
 
 // Reads until the input ends.
 fn read_all(
+    streams: Streams,
     chunk: &mut [u8],
     line: &mut [u8; HELD_BYTES],
     table: &mut [u8],
@@ -93,7 +98,7 @@ fn read_all(
     let mut reads = READS;
     while reads > 0 {
         reads -= 1;
-        match read_some(w, chunk, line, table, scratch, out) {
+        match read_some(streams, w, chunk, line, table, scratch, out) {
             Turn::More(next) => w = next,
             Turn::Ended(last) => return Turn::Ended(last),
             Turn::Failed => return Turn::Failed,
@@ -102,14 +107,20 @@ fn read_all(
     Turn::Ended(w)
 }
 
-fn main() {
+fn main(rt: HostRuntime) {
+    let streams = Streams {
+        input: rt.stdin(),
+        output: rt.stdout(),
+        errors: rt.stderr(),
+    };
     let mut table = empty_table();
     let mut scratch = empty_scratch();
     let mut line = [0u8; HELD_BYTES];
     let mut out = io::large_buffer();
     let mut chunk = io::large_buffer();
-    let Turn::Ended(w) = read_all(&mut chunk, &mut line, &mut table, &mut scratch, &mut out) else {
+    let Turn::Ended(w) = read_all(streams, &mut chunk, &mut line, &mut table, &mut scratch, &mut out)
+    else {
         return;
     };
-    finish(w, &line, &mut table, &mut scratch, &mut out);
+    finish(streams, w, &line, &mut table, &mut scratch, &mut out);
 }

@@ -5,16 +5,24 @@ ghost use Rattle.console.specs.Buffers.{Buffered, ProgressRoom, console};
 ghost use Rattle.bench.specs.Output.{Finished, Flushed, HandedAll, Idle, Took, begun};
 
 use console::{HELD_BYTES, OUT_BYTES, Progress, close, feed};
-use libc::STDOUT_FILENO;
+use std::io::{Error, Stderr, Stdin, Stdout, Write};
+
+// The three streams of the program.
+#[derive(Clone, Copy)]
+pub struct Streams {
+    pub input: Stdin,
+    pub output: Stdout,
+    pub errors: Stderr,
+}
 
 // The numbers of a console of which nothing waits to be written.
-#[derive(Drop)]
+#[derive(Clone, Copy)]
 pub struct Written {
     progress: Progress,
 }
 
 // After a part of the input: there may be more input, the input has ended, or nothing can be written any more.
-#[derive(Drop)]
+#[derive(Clone, Copy)]
 pub enum Turn {
     More(Written),
     Ended(Written),
@@ -22,7 +30,7 @@ pub enum Turn {
 }
 
 // How many bytes were handed to the write, or that it failed.
-#[derive(Drop)]
+#[derive(Clone, Copy)]
 pub enum Handed {
     All(usize),
     Failed,
@@ -41,26 +49,37 @@ pub fn begin() -> Written
     }
 }
 
+// Tells on standard error what failed, and why.
+pub fn fail(streams: Streams, what: &str, why: &Error) {
+    let mut errors = streams.errors;
+    match writeln!(errors, "{what}: {why}") {
+        Ok(()) | Err(_) => {}
+    }
+}
+
 // Hands a text to standard output and returns how many bytes it has. It takes `out` so that the contract can say that
 // the text is its start. A failure is reported on standard error.
-fn hand_over(text: &[u8], out: &[u8]) -> Handed
+fn hand_over(streams: Streams, text: &[u8], out: &[u8]) -> Handed
     requires { text.now ≡ take (length text.now) out.now }
     ensures { HandedAll (length text.now) result }
 {
-    if !io::write_all(STDOUT_FILENO, text) {
-        os::fail(b"write");
-        return Handed::Failed;
+    let mut output = streams.output;
+    match output.write_all(text) {
+        Ok(()) => Handed::All(text.len()),
+        Err(why) => {
+            fail(streams, "write", &why);
+            Handed::Failed
+        }
     }
-    Handed::All(text.len())
 }
 
 // Hands over what is printed. What was handed over no longer waits.
-fn flush(p: Progress, out: &[u8]) -> Turn
+fn flush(streams: Streams, p: Progress, out: &[u8]) -> Turn
     requires { p.printed ≤ length out.now }
     ensures { Flushed p result }
 {
     let printed = p.printed;
-    let Handed::All(handed) = hand_over(&out[0..printed], out) else {
+    let Handed::All(handed) = hand_over(streams, &out[0..printed], out) else {
         return Turn::Failed;
     };
     Turn::More(Written {
@@ -74,6 +93,7 @@ fn flush(p: Progress, out: &[u8]) -> Turn
 
 // Takes a part of the input and writes what is printed for it.
 pub fn take(
+    streams: Streams,
     w: Written,
     input: &[u8],
     line: &mut [u8; HELD_BYTES],
@@ -94,7 +114,7 @@ pub fn take(
         let fed = feed(p, &input[at..], line, table, scratch, out);
         let taken = fed.taken;
         let r = fed.progress;
-        let Turn::More(next) = flush(r, out) else {
+        let Turn::More(next) = flush(streams, r, out) else {
             return Turn::Failed;
         };
         q = next;
@@ -105,6 +125,7 @@ pub fn take(
 
 // Ends the input and writes what is printed then.
 pub fn finish(
+    streams: Streams,
     w: Written,
     line: &[u8],
     table: &mut [u8],
@@ -119,5 +140,5 @@ pub fn finish(
     let p = w.progress;
     let printed = close(p, line, table, scratch, out);
     let all = &out[..];
-    hand_over(&all[0..printed], all)
+    hand_over(streams, &all[0..printed], all)
 }
