@@ -1,4 +1,4 @@
-//! Links the static library that `rt staticlib scalebench` wrote.
+//! Links the static library that `tools/prove scalebench` wrote.
 
 fn main() {
     let root = std::env::var("CARGO_MANIFEST_DIR").expect("cargo names the package's folder");

@@ -8,9 +8,7 @@ set -eu
 cd "$(dirname "$0")/.."
 folder=$(mktemp -d)
 trap 'rm -rf "$folder"' EXIT
-cp -R crates crates.txt reference differential "$folder/"
-mkdir "$folder/target"
-cp -R target/rlib "$folder/target/" 2>/dev/null || true
+cp -R crates crates.txt tools reference differential "$folder/"
 
 # spoil FILE OLD NEW: the line OLD of a crate's file becomes NEW
 spoil() {
@@ -28,5 +26,5 @@ spoil numbering/src/sorting.rt '    is_before(heads[i], args[i], heads[j], args[
     '    is_before(heads[j], args[j], heads[i], args[i])'
 spoil numbering/src/givers.rt 'if top_argument(transitions, at) >= out {' 'if top_argument(transitions, at) < out {'
 cd "$folder"
-rt staticlib scalebench >staticlib.log 2>&1 || { cat staticlib.log; exit 1; }
+tools/prove scalebench >staticlib.log 2>&1 || { cat staticlib.log; exit 1; }
 CARGO_TARGET_DIR=$folder/target/cargo cargo run --quiet --release --offline --manifest-path differential/Cargo.toml

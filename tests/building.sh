@@ -20,38 +20,28 @@ equal() {
     fi
 }
 
-mkdir -p "$folder/tree/crates/low" "$folder/tree/tools" "$folder/bin" "$folder/elsewhere"
+mkdir -p "$folder/tree/tools" "$folder/bin" "$folder/elsewhere"
+for crate in low scalebench bench other; do mkdir -p "$folder/tree/crates/$crate/src"; done
 cp bench "$folder/tree/"
 cp tools/prove "$folder/tree/tools/"
 cp -R host include "$folder/tree/"
 cat >"$folder/tree/crates.txt" <<'CRATES'
 # Three of these are needed for the bench program, two for the library.
 low:    # the lowest
-scalebench: low
+scalebench staticlib: low
 bench: scalebench io
 other: low
 CRATES
-echo source >"$folder/tree/crates/low/lib.rt"
+echo source >"$folder/tree/crates/low/src/lib.rt"
 cat >"$folder/bin/rt" <<'PROVER'
 #!/bin/sh
-# The steps that it is asked for are noted in the file `steps`. If there is a file `slow`, each crate takes until it is
-# shown how many are proved.
-echo "$*" >>../steps
-shown() {
-    tries=0
-    while [ -e ../slow ] && ! grep -q ": $1 of " ../elsewhere/err && [ $tries -lt 200 ]; do
-        tries=$((tries + 1))
-        sleep 0.1
-    done
-}
-[ ! -e ../broken ] || { echo 'rt: low NOT PROVED (exit 1, 0 s)'; exit 1; }
-echo 'rt: low proved (1 s)'
-shown 1
-echo 'rt: scalebench proved (unchanged since it was last proved)'
-shown 2
-mkdir -p target/bin target/staticlib
-[ "$2" != bench ] || cp "$REAL/target/bin/bench" target/bin/
-[ "$2" != scalebench ] || cp "$REAL/target/staticlib/libscalebench.a" target/staticlib/
+# The steps that it is asked for are noted in the file `steps`. What they make stands in out/.
+crate=$(basename "$PWD")
+echo "$crate:$*" >>../../../steps
+[ ! -e ../../../broken ] || { echo 'low is NOT PROVED'; exit 1; }
+mkdir -p out
+[ "$crate" != bench ] || cp "$REAL/target/bin/bench" out/
+[ "$crate" != scalebench ] || cp "$REAL/target/staticlib/libscalebench.a" out/
 PROVER
 chmod +x "$folder/bin/rt"
 REAL=$repository
@@ -66,7 +56,7 @@ steps() { # how often the prover ran since the last time
 
 # Without a prover.
 mkdir "$folder/tools"
-for tool in awk cat dirname env find grep head kill mkdir printf readlink rm sed sh sleep tail touch tr; do
+for tool in awk basename cat cp dirname env find grep head mkdir printf readlink rm sed sh tail touch tr wc; do
     found=$(command -v $tool) && case $found in /*) ln -s "$found" "$folder/tools/$tool" ;; esac
 done
 env PATH="$folder/tools" "$tree/bench" </dev/null >out 2>err
@@ -76,26 +66,24 @@ PATH=$folder/bin:$real_path
 # The first run, through a symbolic link.
 ln -s ../tree/bench link
 ln -s "$PWD/link" second
-touch "$folder/slow"
 echo '(ask (1))' | ./second >out 2>err
 equal 'the first run' "$? $(cat out)" '0 1 not 1
 end 1 0 0'
-equal 'how far it is' "$(grep -c 'bench: [12] of 3 crates proved' err)" 2
-equal 'the first run proves' "$(steps)" 'check bench '
-rm "$folder/slow"
+equal 'how far it is' "$(grep -c 'bench: [123] of 3 crates proved' err)" 3
+equal 'the first run proves' "$(steps)" 'low:lib scalebench:lib bench:run '
 "$tree/bench" </dev/null >out 2>err
 equal 'the second run' "$? $(cat out err) $(steps)" '0 end 0 0 0 '
 sleep 0.01
-echo more >>"$tree/crates/low/lib.rt"
+echo more >>"$tree/crates/low/src/lib.rt"
 "$tree/bench" </dev/null >out 2>err
-equal 'after an edit' "$? $(cat out) $(steps)" '0 end 0 0 0 check bench '
+equal 'after an edit' "$? $(cat out) $(steps)" '0 end 0 0 0 low:lib scalebench:lib bench:run '
 "$tree/bench" </dev/null >out 2>err
 equal 'built again' "$(cat out err) $(steps)" 'end 0 0 0 '
 touch "$folder/broken"
 rm -f "$tree/target/bin/bench"
 "$tree/bench" </dev/null >out 2>err
-equal 'a proof that fails' "$? $(cat out) $(grep -c 'NOT PROVED' err) $(steps)" '1  1 check bench '
-equal 'a proof that fails, in words' "$(sed -n 's/; .*//;$p' err)" 'bench: not proved (rt check bench: exit 1)'
+equal 'a proof that fails' "$? $(cat out) $(grep -c 'NOT PROVED' err) $(steps)" '1  1 low:lib '
+equal 'a proof that fails, in words' "$(sed -n 's/; .*//;$p' err)" 'bench: not proved (rt lib in crates/low: exit 1)'
 rm "$folder/broken"
 "$tree/bench" </dev/null >out 2>err
 steps >/dev/null
@@ -116,19 +104,17 @@ if [ -c /dev/full ]; then
 fi
 
 # The library, for the host and by itself.
-touch "$folder/slow"
 "$tree/tools/prove" scalebench 2>err
-equal 'the library' "$? $(grep -c 'scalebench: [12] of 2 crates proved' err) $(steps)" '0 2 staticlib scalebench '
-rm "$folder/slow"
+equal 'the library' "$? $(grep -c 'scalebench: [12] of 2 crates proved' err) $(steps)" '0 2 low:lib scalebench:lib '
 "$tree/host/build" 2>err
 equal 'the host' "$? $(cat err) $(steps)" '0  '
 sleep 0.01
-touch "$tree/crates/low/lib.rt"
+touch "$tree/crates/low/src/lib.rt"
 "$tree/host/build" 2>err
-equal 'the host after an edit' "$? $(steps)" '0 staticlib scalebench '
-rm "$tree/crates/low/lib.rt"
+equal 'the host after an edit' "$? $(steps)" '0 low:lib scalebench:lib '
+rm "$tree/crates/low/src/lib.rt"
 "$tree/host/build" 2>err
-equal 'the host after a source is gone' "$? $(steps)" '0 staticlib scalebench '
+equal 'the host after a source is gone' "$? $(steps)" '0 low:lib scalebench:lib '
 "$tree/target/host/scalebench" --version >out
 equal 'the host runs' $? 0
 "$tree/tools/prove" 2>err
