@@ -1,7 +1,6 @@
 -- What `read_label`, `agreeing` and `clear` return.
-use Rattle.std.proofs.Common.{◌≡◌, ℕ, suc, ◌+◌, ◌-◌, ◌*◌, ◌<◌, ◌≤◌, Bool, true, false, cond, not, eqb, List, [], ◌∷◌, length, get_or, drop, sym, refl, ap, ◌∙◌, add-one, arith, length-drop, drop-cons, take-suc, w16, Fits, eq-eqb, ne_eqb}
+use Rattle.std.proofs.Common.{◌≡◌, ℕ, suc, ◌+◌, ◌-◌, ◌*◌, ◌<◌, ◌≤◌, Bool, true, false, cond, eqb, List, [], ◌∷◌, length, get_or, drop, sym, refl, ap, ◌∙◌, add-one, arith, length-drop, drop-cons, take-suc, w16, Fits, eq-eqb, ne_eqb}
 use lib.ListN.{get_or-eq_default, length-replicate}
-use borrow.Author.Tests.{not-false, not-true}
 use Rattle.format.specs.Format.{listing_bytes}
 use Rattle.text.specs.Clauses.{LabelRead, LabelTo}
 use Rattle.lists.specs.Decimal.{digit}
@@ -21,12 +20,12 @@ label-absent (b ∷ s) h = absurd (omega arith)
 
 -- r is what the test of the first byte returned
 module _ (s : List ℕ) (r : Bool) (e : r ≡ is_digit (get_or s 0 0)) where
-  pub label-other : not r ≡ true → LabelRead s Nothing
+  pub label-other : r ≡ false → LabelRead s Nothing
   unfolding LabelRead
-  label-other n = sym e ∙ not-true r n
+  label-other n = sym e ∙ n
 
-  pub label-first : 1 ≤ length s → not r ≡ false → (a : ℕ) → a ≡ get_or s 0 0 - digit 0 → LabelTo s 1 a
-  label-first h n a v = go s h (sym e ∙ not-false r n) v
+  pub label-first : 1 ≤ length s → r ≡ true → (a : ℕ) → a ≡ get_or s 0 0 - digit 0 → LabelTo s 1 a
+  label-first h n a v = go s h (sym e ∙ n) v
     where
       go : (s : List ℕ) → 1 ≤ length s → is_digit (get_or s 0 0) ≡ true → a ≡ get_or s 0 0 - digit 0 → LabelTo s 1 a
       go [] h d v = absurd (omega arith)
@@ -41,13 +40,13 @@ module _ (s : List ℕ) (r : Bool) (e : r ≡ is_digit (get_or s 0 0)) where
 
 -- r is what the test of byte i returned, after the label a
 module _ (s : List ℕ) (i a : ℕ) (r : Bool) (e : r ≡ extends a (get_or s i 0)) where
-  pub label-stopped : LabelTo s i a → not r ≡ true → LabelRead s (Number a i)
+  pub label-stopped : LabelTo s i a → r ≡ false → LabelRead s (Number a i)
   unfolding LabelRead
-  label-stopped x n = (x, sym e ∙ not-true r n)
+  label-stopped x n = (x, sym e ∙ n)
 
-  module _ (n : not r ≡ false) where
+  module _ (n : r ≡ true) where
     more : Extends a (get_or s i 0)
-    more = extends-true a (get_or s i 0) (sym e ∙ not-false r n)
+    more = extends-true a (get_or s i 0) (sym e ∙ n)
 
     pub tenfold-fits : Fits w16 (10 * a)
     tenfold-fits = omega (arith, more.fits)

@@ -1,6 +1,5 @@
 -- The digits of labels: what may follow a number, and the text of a number with one digit more.
-use Rattle.std.proofs.Common.{◌≡◌, ℕ, ◌+◌, ◌-◌, ◌*◌, ◌/◌, ◌%◌, ◌<◌, ◌≤◌, Bool, true, false, not, ltb, leb, [], ◌∷◌, ◌++◌, sym, ◌∙◌, arith, ltb-true, lt-ltb, le-leb, leb-true}
-use borrow.Author.Tests.{not-false, not-true}
+use Rattle.std.proofs.Common.{◌≡◌, ℕ, ◌+◌, ◌-◌, ◌*◌, ◌/◌, ◌%◌, ◌<◌, ◌≤◌, Bool, true, false, ltb, leb, [], ◌∷◌, ◌++◌, sym, ◌∙◌, arith, ltb-true, lt-ltb, le-leb, leb-true}
 use Rattle.format.specs.Format.{max_label}
 use Rattle.lists.specs.Decimal.{digit}
 use Rattle.text.specs.Grammar.{label_text}
@@ -16,8 +15,8 @@ pub digit-true : (d : ℕ) → d < 10 → is_digit (digit d) ≡ true
 digit-true d h = and_both (le-leb (digit 0) (digit d) (omega arith)) (le-leb (digit d) (digit 9) (omega arith))
 
 -- b is a digit, by what a test of it returned
-pub digit_low : (b : ℕ) (r : Bool) → r ≡ is_digit b → not r ≡ false → digit 0 ≤ b
-digit_low b r e n = (digit-bounds b (sym e ∙ not-false r n)).0
+pub digit_low : (b : ℕ) (r : Bool) → r ≡ is_digit b → r ≡ true → digit 0 ≤ b
+digit_low b r e n = (digit-bounds b (sym e ∙ n)).0
 
 pub record Extends (a b : ℕ) : Type 0 where
   pub low : digit 0 ≤ b
@@ -54,12 +53,12 @@ label-extended a b x =
 
 -- what `extends` returns, by its own tests
 module _ (a b : ℕ) (r : Bool) (e : r ≡ is_digit b) where
-  pub extends-other : not r ≡ true → false ≡ extends a b
-  extends-other n = let d = sym e ∙ not-true r n in rw d
+  pub extends-other : r ≡ false → false ≡ extends a b
+  extends-other n = let d = sym e ∙ n in rw d
 
-  module _ (n : not r ≡ false) where
+  module _ (n : r ≡ true) where
     pub extends-zero : a ≡ 0 → false ≡ extends a b
-    extends-zero z = let d = sym e ∙ not-false r n in rw (d, z)
+    extends-zero z = let d = sym e ∙ n in rw (d, z)
 
     pub extends-small : (a ≡ 0 → ⊥) → (v : ℕ) → v ≡ b - digit 0 → leb (10 * a + v) max_label ≡ extends a b
-    extends-small z v q = let d = sym e ∙ not-false r n in rw (d, lt-ltb 0 a (omega arith), q)
+    extends-small z v q = let d = sym e ∙ n in rw (d, lt-ltb 0 a (omega arith), q)
