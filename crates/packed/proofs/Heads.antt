@@ -9,7 +9,7 @@ use lib.ListN.{get_or-eq_default, get_or, length}
 use lib.Pow.{high}
 use lib.Seq.{get_or-take}
 use Rattle.automata.specs.Automaton.{Transition}
-use Rattle.format.specs.Format.{byte_pairs, byte_values, max_arity, max_label, max_transitions}
+use Rattle.format.specs.Format.{byte_pairs, byte_values, max_arity, max_label}
 use Rattle.lists.specs.Positions.{up_from}
 use Rattle.lists.specs.Tests.{◌∈◌}
 use Rattle.packed.specs.Heads.{HoldsEntries, HoldsPacked, Packs, Room, head_arity, head_label, head_meta, head_of}

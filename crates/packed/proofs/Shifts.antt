@@ -1,7 +1,7 @@
 -- A number of eight digits shifted to the left: the first digits are lost, the others remain.
 use mathlib.Core.Bool.{Bool, ◌&&◌, and_assoc, and-true, false, true}
 use mathlib.Core.Path.{◌∙◌, ◌≡◌, ap, refl, sym}
-use Prim.Native.Nat.{◌%◌, ◌*◌, ◌+◌, ◌-◌, ◌<◌, ◌≤◌, ◌^◌, suc, zero, ℕ}
+use Prim.Native.Nat.{◌%◌, ◌*◌, ◌+◌, ◌-◌, ◌<◌, ◌^◌, suc, zero, ℕ}
 use native.Mathlib.Nat.{add-mul, add-zero, mul_assoc, mul-pos, zero-add, zero-mul}
 use native.Mathlib.Omega.{arith}
 use lib.Dec.{eqb}

@@ -1,5 +1,5 @@
 -- What a search by two numbers returns.
-use Rattle.std.specs.Prelude.{List, ◌∷◌, ◌≡◌, ◌*◌, ◌+◌, ◌-◌, ◌<◌, ◌≤◌, ℕ, get_or, length}
+use Rattle.std.specs.Prelude.{List, ◌≡◌, ◌*◌, ◌+◌, ◌-◌, ◌<◌, ◌≤◌, ℕ, get_or, length}
 use Rattle.automata.specs.Automaton.{Transition}
 use Rattle.automata.specs.Order.{key}
 use Rattle.format.specs.Format.{AllBytes, byte_pairs, max_arity}

@@ -11,7 +11,7 @@ use fields::{arg_of, out_of};
 use format::TRANSITION_BYTES;
 
 // A transition's two numbers with 0 for the argument at a place, and its output.
-#[derive(Drop)]
+#[derive(Clone, Copy)]
 pub struct Slot {
     pub meta: u64,
     pub args: u64,
