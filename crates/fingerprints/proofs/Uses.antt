@@ -17,6 +17,7 @@ FromArgs qs a q z = (z.label ≡ a) × (qs ≡ z.before ++ (q ∷ z.after))
 
 pub places-in : (r l : List ℕ) (a q : ℕ) (z : Slot) → z ∈ places r l a q →
     FromArgs (l ++ r) a q z × (length l ≤ length z.before)
+places-in [] l a q z i = elim i [ ]
 places-in (p ∷ r) l a q z i = go (eqb p q) refl i (λ j. places-in r (l ++ (p ∷ [])) a q z j)
   where
     longer : FromArgs ((l ++ (p ∷ [])) ++ r) a q z × (length (l ++ (p ∷ [])) ≤ length z.before) →
@@ -88,6 +89,7 @@ abbrev pub Used : List Transition → ℕ → Slot → Type 0
 Used τs q z = (τ : Transition) × (τ ∈ τs) × FromArgs τ.args τ.label q z
 
 pub uses-in : (τs : List Transition) (q : ℕ) (z : Slot) → z ∈ uses τs q → Used τs q z
+uses-in [] q z i = elim i [ ]
 uses-in (τ ∷ τs) q z i = go (append-in (places τ.args [] τ.label q) (uses τs q) z i) (λ j. uses-in τs q z j)
   where
     go : (z ∈ places τ.args [] τ.label q) ⊎ (z ∈ uses τs q) → (z ∈ uses τs q → Used τs q z) → Used (τ ∷ τs) q z
@@ -95,6 +97,7 @@ uses-in (τ ∷ τs) q z i = go (append-in (places τ.args [] τ.label q) (uses 
     go (inr j) ih = let (υ, k, f) = ih j in (υ, inr k, f)
 
 pub in-uses : (τs : List Transition) (q : ℕ) (z : Slot) → Used τs q z → z ∈ uses τs q
+in-uses [] q z (υ, i, f) = elim i [ ]
 in-uses (τ ∷ τs) q z (υ, inl e, f) = in_append_left (places τ.args [] τ.label q) (uses τs q) z here
   where
     label : z.label ≡ τ.label
