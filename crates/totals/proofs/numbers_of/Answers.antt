@@ -1,0 +1,19 @@
+use mathlib.Core.Path.{◌∙◌, sym}
+use Rattle.totals.proofs.Depths.{lawful-numbers}
+use Rattle.totals.proofs.numbers_of.Goals as goal
+
+pub settle_all-requires : goal.settle_all-requires
+settle_all-requires c = record {
+  holds_transitions = c.requires.holds_transitions_over.runs;
+  count_le_max_transitions = c.requires.count_le_max_transitions;
+  n_lt_byte_values = c.requires.n_lt_byte_values;
+  numbers_len = c.loop-left.invariant;
+}
+
+pub returns-then-same : goal.returns-then-same
+returns-then-same c =
+    λ cl ac. lawful-numbers cl c.args.transitions.now c.args.n c.args.count c.requires.holds_transitions_over c.requires.n_lt_byte_values c.requires.count_value ac
+    c.round-next.ensures (sym c.same.ensures ∙ c.if-same.true)
+
+pub returns : goal.returns
+returns c = λ cl ac. c.rounds.ensures cl
