@@ -1,0 +1,12 @@
+-- `pairs::weigh` meets its contract: in the loop the entries before `q` are filled in.
+use Prim.Native.Nat.{◌-◌}
+use Rattle.format.specs.Format.{byte_values}
+use Rattle.lists.proofs.Filling.{FilledTo}
+use Rattle.pairs.specs.Counts.{weight_of}
+use Rattle.pairs.proofs.weigh.Given as goal
+
+abbrev pub invariant-loop-q : goal.invariant-loop-q
+invariant-loop-q l = FilledTo byte_values (weight_of l.counts l.marks) l.weights l.q
+
+abbrev pub decreases-loop-q : goal.decreases-loop-q
+decreases-loop-q l = 256 - l.q
