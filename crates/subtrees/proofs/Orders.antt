@@ -29,6 +29,7 @@ collects-append nil g P = refl
 collects-append (cons t f) g P = ap (collect t) (collects-append f g P)
 
 pub in-reverse : {A : Type 0} (xs : List A) (x : A) → x ∈ xs → x ∈ reverse xs
+in-reverse {A = A} [] x m = elim m [ ]
 in-reverse (y ∷ xs) x m = rw (reverse-cons y xs) (go m (λ i. in-reverse xs x i))
   where
     go : x ∈ (y ∷ xs) → (x ∈ xs → x ∈ reverse xs) → x ∈ (reverse xs ++ (y ∷ []))
