@@ -78,6 +78,7 @@ choices-same K K' (q ∷ qs) h =
 pub choices-each : (P : ℕ → Type 0) (K : ℕ → List ℕ) (qs : List ℕ) →
     ((q : ℕ) → q ∈ qs → (x : ℕ) → x ∈ K q → P x) → (xs : List ℕ) → xs ∈ choices K qs →
     (length xs ≡ length qs) × ((k : ℕ) → k < length xs → P (get_or xs k 0))
+choices-each P K [] h xs (inr x3) = elim x3 [ ]
 choices-each P K [] h xs (inl e) =
     subst (λ (l : List ℕ). (length l ≡ 0) × ((k : ℕ) → k < length l → P (get_or l k 0))) (sym e)
     (refl, λ k l. absurd (omega arith))

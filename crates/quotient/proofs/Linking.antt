@@ -1,5 +1,5 @@
 -- The entries that code makes are those of the transitions between names, in order.
-use mathlib.Core.Bool.{Bool, ◌&&◌, cond, false, not, true}
+use mathlib.Core.Bool.{Bool, ◌&&◌, cond, false, true}
 use mathlib.Core.List.{List, [], ◌++◌, ◌∷◌, map, map-append, map-map}
 use mathlib.Core.Path.{◌∙◌, ◌≡◌, ap, ap₂, refl, subst, sym}
 use Prim.Native.Nat.{◌*◌, ◌+◌, ◌-◌, ◌<◌, ◌≤◌, ℕ}

@@ -26,6 +26,7 @@ use Rattle.quotient.proofs.Walking.{chosen-end, chosen-first, chosen_last, chose
 -- a state without a name leaves no choice
 walk_none : (K : ℕ → List ℕ) (n : ℕ) (f : Bool → ℕ → List Pair) (qs : List ℕ) (q : ℕ) → q ∈ qs → K q ≡ [] →
     (own : Bool) (prefix : ℕ) → walk K n f qs own prefix ≡ []
+walk_none K n f [] q x'' z own prefix = elim x'' [ ]
 walk_none K n f (p ∷ qs) q (inl e) z own prefix =
     ap (concat_map (λ x. walk K n f qs (own && ltb n x) (with_name prefix x))) (ap K (sym e) ∙ z)
 walk_none K n f (p ∷ qs) q (inr i) z own prefix =

@@ -9,7 +9,7 @@ use borrow.Author.Tests.{eq-eqb, eqb-false, eqb-true, le-ltb, ne_eqb}
 use lib.Dec.{eqb}
 use lib.ListN.{get_or, get_or-replicate, replicate, set}
 use lib.Seq.{get_or-set_other}
-use Rattle.format.specs.Format.{byte_values, max_arity}
+use Rattle.format.specs.Format.{byte_values}
 use Rattle.lists.specs.Tests.{any}
 use Rattle.marking.specs.Marks.{marked, nonzero}
 use Rattle.packed.specs.Packed.{Padded, digits, meta_at, packed_at}

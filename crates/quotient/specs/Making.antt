@@ -1,8 +1,8 @@
 -- Transitions between names made one after another, as two numbers each: the child count, the label and the output
 -- name in the first, the packed argument names in the second.
-use Rattle.std.specs.Prelude.{Bool, ◌&&◌, cond, true, List, [], ◌++◌, ◌∷◌, map, ◌≡◌, ◌*◌, ◌+◌, ◌-◌, ◌^◌, ◌≤◌, ℕ, eqb, ltb, get_or, length, take}
+use Rattle.std.specs.Prelude.{Bool, ◌&&◌, cond, true, List, [], ◌++◌, ◌∷◌, map, ◌≡◌, ◌*◌, ◌+◌, ◌-◌, ◌≤◌, ℕ, eqb, ltb, get_or, length, take}
 use Rattle.automata.specs.Product.{concat_map, fst, snd}
-use Rattle.format.specs.Format.{byte_values, max_arity, max_transitions, transition_bytes}
+use Rattle.format.specs.Format.{byte_values, max_transitions, transition_bytes}
 use Rattle.lists.specs.Positions.{Pair, up_from}
 use Rattle.packed.specs.Packed.{meta_at, pad_to}
 use Rattle.table.specs.Layout.{arg_of, arity_of, out_of}

@@ -1,0 +1,17 @@
+-- `quotient::kept::is_kept` meets its contract: a name up to n is kept if marked, another if it is a
+-- subtree's own.
+use borrow.Author.Tests.{le-leb, lt-leb}
+use mathlib.Core.Path.{ap}
+use lib.Dec.{eqb}
+use lib.ListN.{get_or}
+use Prim.Native.Nat.{ℕ}
+use Rattle.quotient.proofs.Tallies.{unequal-nonzero}
+use Rattle.quotient.proofs.kept.is_kept.Goals as goal
+
+pub returns-then-x-n : goal.returns-then-x-n
+returns-then-x-n c =
+    rw (le-leb c.args.x c.args.n c.if-x-n.true) (unequal-nonzero (get_or c.args.opens.now c.args.x 0))
+
+pub returns : goal.returns
+returns c =
+    rw (lt-leb c.args.x c.args.n c.if-x-n.false) (ap (λ (y : ℕ). eqb y c.args.x) c.wide.ensures)

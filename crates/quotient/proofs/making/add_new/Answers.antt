@@ -1,0 +1,48 @@
+-- `quotient::making::add_new` meets its contract: a subtree that is new adds an entry.
+use native.Mathlib.Omega.{arith}
+use mathlib.Core.Path.{◌∙◌, ap, sym}
+use mathlib.Core.List.{[], ◌∷◌}
+use Prim.Native.Nat.{◌*◌, ◌+◌, ℕ}
+use lib.ListN.{get_or}
+use Rattle.quotient.proofs.Appending.{appended-none, appended-same, room-same}
+use Rattle.quotient.proofs.Walking.{entry_new, entry-none}
+use Rattle.quotient.proofs.making.add_new.Goals as goal
+
+pub returns-then-not-is_new : goal.returns-then-not-is_new
+returns-then-not-is_new c =
+    appended-same (sym (entry-none c.args.n c.args.arities.now c.args.children.now c.args.states.now c.args.names.now c.args.metas.now c.args.keys.now c.args.j (sym c.is_new.ensures ∙ c.if-not-is_new.true)))
+    appended-none
+
+pub overflow_mul-metas : goal.overflow_mul-metas
+overflow_mul-metas c =
+    omega (
+      arith,
+      c.requires.each_node.each c.args.j c.requires.j_lt_m,
+      c.requires.nodes.label c.args.j c.requires.j_lt_m,
+      c.requires.nodes.narrow c.args.j c.requires.j_lt_m,
+    )
+
+pub overflow_add-metas : goal.overflow_add-metas
+overflow_add-metas c =
+    let index-call = c.index-name in
+    omega (
+      arith,
+      index-call.ensures.upper_bound,
+      c.requires.each_node.each c.args.j c.requires.j_lt_m,
+      c.requires.nodes.label c.args.j c.requires.j_lt_m,
+      c.requires.nodes.narrow c.args.j c.requires.j_lt_m,
+    )
+
+pub push-requires : goal.push-requires
+push-requires c =
+    let is-new-call = c.is_new in
+    let if1 = c.if-not-is_new in
+    room-same c.args.count (entry_new c.args.n c.args.arities.now c.args.children.now c.args.states.now c.args.names.now c.args.metas.now c.args.keys.now c.args.j (sym is-new-call.ensures ∙ if1.false)) c.requires.room
+
+pub returns : goal.returns
+returns c =
+    let is-new-call = c.is_new in
+    let if1 = c.if-not-is_new in
+    let index-call = c.index-name in
+    appended-same (ap (λ (x : ℕ). (256 * get_or c.args.metas.now c.args.j 0 + x, get_or c.args.keys.now c.args.j 0) ∷ [])
+    index-call.ensures.value ∙ sym (entry_new c.args.n c.args.arities.now c.args.children.now c.args.states.now c.args.names.now c.args.metas.now c.args.keys.now c.args.j (sym is-new-call.ensures ∙ if1.false))) c.push.ensures
