@@ -105,6 +105,7 @@ in-snoc o q x i = go (append-in o (q ∷ []) x i)
     go : (x ∈ o) ⊎ (x ∈ (q ∷ [])) → (x ∈ o) ⊎ (x ≡ q)
     go (inl j) = inl j
     go (inr (inl e)) = inr e
+    go (inr (inr x)) = elim x [ ]
 
 module _ {s : List ℕ} {count : ℕ} {order numbers : List ℕ} {k b : ℕ}
     (inv : Ordering s count order numbers k b) where
@@ -150,6 +151,7 @@ module _ {s : List ℕ} {count : ℕ} {order numbers : List ℕ} {k b : ℕ}
         go : (x : ℕ) → x ∈ o → x ∈ (q ∷ []) → ⊥
         go x i (inl e) =
             true≢false (sym (in-elem eqb eqb-true eqb_same q o (subst (λ (y : ℕ). y ∈ o) e i)) ∙ new)
+        go x i (inr j) = elim j [ ]
 
     outputs' : (x : ℕ) → x ∈ (o ++ (q ∷ [])) → x ∈ map output Q
     outputs' x i = go (in-snoc o q x i)
