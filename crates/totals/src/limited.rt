@@ -5,7 +5,7 @@ ghost use Rattle.totals.specs.Limited.{limit, total_of, worth};
 const MAX: u64 = 18446744073709551615;
 
 // A number of trees, or that it is above 18,446,744,073,709,551,615.
-#[derive(Drop)]
+#[derive(Clone, Copy)]
 pub enum Total {
     Number { value: u64 },
     Over,
