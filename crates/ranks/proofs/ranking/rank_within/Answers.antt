@@ -1,0 +1,84 @@
+use native.Mathlib.Omega.{arith}
+use mathlib.Core.Path.{◌∙◌, refl}
+use Rattle.table.specs.Layout.{transitions_in}
+use Rattle.totals.specs.Numbers.{number_in}
+use Rattle.trees.proofs.Suffixes.{passed}
+use Rattle.ranks.proofs.NodePass.{pop-narrow, pop-room, push-room, ranking-end, ranking-next}
+use Rattle.ranks.proofs.NodePass.{ranking-start}
+use Rattle.ranks.proofs.ranking.rank_within.Goals as goal
+
+pub loop-i-init : goal.loop-i-init
+loop-i-init c =
+    ranking-start (transitions_in c.args.transitions.now c.args.count)
+    (number_in c.args.numbers.now)
+    (passed c.args.tree.now c.requires.tree_value) c.args.reached.now refl
+
+pub bounds-reached-i : goal.bounds-reached-i
+bounds-reached-i c =
+    let ok = passed c.args.tree.now c.requires.tree_value in
+    omega (arith, c.loop-i.invariant.left, ok.short, c.loop-i-test.true)
+
+pub sum_before-before-requires : goal.sum_before-before-requires
+sum_before-before-requires c =
+    let ok = passed c.args.tree.now c.requires.tree_value in
+    let more = c.loop-i-test.true in
+    let width = c.wide-arity.ensures
+    ∙ c.children_at.ensures in
+    record {
+      holds_transitions = c.requires.holds_transitions;
+      stack_len = c.loop-i.invariant.stacked;
+      arity_bound = omega (arith, pop-room ok c.loop-i.invariant more, width);
+      arity_le_max_arity = omega (arith, pop-narrow ok c.loop-i.invariant more, width);
+    }
+
+pub product_of_stack-weight-requires : goal.product_of_stack-weight-requires
+product_of_stack-weight-requires c =
+    let ok = passed c.args.tree.now c.requires.tree_value in
+    let more = c.loop-i-test.true in
+    let width = c.wide-arity.ensures
+    ∙ c.children_at.ensures in
+    record {
+      stack_len = c.loop-i.invariant.stacked;
+      from_le_max_nodes = omega (arith, pop-room ok c.loop-i.invariant more, width);
+    }
+
+pub overflow_add-top-in-loop-i : goal.overflow_add-top-in-loop-i
+overflow_add-top-in-loop-i c =
+    let ok = passed c.args.tree.now c.requires.tree_value in
+    let more = c.loop-i-test.true in
+    let width = c.wide-arity.ensures ∙ c.children_at.ensures in
+    omega (arith, pop-room ok c.loop-i.invariant more, width)
+
+pub overflow_sub-top : goal.overflow_sub-top
+overflow_sub-top c =
+    let ok = passed c.args.tree.now c.requires.tree_value in
+    let more = c.loop-i-test.true in
+    let width = c.wide-arity.ensures ∙ c.children_at.ensures in
+    omega (arith, push-room ok c.loop-i.invariant more, width)
+
+pub bounds-stack-top : goal.bounds-stack-top
+bounds-stack-top c =
+    let ok = passed c.args.tree.now c.requires.tree_value in
+    let more = c.loop-i-test.true in
+    let width = c.wide-arity.ensures ∙ c.children_at.ensures in
+    omega (arith, pop-room ok c.loop-i.invariant more, push-room ok c.loop-i.invariant more, width)
+
+pub loop-i-smaller : goal.loop-i-smaller
+loop-i-smaller c =
+    omega (arith, c.loop-i-test.true)
+
+pub loop-i-preserved : goal.loop-i-preserved
+loop-i-preserved c =
+    let ok = passed c.args.tree.now c.requires.tree_value in
+    let more = c.loop-i-test.true in
+    let width = c.wide-arity.ensures ∙ c.children_at.ensures in
+    let label = c.label_at-label.ensures.value in
+    rw width
+    (ranking-next ok c.loop-i.invariant more refl
+    (rw (label, width, c.wide.ensures) at c.sum_before-before.ensures)
+    (rw width at c.product_of_stack-weight.ensures) c.times.ensures c.plus-number.ensures)
+
+pub returns : goal.returns
+returns c =
+    let ok = passed c.args.tree.now c.requires.tree_value in
+    λ A t H. ranking-end ok c.loop-i.invariant (omega arith) A t H

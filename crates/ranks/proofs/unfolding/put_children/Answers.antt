@@ -1,0 +1,31 @@
+use native.Mathlib.Omega.{arith}
+use Rattle.ranks.proofs.Pending.{put-end, put_next, put-start, weight-some}
+use Rattle.ranks.proofs.unfolding.put_children.Goals as goal
+
+pub loop-k-init : goal.loop-k-init
+loop-k-init c =
+    (c.arity_of-arity.ensures, put-start c.requires.states_len c.requires.lefts_len c.ranges.number.fits c.requires.number_bound)
+
+pub divided-mine-requires : goal.divided-mine-requires
+divided-mine-requires c =
+    let more = c.loop-k-test.true in
+    weight-some c.loop-k.invariant.1 (omega (arith, c.loop-k.invariant.0))
+    c.loop-k.invariant.0 c.product_of_args-weight.ensures
+
+pub remainder-others-requires : goal.remainder-others-requires
+remainder-others-requires c =
+    let more = c.loop-k-test.true in
+    weight-some c.loop-k.invariant.1 (omega (arith, c.loop-k.invariant.0))
+    c.loop-k.invariant.0 c.product_of_args-weight.ensures
+
+pub loop-k-preserved : goal.loop-k-preserved
+loop-k-preserved c =
+    let more = c.loop-k-test.true in (
+      c.loop-k.invariant.0,
+      put_next c.loop-k.invariant.1 (omega (arith, c.loop-k.invariant.0))
+          c.loop-k.invariant.0 c.product_of_args-weight.ensures c.requires.at_bound
+          c.arg_of.ensures.value c.divided-mine.ensures c.remainder-others.ensures,
+    )
+
+pub returns : goal.returns
+returns c = put-end c.loop-k.invariant.1 (omega (arith, c.loop-k.invariant.0))
