@@ -18,6 +18,7 @@ function through(a, b,   i) {
     if (match(line, /#.*/)) { job = trim(substr(line, RSTART + 1)); line = substr(line, 1, RSTART - 1) }
     colon = index(line, ":")
     crate = substr(line, 1, colon - 1)
+    sub(/ .*/, "", crate)    # a static library has that word after its name
     number = split(trim(substr(line, colon + 1)), list, " ")
     count++
     name[count] = crate

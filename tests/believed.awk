@@ -19,7 +19,10 @@ function quoted(text, list,   n) {
 # notes that a name of this file stands for a definition
 function alias(name, definition) {
     meaning[file, name] = definition
-    if (name ~ /^_.*_$/) meaning[file, substr(name, 2, length(name) - 2)] = definition
+    if (name ~ /^◌.*◌$/) {
+        gsub(/◌/, "", name)
+        meaning[file, name] = definition
+    }
 }
 
 function begin(name) {
@@ -35,12 +38,11 @@ function add(line) {
     text[current] = text[current] " " line
 }
 
-# a line "use Rattle·crate.specs.File.{a, b as c}"
+# a line "use Rattle.crate.specs.File.{a, b as c}"
 function import(line,   crate, from, names, name, count, part, i, pair) {
-    sub(/^use Rattle·/, "", line)
+    sub(/^use Rattle\./, "", line)
     crate = line
     sub(/\..*/, "", crate)
-    sub(/·specs$/, "", crate)
     sub(/^[^.]*\.specs\./, "", line)
     from = line
     sub(/\.\{.*/, "", from)
@@ -52,7 +54,7 @@ function import(line,   crate, from, names, name, count, part, i, pair) {
         split(part[i], pair, / as /)
         name = pair[2] == "" ? pair[1] : pair[2]
         if (from ~ /^declared\./) {
-            sub(/\.the-variants$/, "", from)
+            sub(/\.TheVariants$/, "", from)
             sub(/^declared\./, "", from)
             alias(name, crate "/lib:" from)
         } else
@@ -97,7 +99,7 @@ FILENAME ~ /\.rt$/ {
     next
 }
 /^ *--/ || /^ *$/ { next }
-/^use Rattle·/ { import($0); next }
+/^use Rattle\./ { import($0); next }
 /^use / || /^ *(module|mutual|infix|infixl|infixr|pub mod) / || /^ *(abbrev |unfoldable )*mutual$/ { next }
 {
     match($0, /^ */)
@@ -143,6 +145,7 @@ function follow(roots, table, theorem,   n, i, j, d, e, w, short, count, total, 
         for (j = 1; j <= count; j++) {
             w = word[j]
             sub(/\.$/, "", w)
+            if (w !~ /^\./) sub(/\..*/, "", w)
             if (w ~ /^\./ || !((home[d], w) in meaning)) continue
             e = meaning[home[d], w]
             short = e
@@ -168,11 +171,11 @@ function follow(roots, table, theorem,   n, i, j, d, e, w, short, count, total, 
 function fail(what) { print "docs/PROMISES.md: " what; failed++ }
 
 END {
-    follow("calls/Claim:Agrees calls/Series:AllBring calls/Series:modelOf calls/Series:emptyModel " \
-        "format/Format:AllBytes calls/Answers:answerNumber calls/Answers:numberAfter", 1, "demand 3")
+    follow("calls/Claim:Agrees calls/Series:AllBring calls/Series:model_of calls/Series:empty_model " \
+        "format/Format:AllBytes calls/Answers:answer_number calls/Answers:number_after", 1, "demand 3")
     follow("console/Machine:machine console/Input:Lines text/Grammar:CommandLine text/Grammar:WellFormed " \
-        "text/Grammar:FirstBad text/Grammar:totalText text/Outcome:parsed text/Outcome:listed " \
-        "scalebench/Typed:lineNumber bench/Output:Took bench/Output:Finished bench/Turns:ReadTurn bench/Turns:MetAll", 3,
+        "text/Grammar:FirstBad text/Grammar:total_text text/Outcome:parsed text/Outcome:listed " \
+        "scalebench/Typed:line_number bench/Output:Took bench/Output:Finished bench/Turns:ReadTurn bench/Turns:MetAll", 3,
         "lines and the bench program")
     exit failed > 0
 }

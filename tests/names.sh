@@ -83,13 +83,14 @@ function quotes(document, x) {
 }
 FILENAME == ARGV[1] { path[$0] = 1; next }
 FILENAME == ARGV[2] { split($0, field, " "); name[field[1]] = 1; defined[field[1], field[2]] = 1; next }
-FILENAME == ARGV[3] { if (match($0, /^[a-z_]+:/)) crate[substr($0, 1, RLENGTH - 1)] = 1; next }
+FILENAME == ARGV[3] { if (match($0, /^[a-z_]+( staticlib)?:/)) { sub(/[ :].*/, ""); crate[$0] = 1 }; next }
 FNR == 1 {
-    split("check ci dev doc fmt goals must-fail prove staticlib", list, " "); for (i in list) command[list[i]] = 1
-    # words of Rattle, antt, the kit and the system, and needs of proofs
-    split("abbrev arith break cc cond cp drop flock getD k let match miss omega p protected_symlinks pub refl return " \
-        "rt rw search unfolding u8 unfoldable where OneOf _ add-i loop-again loop-holds loop-less " \
-        "mark-output-requires returns-2 slice-write-scratch", list, " ")
+    split("check ci doc fmt lib must-fail run tidy version", list, " "); for (i in list) command[list[i]] = 1
+    # words of Rattle, antt, the kit and the system, and goals of proofs
+    split("abbrev arith break c cc cond cp drop flock get_or k let match miss omega p protected_symlinks pub refl return " \
+        "rt rw search unfolding u8 unfoldable where OneOf _ loop-i-init loop-i-preserved " \
+        "mark_output-requires overflow_add-i returns-then-label_at-eq0 Invariants.antt Answers.antt c.args.s.now " \
+        "c.loop-i.invariant c.label_at.ensures.value", list, " ")
     for (i in list) word[list[i]] = 1
 }
 {
