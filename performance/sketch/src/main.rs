@@ -8,6 +8,9 @@ use std::path::{Path, PathBuf};
 /// Words before a clause of a contract, which a name may follow.
 const CLAUSES: [&str; 2] = ["requires", "ensures"];
 
+/// Attributes that only the prover reads, and derives, which each type gets anew.
+const ATTRIBUTES: [&str; 4] = ["#![tactic(", "#[tactic(", "#[cycle(", "#[derive("];
+
 /// The kit's sums that wrap, which Rust has as methods.
 const WRAPPING: &str = "pub fn wrapping_add_u8(a: u8, b: u8) -> u8 { a.wrapping_add(b) }
 pub fn wrapping_add_usize(a: usize, b: usize) -> usize { a.wrapping_add(b) }
@@ -33,10 +36,11 @@ fn word_at(text: &[char], at: usize) -> Option<String> {
     (starts && !after).then(|| text[at..].iter().take_while(|c| part(**c)).collect())
 }
 
-/// The text without comments, imports of ghosts and clauses of contracts.
+/// The text without comments, imports of ghosts, attributes for the prover and clauses of contracts.
 fn bare(text: &str) -> String {
     let lines = text.lines().map(|line| line.split("//").next().unwrap_or(""));
-    let kept = lines.filter(|line| !line.trim_start().starts_with("ghost use"));
+    let left_out = |line: &str| line.starts_with("ghost use") || ATTRIBUTES.iter().any(|start| line.starts_with(start));
+    let kept = lines.filter(|line| !left_out(line.trim_start()));
     let text: Vec<char> = kept.collect::<Vec<&str>>().join("\n").chars().collect();
     let mut out = String::new();
     let mut at = 0;
