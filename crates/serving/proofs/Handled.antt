@@ -1,17 +1,14 @@
 -- What a line's reading makes of it: a command with the listing that the lent bytes start with, or no call at all.
-use mathlib.Core.List.{List, [], ◌∷◌}
+use mathlib.Core.List.{List}
 use mathlib.Core.Path.{◌∙◌, ◌≡◌, ap, ap₂, refl, subst, sym}
 use Prim.Native.Nat.{◌-◌, ◌≤◌, ℕ}
 use native.Mathlib.Omega.{arith}
-use denote.Enum.Declared.{tag_of}
-use types.Run.{OneOf, miss}
 use lib.ListN.{drop, length, length-append, replicate, take}
 use Rattle.format.specs.Format.{listing_bytes}
 use Rattle.calls.specs.Calls.{Result, intake_answer, total_answer}
 use Rattle.calls.specs.declared.Answer.{Answer}
 use Rattle.calls.specs.declared.Answer.TheVariants.{Accepted, Approved, Done, Finished, NotAt, NotPart, Over, Refused}
 use Rattle.calls.specs.declared.Answer.TheVariants.{Serial, Total as Counted}
-use Rattle.calls.specs.contracts.Answer.{the_type}
 use Rattle.report.specs.Printing.{Printed}
 use Rattle.report.specs.Report.{end_text, line_text}
 use Rattle.report.specs.declared.Outcome.{Outcome}
@@ -112,16 +109,12 @@ pub printed-closing : (n : ℕ) (b t x : List ℕ) (r : ℕ) (a : Answer) → a 
 unfolding closing
 printed-closing n b t x r a e f p = subst (λ (y : List ℕ). Printed t y r) (sym f ∙ ap (closing_for n) e) p
 
--- the cases of answers that do not accept a table
-abbrev others : List ℕ
-others = 0 ∷ 1 ∷ 2 ∷ 4 ∷ 5 ∷ 6 ∷ 7 ∷ 8 ∷ 9 ∷ []
-
--- such an answer has no numbers
-pub other-closing : (n : ℕ) (a : Answer) → OneOf others (tag_of the_type a) → closing_for n a ≡ end_text n 0 0
+-- an answer that does not accept a table has no numbers
+pub other-closing : (n : ℕ) (a : Answer) → ((j k : ℕ) → a ≡ Accepted j k → ⊥) → closing_for n a ≡ end_text n 0 0
 other-closing n Approved h = refl
 other-closing n NotPart h = refl
 other-closing n (NotAt k) h = refl
-other-closing n (Accepted j k) h = absurd (miss others 3 tt h)
+other-closing n (Accepted j k) h = absurd (h j k refl)
 other-closing n (Done j k) h = refl
 other-closing n (Counted k) h = refl
 other-closing n Over h = refl
