@@ -1,0 +1,10 @@
+-- `partition::repairing::mated_states` meets its contract: the states before q that share their part are marked.
+use Prim.Native.Nat.{◌+◌, ◌-◌}
+use Rattle.partition.proofs.Filling.{MatedBelow}
+use Rattle.partition.proofs.repairing.mated_states.Given as goal
+
+abbrev pub invariant-loop-q : goal.invariant-loop-q
+invariant-loop-q l = MatedBelow l.parts l.q l.mated
+
+abbrev pub decreases-loop-q : goal.decreases-loop-q
+decreases-loop-q l = l.n + 1 - l.q

@@ -1,0 +1,40 @@
+use mathlib.Core.Path.{◌≡◌}
+use Prim.Native.Nat.{◌*◌}
+use native.Mathlib.Omega.{arith}
+use Rattle.format.specs.Format.{transition_bytes}
+use Rattle.partition.specs.Splits.{Stable}
+use Rattle.table.specs.Layout.{arity_of}
+use Rattle.partition.proofs.Splitting.{split-begin, split-mates, split-next}
+use Rattle.partition.proofs.repairing.repair_line.Goals as goal
+
+pub loop-k-init : goal.loop-k-init
+loop-k-init c = (
+  c.arity_of-arity.ensures,
+  omega arith,
+  split-begin (Stable c.args.transitions.now c.args.n c.args.count c.args.i)
+      c.requires.grouped,
+)
+
+pub repair_at-r-requires : goal.repair_at-r-requires
+repair_at-r-requires c = record {
+  sorted = c.requires.sorted;
+  holds_transitions_over = c.requires.holds_transitions_over;
+  i_lt_count = c.requires.i_lt_count;
+  k_bound = omega (arith, c.loop-k.invariant.0, c.loop-k-test.true);
+  grouped = c.loop-k.invariant.2.grouped;
+  mates = split-mates c.loop-k.invariant.2 c.requires.mates;
+}
+
+pub loop-k-preserved : goal.loop-k-preserved
+loop-k-preserved c = (
+  c.loop-k.invariant.0,
+  omega arith,
+  split-next (Stable c.args.transitions.now c.args.n c.args.count c.args.i)
+      c.loop-k.k c.loop-k.invariant.2 c.repair_at-r.ensures,
+)
+
+pub returns : goal.returns
+returns c =
+    let e : c.loop-k.k ≡ arity_of c.args.transitions.now (transition_bytes * c.args.i) =
+    omega (arith, c.loop-k.invariant.0, c.loop-k.invariant.1, c.loop-k-test.false) in
+    rw e at c.loop-k.invariant.2
