@@ -11,7 +11,7 @@ use lib.ListN.{length}
 use borrow.Author.Tests.{eq-eqb, ne_eqb}
 use Rattle.automata.specs.Accessible.{all_accessible}
 use Rattle.automata.specs.Acyclic.{acyclic}
-use Rattle.automata.specs.Automaton.{Automaton, states}
+use Rattle.automata.specs.Automaton.{Automaton}
 use Rattle.automata.specs.Coaccessible.{all_coaccessible}
 use Rattle.automata.specs.Distinguishable.{all_distinguishable}
 use Rattle.automata.specs.Numbered.{first_open, numbered}
