@@ -83,7 +83,7 @@ module _ {p : ℕ → Bool} {m : ℕ} where
   count_past {s} {n} {i} (suc d) inv f =
       let e : i + 1 + d ≡ i + suc d = omega arith in
       subst (CountFrom s p m n) e
-      (count_past d (count-skip inv (f i (omega arith) (omega arith)))
+      (count_past {i = i + 1} d (count-skip inv (f i (omega arith) (omega arith)))
       (λ x a b. f x (omega arith) (omega arith)))
 
   pub count-end : {s n i : ℕ} → CountFrom s p m n i → m ≤ i → n ≡ s

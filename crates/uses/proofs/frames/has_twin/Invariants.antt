@@ -1,0 +1,13 @@
+-- At h the loop's result is that for the nodes from h on.
+use Prim.Native.Nat.{◌-◌}
+use Rattle.lists.proofs.Loops.{AnyFrom}
+use Rattle.lists.specs.Positions.{up_from}
+use Rattle.lists.specs.Tests.{any}
+use Rattle.uses.specs.Frames.{twin}
+use Rattle.uses.proofs.frames.has_twin.Given as goal
+
+abbrev pub invariant-loop-h : goal.invariant-loop-h
+invariant-loop-h l = AnyFrom (any (twin l.labels l.arities l.children l.j l.k l.i) (up_from 0 l.m)) (twin l.labels l.arities l.children l.j l.k l.i) l.m l.h
+
+abbrev pub decreases-loop-h : goal.decreases-loop-h
+decreases-loop-h l = l.m - l.h

@@ -1,0 +1,24 @@
+-- If the transition of the hint does not agree, the scan does not either.
+use native.Mathlib.Omega.{arith}
+use Prim.Native.Nat.{◌-◌}
+use Rattle.uses.specs.Uses.{arrays}
+use Rattle.uses.proofs.Scanned.{hint-at, hint-none}
+use Rattle.uses.proofs.scanning.hint_agrees.Goals as goal
+
+pub returns-then-number-eq0 : goal.returns-then-number-eq0
+returns-then-number-eq0 c =
+    hint-none (arrays c.args.labels.now c.args.arities.now c.args.children.now c.args.states.now c.args.weights.now c.args.m
+    c.args.j c.args.v) c.args.transitions.now c.args.count c.args.p c.args.q
+
+pub transition_agrees-requires : goal.transition_agrees-requires
+transition_agrees-requires c = record {
+  scannable = c.requires.scannable;
+  i_lt_count = omega (arith, c.requires.uses_within.known c.args.x, c.entry-number.ensures, c.if-number-eq0.false);
+}
+
+pub returns : goal.returns
+returns c =
+    hint-at (arrays c.args.labels.now c.args.arities.now c.args.children.now c.args.states.now c.args.weights.now c.args.m
+    c.args.j c.args.v) c.args.transitions.now c.args.count c.args.p c.args.q (c.entry-number.result - 1)
+    (omega (arith, c.requires.uses_within.known c.args.x, c.entry-number.ensures, c.if-number-eq0.false))
+    c.transition_agrees.ensures

@@ -1,0 +1,26 @@
+-- The frames of one subtree, and its state from the arrays.
+use mathlib.Core.Path.{◌∙◌, ap}
+use Prim.Native.Nat.{ℕ}
+use Rattle.automata.specs.Alike.{frames_of, uses_agree}
+use Rattle.subtrees.specs.Store.{tree_numbered}
+use Rattle.uses.proofs.Both.{first-only, no-parents, state-read}
+use Rattle.uses.proofs.state_uses_agree.Goals as goal
+
+pub uses_agree-requires : goal.uses_agree-requires
+uses_agree-requires c = record {
+  scannable = record {
+    searchable = c.requires.searchable;
+    over = c.requires.holds_transitions_over;
+    nodes = c.requires.nodes;
+    first = c.requires.parents_within;
+    second = no-parents
+        c.requires.nodes c.requires.parents_within;
+  };
+  uses_within = c.requires.uses_within;
+}
+
+pub returns : goal.returns
+returns c =
+    λ A t ts holds. c.uses_agree.ensures A t ts (frames_of t (tree_numbered ts c.args.j)) holds (first-only t ts
+    c.args.m c.args.j c.requires.le_j c.requires.j_le_m) ∙ ap (λ (x : ℕ). uses_agree A t (frames_of t (tree_numbered ts
+    c.args.j)) x c.args.q) (state-read holds c.args.j c.requires.le_j c.requires.j_le_m c.wide.ensures)

@@ -1,0 +1,40 @@
+-- Equal outputs agree; different ones do if the slot is covered.
+use Prim.Native.Nat.{◌*◌}
+use Rattle.format.specs.Format.{transition_bytes}
+use Rattle.fields.proofs.Transitions.{readable}
+use Rattle.uses.specs.Uses.{arrays}
+use Rattle.uses.proofs.Scanned.{swap-covered, swap-same}
+use Rattle.uses.proofs.swapping.swap_agrees.Goals as goal
+
+pub swapped_out-out-requires : goal.swapped_out-out-requires
+swapped_out-out-requires c = record {
+  searchable = c.requires.scannable.searchable;
+  holds_transitions_over = c.requires.scannable.over;
+  i_lt_count = c.requires.i_lt_count;
+  k_bound = c.requires.k_bound;
+  meta_value = c.requires.meta_value;
+  args_value = c.requires.args_value;
+  x_value = c.requires.x_value;
+}
+
+pub returns-then-out-out_of : goal.returns-then-out-out_of
+returns-then-out-out_of c =
+    swap-same (arrays c.args.labels.now c.args.arities.now c.args.children.now c.args.states.now c.args.weights.now c.args.m
+    c.args.j c.args.v) c.args.transitions.now c.args.count (transition_bytes * c.args.i) c.args.k c.args.y
+    c.swapped_out-out.ensures c.out_of.ensures.value c.if-out-out_of.true
+
+pub is_covered-requires : goal.is_covered-requires
+is_covered-requires c = record {
+  readable = readable c.requires.scannable.over.runs c.args.i c.requires.i_lt_count;
+  nodes = c.requires.scannable.nodes;
+  k_bound = c.requires.k_bound;
+  parents_within = c.requires.scannable.first;
+  parents_within_2 = c.requires.scannable.second;
+}
+
+pub returns : goal.returns
+returns c =
+    swap-covered (arrays c.args.labels.now c.args.arities.now c.args.children.now c.args.states.now c.args.weights.now c.args.m
+    c.args.j c.args.v) c.args.transitions.now c.args.count (transition_bytes * c.args.i) c.args.k c.args.y
+    c.swapped_out-out.ensures c.out_of.ensures.value c.if-out-out_of.false
+    c.is_covered.ensures

@@ -1,0 +1,40 @@
+-- The search by the two numbers of the transition with y for x finds what the step gives.
+use native.Mathlib.Omega.{arith}
+use mathlib.Core.Path.{◌∙◌, ap, sym}
+use Prim.Native.Nat.{◌*◌}
+use Rattle.format.specs.Format.{transition_bytes}
+use Rattle.sorted.specs.Steps.{step_at}
+use Rattle.sorted.proofs.Stepping.{step-none}
+use Rattle.uses.proofs.Stepping.{exchange-fits, step-found, step-nothing, exchange-inside}
+use Rattle.uses.proofs.swapping.swapped_out.Goals as goal
+
+pub returns-then-y-eq0 : goal.returns-then-y-eq0
+returns-then-y-eq0 c =
+    step-none c.args.transitions.now c.args.count (transition_bytes * c.args.i) c.args.k
+    ∙ ap (step_at c.args.transitions.now c.args.count (transition_bytes * c.args.i) c.args.k) (sym c.if-y-eq0.true)
+
+pub exchanged-sought-requires : goal.exchanged-sought-requires
+exchanged-sought-requires c =
+    let bytes = c.type_inv.transitions in
+    record {
+      k_lt_max_arity = omega (arith, c.requires.searchable.padded.runs.narrow c.args.i c.requires.i_lt_count, c.requires.k_bound);
+      k_bound = exchange-inside (λ j. omega (arith, bytes j)) c.requires.searchable c.requires.holds_transitions_over c.args.i c.args.k c.requires.i_lt_count
+          c.requires.k_bound c.requires.args_value c.requires.x_value;
+      k_bound_2 = exchange-fits (λ j. omega (arith, bytes j)) c.requires.searchable c.requires.holds_transitions_over c.args.i c.args.k c.requires.i_lt_count
+          c.requires.k_bound c.requires.args_value c.requires.x_value (omega (arith, c.ranges.y));
+    }
+
+pub returns-then-number-eq0 : goal.returns-then-number-eq0
+returns-then-number-eq0 c =
+    step-nothing (λ j. omega (arith, c.type_inv.transitions j)) c.requires.searchable c.requires.holds_transitions_over c.args.i
+    c.args.k c.requires.i_lt_count c.requires.k_bound c.requires.args_value c.requires.x_value
+    (omega (arith, c.ranges.y)) c.if-y-eq0.false c.requires.meta_value
+    c.exchanged-sought.ensures c.seek-number.ensures.by_index c.if-number-eq0.true
+
+pub returns : goal.returns
+returns c =
+    c.out_of.ensures.value ∙ step-found (λ j. omega (arith, c.type_inv.transitions j)) c.requires.searchable c.requires.holds_transitions_over
+    c.args.i c.args.k c.requires.i_lt_count c.requires.k_bound c.requires.args_value c.requires.x_value
+    (omega (arith, c.ranges.y)) c.if-y-eq0.false c.requires.meta_value
+    c.exchanged-sought.ensures c.seek-number.ensures.by_index c.if-number-eq0.false
+    c.seek-number.ensures.upper_bound

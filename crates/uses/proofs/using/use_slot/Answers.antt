@@ -1,0 +1,51 @@
+-- States that are used alike agree on each transition, the one looked at included.
+use native.Mathlib.Omega.{arith}
+use mathlib.Core.Path.{◌∙◌, ap}
+use Prim.Native.Nat.{◌-◌, ℕ}
+use lib.ListN.{get_or}
+use Rattle.automata.specs.Alike.{frames_of, uses_agree}
+use Rattle.subtrees.specs.Store.{tree_numbered}
+use Rattle.uses.proofs.Both.{first-only, no-parents, state-read}
+use Rattle.uses.proofs.Exact.{uses-exact}
+use Rattle.uses.proofs.using.use_slot.Goals as goal
+
+pub returns-then-number-eq0 : goal.returns-then-number-eq0
+returns-then-number-eq0 c = record {
+  place_lt_max_arity = omega (arith, c.no_slot.ensures.place_value);
+  slot_takes = λ A t ts holds some q agree. absurd (omega (
+    arith,
+    c.no_slot.ensures.out_value,
+  ));
+}
+
+pub returns-then-number-count : goal.returns-then-number-count
+returns-then-number-count c = record {
+  place_lt_max_arity = omega (arith, c.no_slot-then-number-count.ensures.place_value);
+  slot_takes = λ A t ts holds some q agree. absurd (omega (
+    arith,
+    c.no_slot-then-number-count.ensures.out_value,
+  ));
+}
+
+pub transition_slot-requires : goal.transition_slot-requires
+transition_slot-requires c = record {
+  scannable = record {
+    searchable = c.requires.searchable;
+    over = c.requires.holds_transitions_over;
+    nodes = c.requires.nodes;
+    first = c.requires.parents_within;
+    second = no-parents
+        c.requires.nodes c.requires.parents_within;
+  };
+  i_lt_count = omega (arith, c.if-number-eq0.false, c.if-number-count.false);
+}
+
+pub returns : goal.returns
+returns c = record {
+  place_lt_max_arity = c.transition_slot.ensures.place;
+  slot_takes = λ A t ts holds some q agree. c.transition_slot.ensures.takes some q (uses-exact c.requires.searchable c.requires.holds_transitions_over holds c.args.j 0
+      (frames_of t (tree_numbered ts c.args.j)) (first-only t ts c.args.m c.args.j c.requires.le_j c.requires.j_le_m) (get_or
+      c.args.states.now (c.wide.result - 1) 0) q ∙ ap (λ (x : ℕ). uses_agree A t
+      (frames_of t (tree_numbered ts c.args.j)) x q) (state-read holds c.args.j c.requires.le_j c.requires.j_le_m
+      c.wide.ensures) ∙ agree);
+}

@@ -1,0 +1,68 @@
+use mathlib.Core.Bool.{false≢true}
+use mathlib.Core.Path.{◌∙◌, ap₂}
+use Prim.Native.Nat.{max, min}
+use native.Mathlib.Omega.{arith}
+use Rattle.uses.specs.Uses.{arrays}
+use Rattle.uses.specs.Walks.{Walkable}
+use Rattle.uses.proofs.walking.walk_agrees.Invariants.{places-none, places-next, walked-before, walked_all}
+use Rattle.uses.proofs.walking.walk_agrees.Goals as goal
+
+pub returns-then-p-eq0 : goal.returns-then-p-eq0
+returns-then-p-eq0 c = λ e. absurd (false≢true e)
+
+pub returns-then-q-eq0 : goal.returns-then-q-eq0
+returns-then-q-eq0 c = λ e. absurd (false≢true e)
+
+pub width-places-requires : goal.width-places-requires
+width-places-requires c =
+    let last = c.greater-to.ensures ∙ ap₂ max c.entry.ensures c.entry-2.ensures in
+    record {
+      searchable = c.requires.scannable.searchable;
+      to_le_count = omega (arith, last, c.requires.uses_within.known c.args.p, c.requires.uses_within.known c.args.q);
+    }
+
+pub loop-k-init : goal.loop-k-init
+loop-k-init c =
+    places-none (arrays c.args.labels.now c.args.arities.now c.args.children.now c.args.states.now c.args.weights.now c.args.m
+    c.args.j c.args.v) c.args.transitions.now c.args.count c.args.p c.args.q c.greater-to.result
+
+pub place_agrees_in_step-requires : goal.place_agrees_in_step-requires
+place_agrees_in_step-requires c =
+    let last = c.greater-to.ensures ∙ ap₂ max c.entry.ensures c.entry-2.ensures in
+    let first = c.lesser.ensures ∙ ap₂ min c.entry-3.ensures c.entry-4.ensures in
+    let k = c.loop-k.k in
+    let w : Walkable c.args.transitions.now c.args.count c.args.n k c.args.p c.args.q c.greater-to.result = record {
+      searchable = c.requires.scannable.searchable;
+      over = c.requires.scannable.over;
+      inside = omega (arith, last, c.requires.uses_within.known c.args.p, c.requires.uses_within.known c.args.q);
+      place = omega (arith, c.width-places.ensures.upper_bound, c.loop-k-test.true);
+      first_some = omega (arith, c.if-p-eq0.false);
+      second-some = omega (arith, c.if-q-eq0.false);
+    } in
+    record {
+      scannable = c.requires.scannable;
+      walkable = w;
+      from_le_to = omega (arith, c.lesser-from.ensures);
+      walked = walked-before c.requires.uses_within (arrays c.args.labels.now c.args.arities.now c.args.children.now c.args.states.now
+          c.args.weights.now c.args.m c.args.j c.args.v) w c.lesser-from.result (omega (arith, c.lesser-from.ensures))
+          (omega (arith, c.lesser-from.ensures, first)) (omega (arith, c.lesser-from.ensures, first));
+    }
+
+pub returns-then-not-place_agrees_in_step : goal.returns-then-not-place_agrees_in_step
+returns-then-not-place_agrees_in_step c = λ e. absurd (false≢true e)
+
+pub loop-k-smaller : goal.loop-k-smaller
+loop-k-smaller c = omega (arith, c.width-places.ensures.upper_bound, c.loop-k-test.true)
+
+pub loop-k-preserved : goal.loop-k-preserved
+loop-k-preserved c =
+    places-next c.loop-k.invariant
+    (c.place_agrees_in_step.ensures c.if-not-place_agrees_in_step.false)
+
+pub returns : goal.returns
+returns c =
+    let last = c.greater-to.ensures ∙ ap₂ max c.entry.ensures c.entry-2.ensures in
+    let past = c.loop-k-test.false in
+    λ _. walked_all c.requires.uses_within (arrays c.args.labels.now c.args.arities.now c.args.children.now c.args.states.now
+    c.args.weights.now c.args.m c.args.j c.args.v) c.args.p c.args.q last (λ i h. c.width-places.ensures.by_index i h)
+    (record { each = λ h l. c.loop-k.invariant.each h (omega arith) })
