@@ -1,16 +1,16 @@
 -- The name that a candidate gives a frame over a subtree, and loops over parents and their places.
-use mathlib.Core.Bool.{Bool, ◌||◌, false, not, true}
+use mathlib.Core.Bool.{Bool, false, true}
 use mathlib.Core.List.{List, map}
 use mathlib.Core.Path.{◌∙◌, ◌≡◌, ap, ap₂, refl, subst, sym}
 use Prim.Native.Nat.{◌+◌, ◌-◌, ◌<◌, ◌≤◌, ℕ}
 use native.Mathlib.Omega.{arith}
 use lib.Dec.{eqb}
-use lib.ListN.{get_or, length, set, take}
+use lib.ListN.{get_or, set, take}
 use lib.Seq.{get_or-set_same, take-set-lt}
 use borrow.Author.Tests.{eq-eqb, eqb-false, eqb-true, ne_eqb}
 use Rattle.automata.specs.Automaton.{Automaton, runs, step}
 use Rattle.automata.specs.ContextRun.{step_frame}
-use Rattle.format.specs.Format.{max_arity, max_nodes}
+use Rattle.format.specs.Format.{max_arity}
 use Rattle.lists.specs.Positions.{up_from}
 use Rattle.lists.specs.Tests.{every}
 use Rattle.subtrees.specs.Frames.{frame_at}
@@ -20,7 +20,7 @@ use Rattle.subtrees.specs.Store.{child_at, child_numbers, tree_numbered, trees_n
 use Rattle.table.specs.Layout.{transitions_in}
 use Rattle.trees.specs.Context.{fill}
 use Rattle.trees.specs.Tree.{Tree, no_tree, node}
-use Rattle.alike.specs.Agreeing.{frame_agrees, name_in, parent_agrees, place_agrees, state_of}
+use Rattle.alike.specs.Agreeing.{name_in, parent_agrees, place_agrees, state_of}
 use Rattle.alike.specs.Known.{Holds, NamedAbove, Shaped}
 use Rattle.lists.proofs.Intervals.{at_every, every-at, length-tabulated}
 use Rattle.lists.proofs.Loops.{EveryFrom}

@@ -9,7 +9,7 @@ use lib.ListN.{get_or, length, length-set, set, take}
 use lib.Seq.{get_or-set_same, get_or-take, length-take-le}
 use borrow.Author.Tests.{eqb-true}
 use Rattle.automata.specs.Alike.{frames_of, like_state, uses_agree}
-use Rattle.automata.specs.Automaton.{Automaton, accepting, run, step}
+use Rattle.automata.specs.Automaton.{Automaton, accepting, run}
 use Rattle.automata.specs.ContextRun.{step_frame}
 use Rattle.format.specs.Format.{byte_pairs, max_arity}
 use Rattle.packed.specs.declared.slots.Slot.{Slot}

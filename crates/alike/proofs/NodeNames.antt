@@ -1,24 +1,24 @@
 -- Nodes over stored trees: eight bytes for the children, their states, and the name of the node.
 use mathlib.Core.Bool.{Bool, false, true}
 use mathlib.Core.List.{List, [], ◌++◌, ◌∷◌, map}
-use mathlib.Core.Path.{◌∙◌, ◌≡◌, ap, ap₂, refl, subst, sym}
+use mathlib.Core.Path.{◌∙◌, ◌≡◌, ap, refl, subst, sym}
 use Prim.Native.Nat.{◌+◌, ◌-◌, ◌<◌, ◌≤◌, suc, zero, ℕ}
 use native.Mathlib.Nat.{zero-add}
 use native.Mathlib.Omega.{arith}
 use lib.Dec.{eqb}
-use lib.ListN.{drop, get_or, length, length-set, length-take, set, take}
-use lib.Seq.{ext_get_or, get_or-set_other, get_or-set_same, get_or-take, length-take-le, take-set-lt}
-use borrow.Author.Tests.{eq-eqb, eqb-false, eqb-true, ne_eqb}
+use lib.ListN.{drop, get_or, length, length-take, set, take}
+use lib.Seq.{ext_get_or, get_or-set_other, get_or-set_same, get_or-take, length-take-le}
+use borrow.Author.Tests.{eq-eqb, eqb-false, eqb-true}
 use Rattle.automata.specs.Automaton.{Automaton, lookup, run, runs, step}
-use Rattle.format.specs.Format.{max_arity, max_nodes}
+use Rattle.format.specs.Format.{max_arity}
 use Rattle.lists.specs.Positions.{up_from}
-use Rattle.lists.specs.Tests.{◌∈◌, any, every}
+use Rattle.lists.specs.Tests.{any, every}
 use Rattle.packed.specs.Seeking.{Places}
 use Rattle.subtrees.specs.Steps.{Children, Filled, First, same_child, same_node}
-use Rattle.subtrees.specs.Store.{Stored, child_at, child_numbers, tree_numbered, trees_numbered}
+use Rattle.subtrees.specs.Store.{Stored, child_at, tree_numbered, trees_numbered}
 use Rattle.trees.specs.Tree.{Tree, no_tree, node}
 use Rattle.alike.specs.Agreeing.{state_of}
-use Rattle.alike.specs.Known.{Holds, NamedAbove, Shaped}
+use Rattle.alike.specs.Known.{Holds, NamedAbove}
 use Rattle.automata.proofs.Frames.{not-subtree}
 use Rattle.lists.proofs.Intervals.{every-at, get_d-in, in-get_d, tabulated}
 use Rattle.lists.proofs.Tests.{and_left, and_right, in-any, none-zero}

@@ -1,0 +1,34 @@
+-- `alike::frames::frame_node` meets its contract: x stands at place k among the other children.
+use lib.ListN.{get_or, set, take}
+use Rattle.subtrees.specs.Store.{trees_numbered}
+use Rattle.trees.specs.Tree.{node}
+use native.Mathlib.Omega.{arith}
+use mathlib.Core.Path.{◌∙◌, ap, sym}
+use Rattle.alike.proofs.FrameNames.{frame-children, frame-filled, put-here}
+use Rattle.alike.proofs.NodeNames.{put-children, widened-children}
+use Rattle.alike.proofs.frames.frame_node.Goals as goal
+
+pub children_of-numbers-requires : goal.children_of-numbers-requires
+children_of-numbers-requires c = record {
+  i_lt_max_nodes = omega (arith, c.requires.shaped.few);
+  arity_le_max_arity = omega (arith, c.wide.ensures, c.requires.shaped.narrow c.args.i (omega arith));
+}
+
+pub bounds-numbers-k : goal.bounds-numbers-k
+bounds-numbers-k c =
+    omega (arith, c.children_of-numbers.ensures.size, c.requires.shaped.narrow c.args.i (omega arith))
+
+pub node_name-requires : goal.node_name-requires
+node_name-requires c = record {
+  searchable = c.requires.searchable;
+  m_le_max_nodes = c.requires.shaped.few;
+  children = widened-children (sym c.wide.ensures) (put-children (frame-children c.args.arities.now c.args.children.now c.args.i c.wide.ensures c.children_of-numbers.ensures c.requires.shaped c.requires.i_lt_m) c.children_of-numbers.ensures.size c.args.k c.args.x (omega (arith, c.wide.ensures)) c.requires.le_x c.requires.x_le_m);
+}
+
+pub returns : goal.returns
+returns c =
+    let narrow = c.requires.shaped.narrow c.args.i c.requires.i_lt_m in
+    λ A t ts N j e holds known above.
+    c.node_name.ensures A t ts N j c.args.k e holds known c.requires.k_bound (omega (arith, put-here c.args.arities.now c.args.children.now c.args.i c.wide.ensures c.children_of-numbers.ensures c.args.k c.args.x (omega arith) (omega arith)))
+    ∙ ap N (ap (λ z. node (get_or c.args.labels.now c.args.i 0) (trees_numbered ts (take z (set c.children_of-numbers.result c.args.k c.args.x)))) (sym c.wide.ensures)
+    ∙ frame-filled c.args.arities.now c.args.children.now c.args.i c.wide.ensures c.children_of-numbers.ensures c.requires.shaped holds c.args.k c.args.x c.requires.i_lt_m c.requires.k_bound)

@@ -1,0 +1,32 @@
+-- `alike::frames::place_agrees` meets its contract: true for another child; else the parent's number is above j, so
+-- its name is known.
+use native.Mathlib.Omega.{arith}
+use mathlib.Core.Path.{◌∙◌, refl, sym}
+use Rattle.alike.proofs.FrameNames.{place_other, place-own}
+use Rattle.alike.proofs.frames.place_agrees.Goals as goal
+
+pub overflow_add-i : goal.overflow_add-i
+overflow_add-i c =
+    omega (arith, c.requires.shaped.few, c.requires.shaped.narrow c.args.i (omega arith))
+
+pub bounds-children-i : goal.bounds-children-i
+bounds-children-i c =
+    omega (arith, c.requires.shaped.few, c.requires.shaped.narrow c.args.i (omega arith))
+
+pub returns-then-wide-a : goal.returns-then-wide-a
+returns-then-wide-a c =
+    λ A t ts N j e holds known above sub. place_other A N ts c.args.labels.now c.args.arities.now c.args.children.now c.args.a c.args.state c.args.x c.args.i c.args.k (λ z. c.if-wide-a.true (c.wide.ensures ∙ z))
+
+pub frame_name-name-requires : goal.frame_name-name-requires
+frame_name-name-requires c = record {
+  searchable = c.requires.searchable;
+  shaped = c.requires.shaped;
+  i_lt_m = c.requires.i_lt_m;
+  k_bound = c.requires.k_bound;
+  candidate = c.requires.candidate;
+}
+
+pub returns : goal.returns
+returns c =
+    λ A t ts N j e holds known above sub. place-own A N ts c.args.labels.now c.args.arities.now c.args.children.now c.args.a c.args.state c.args.x c.args.i c.args.k
+    c.requires.shaped c.requires.i_lt_m c.requires.k_bound known above (sym c.wide.ensures ∙ c.if-wide-a.false) refl (c.frame_name-name.ensures A t ts N j e holds known sub)

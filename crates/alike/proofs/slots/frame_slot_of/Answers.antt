@@ -1,0 +1,13 @@
+use native.Mathlib.Omega.{arith}
+use Rattle.alike.proofs.FrameSlots.{slot-none}
+use Rattle.alike.proofs.slots.frame_slot_of.Goals as goal
+
+pub parent_slot-z-requires : goal.parent_slot-z-requires
+parent_slot-z-requires c = record { shaped = c.requires.shaped; i_lt_m = omega arith }
+
+pub returns-then-z-ne0 : goal.returns-then-z-ne0
+returns-then-z-ne0 c = c.parent_slot-z.ensures
+
+pub returns : goal.returns
+returns c = slot-none c.args.m c.args.j c.args.labels.now c.args.arities.now c.args.children.now c.args.states.now c.args.names.now
+    c.no_slot.result c.no_slot.ensures.place_value c.no_slot.ensures.out_value
