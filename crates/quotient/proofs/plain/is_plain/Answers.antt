@@ -10,6 +10,6 @@ returns-then-arity_of-eq0 c = record { bound = λ t. absurd (false≢true t); at
 
 pub returns : goal.returns
 returns c = record {
-  bound = λ _. omega (arith, c.arity_of.ensures, c.if-arity_of-eq0.false);
+  bound = λ _. omega (arith, c.arity_of.ensures);
   at_value = λ t. sym c.some_marked.ensures ∙ not-true _ t;
 }

@@ -1,5 +1,6 @@
 -- `quotient::plain::unmark` meets its contract: a state without its mark keeps its name and has no other.
 use mathlib.Core.Path.{◌∙◌, sym}
+use native.Mathlib.Omega.{arith}
 use lib.ListN.{length-set}
 use Rattle.quotient.proofs.PlainChoice.{odd-next}
 use Rattle.quotient.proofs.plain.unmark.Goals as goal
@@ -13,6 +14,6 @@ returns c =
         some = c.requires.le_q;
         state = c.requires.q_le_n;
         first = sym index-call.ensures.value ∙ c.if-index-q.false;
-        last = c.if-nexts-q-ne0.false;
+        last = omega arith;
       };
     }
