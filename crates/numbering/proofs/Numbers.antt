@@ -3,7 +3,6 @@ use mathlib.Core.Bool.{Bool, ◌&&◌, false, not, true}
 use mathlib.Core.List.{List, [], ◌++◌, ◌∷◌, map}
 use mathlib.Core.Path.{◌∙◌, ◌≡◌, ap, refl, subst, sym}
 use Prim.Native.Nat.{◌*◌, ◌+◌, ◌<◌, ◌^◌, ◌≤◌, suc, zero, ℕ}
-use native.Mathlib.Nat.{zero-add}
 use native.Mathlib.Numerals.{add-one}
 use native.Mathlib.Omega.{arith}
 use lib.Dec.{eqb}
@@ -11,13 +10,11 @@ use lib.ListN.{get_or, length, length-set, set, take}
 use lib.Seq.{get_or-set_other, get_or-set_same, length-take-le, take-length, take-suc}
 use borrow.Author.Count.{below_more}
 use borrow.Author.Tests.{eqb-false, eqb-true, not-true}
-use Rattle.automata.specs.Automaton.{Transition}
 use Rattle.automata.specs.Renumber.{number_of, renumber_by}
 use Rattle.format.specs.Format.{byte_values, max_arity}
 use Rattle.lists.specs.Closure.{elem}
 use Rattle.lists.specs.Positions.{up_from}
 use Rattle.minimize.specs.Renaming.{name_in, zeros}
-use Rattle.minimize.specs.Numbering.{NumbersOf}
 use Rattle.packed.specs.Packed.{digits, pad_to}
 use Rattle.packed.specs.Heads.{HoldsPacked, Packs, Room, head_arity, head_label, head_meta, head_out}
 use Rattle.packed.specs.Heads.{nth_packed, packed_transition, place_of}

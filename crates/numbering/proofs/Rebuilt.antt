@@ -6,12 +6,11 @@ use mathlib.Core.Path.{◌∙◌, ◌≡◌, ap, ap₂, fun_ext, refl, subst, sy
 use Prim.Native.Nat.{◌%◌, ◌*◌, ◌+◌, ◌-◌, ◌/◌, ◌<◌, ◌≤◌, suc, zero, ℕ}
 use native.Mathlib.Omega.{arith}
 use lib.Dec.{eqb, leb, ltb}
-use lib.ListN.{get_or-eq_default, drop, get_or, length, length-map, take}
+use lib.ListN.{get_or-eq_default, get_or, length, length-map, take}
 use lib.Seq.{get_or-drop, get_or-take, length-take-le}
 use borrow.Author.Tests.{leb-false, leb-true, ltb-false, ltb-true}
-use Rattle.automata.specs.Automaton.{Automaton, Transition, accepting, states}
+use Rattle.automata.specs.Automaton.{Automaton, Transition, accepting}
 use Rattle.automata.specs.Renumber.{number_of, renumber, renumber_by, renumbered}
-use Rattle.automata.specs.RuledOrder.{RuledOrder}
 use Rattle.format.specs.Format.{AllBytes, byte_values, head_bytes, max_states, transition_bytes}
 use Rattle.lists.specs.Closure.{elem}
 use Rattle.lists.specs.Positions.{up_from}
@@ -19,7 +18,7 @@ use Rattle.lists.specs.Tests.{◌∈◌, bit, every}
 use Rattle.minimize.specs.Renaming.{name_in}
 use Rattle.minimize.specs.Written.{TableWritten, class_byte}
 use Rattle.sorted.specs.Sorted.{SameBytes}
-use Rattle.table.specs.Layout.{arg_of, arity_of, blank, body, body_byte, class_at, encode, transition_at, transition_byte}
+use Rattle.table.specs.Layout.{arg_of, blank, body, body_byte, class_at, encode, transition_at, transition_byte}
 use Rattle.packed.specs.Heads.{HoldsPacked, head_arity, head_out, nth_packed, packed_in, packed_transition, place_of}
 use Rattle.numbering.specs.Picked.{Picked}
 use Rattle.numbering.specs.Steps.{Numbered, Renumbered, Settled, Sound}

@@ -1,13 +1,11 @@
 -- What the steps from names to a table leave: numbers for names, transitions with numbers, and the result of the
 -- check.
-use Rattle.std.specs.Prelude.{List, map, Bool, true, ◌≡◌, ◌+◌, ◌<◌, ◌≤◌, suc, ℕ, get_or, length, take}
-use Rattle.automata.specs.Automaton.{Transition}
+use Rattle.std.specs.Prelude.{List, Bool, true, ◌≡◌, ◌+◌, ◌<◌, ◌≤◌, suc, ℕ, get_or, length, take}
 use Rattle.automata.specs.Numbered.{Passed, first_open}
 use Rattle.automata.specs.Order.{rising}
 use Rattle.automata.specs.Renumber.{renumber_by}
 use Rattle.automata.specs.RuledOrder.{RuledOrder}
 use Rattle.format.specs.Format.{byte_values}
-use Rattle.lists.specs.Tests.{◌∈◌}
 use Rattle.marking.specs.Marks.{marked}
 use Rattle.minimize.specs.Renaming.{name_in}
 use Rattle.minimize.specs.Numbering.{NumbersOf}

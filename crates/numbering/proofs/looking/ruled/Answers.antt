@@ -1,0 +1,77 @@
+use mathlib.Core.Bool.{false≢true}
+use borrow.Author.Tests.{eqb-true}
+use native.Mathlib.Omega.{arith}
+use mathlib.Core.Path.{◌≡◌, subst}
+use lib.ListN.{length-replicate}
+use Prim.Native.Nat.{ℕ}
+use Rattle.automata.specs.Numbered.{Passed}
+use Rattle.format.specs.Format.{byte_values}
+use Rattle.marking.specs.Marks.{marked}
+use Rattle.packed.specs.Heads.{packed_in}
+use Rattle.validity.proofs.Passing.{spans-none}
+use Rattle.numbering.proofs.Passes.{pass_below, pass-end, pass-start}
+use Rattle.numbering.proofs.looking.ruled.Goals as goal
+
+pub loop-i-init : goal.loop-i-init
+loop-i-init c = (
+  omega arith,
+  omega arith,
+  length-replicate {A = ℕ} byte_values 0,
+  pass-start c.args.heads.now
+      c.args.args.now,
+  spans-none,
+  λ q a b. absurd (omega arith),
+)
+
+pub loop-i-preserved-then-out_of-low : goal.loop-i-preserved-then-out_of-low
+loop-i-preserved-then-out_of-low c = (
+  omega arith,
+  c.loop-i.invariant.1,
+  c.loop-i.invariant.2,
+  pass_below c.args.heads.now
+      c.args.args.now c.loop-i.i c.loop-i.seen c.loop-i.invariant.3 c.loop-i.low
+      c.loop-i.invariant.5 (omega (arith, c.out_of.ensures.value)),
+  c.loop-i.invariant.4,
+  c.loop-i.invariant.5,
+)
+
+pub read-requires : goal.read-requires
+read-requires c = record {
+  holds_packed = c.requires.holds_packed;
+  i_lt_count = omega arith;
+  seen_len = c.loop-i.invariant.2;
+  passed = c.loop-i.invariant.3;
+  spans = c.loop-i.invariant.4;
+}
+
+pub returns-then-not-read : goal.returns-then-not-read
+returns-then-not-read c = λ e. absurd (false≢true e)
+
+pub seen_up_to-low-requires : goal.seen_up_to-low-requires
+seen_up_to-low-requires c = record {
+  low_le_states = c.loop-i.invariant.1;
+  states_le_max_states = c.requires.states_le_max_states;
+  all_seen = λ q a b. c.read.ensures.kept q (c.loop-i.invariant.5
+      q a b);
+}
+
+pub loop-i-preserved : goal.loop-i-preserved
+loop-i-preserved c = (
+  omega arith,
+  c.seen_up_to-low.ensures.upper_bound,
+  c.read.ensures.size,
+  c.read.ensures.passed c.if-not-read.false,
+  c.read.ensures.spans,
+  c.seen_up_to-low.ensures.all_seen_2,
+)
+
+pub returns : goal.returns
+returns c =
+    λ e. let d : c.loop-i.i ≡ c.args.count = omega (arith, c.loop-i.invariant.0) in pass-end
+    c.args.heads.now c.args.args.now c.args.count c.loop-i.seen (subst (λ (n : ℕ).
+    Passed (packed_in c.args.heads.now c.args.args.now n) (marked c.loop-i.seen)) d
+    c.loop-i.invariant.3) c.args.states (λ q a b. c.loop-i.invariant.5 q a (omega (
+      arith,
+      eqb-true
+          c.loop-i.low c.args.states e,
+    )))

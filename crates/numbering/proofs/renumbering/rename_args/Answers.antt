@@ -1,0 +1,56 @@
+use mathlib.Core.Path.{◌∙◌, ◌≡◌, ap, sym}
+use native.Mathlib.Omega.{arith}
+use Rattle.format.specs.Format.{max_arity}
+use Rattle.packed.specs.Packed.{pad_to}
+use Rattle.packed.proofs.Zeros.{digits-room, pad-digits}
+use Rattle.numbering.specs.Numbers.{number_at}
+use Rattle.numbering.proofs.Numbers.{renamed-end, renamed-next, renamed-start}
+use Rattle.numbering.proofs.renumbering.rename_args.Goals as goal
+
+-- with eight arguments there is no place left to pad
+pub returns-then-arity-eq-MAX_ARITY : goal.returns-then-arity-eq-MAX_ARITY
+returns-then-arity-eq-MAX_ARITY c =
+    let all : c.args.arity ≡ max_arity = omega (arith, c.if-arity-eq-MAX_ARITY.true) in
+    record {
+      bound = λ whole k l. c.rename_all.ensures.bound whole k (omega arith);
+      args_value = c.rename_all.ensures.args_value ∙ sym (pad-digits (number_at c.args.numbers.now c.args.args) c.args.arity (omega arith)
+          (λ k l m. absurd (omega arith)));
+    }
+
+pub loop-k-init : goal.loop-k-init
+loop-k-init c =
+    renamed-start c.args.numbers.now c.args.args c.args.arity
+
+pub with_number-next-requires : goal.with_number-next-requires
+with_number-next-requires c =
+    let l = c.loop-k in
+    let more = c.loop-k-test.true in
+    record {
+      k_lt_max_arity = omega arith;
+      v_bound = digits-room l.k l.v (omega arith) l.invariant.below;
+    }
+
+pub overflow_mul-whole : goal.overflow_mul-whole
+overflow_mul-whole c =
+    let l = c.loop-k in
+    let more = c.loop-k-test.true in
+    omega (arith, digits-room l.k l.v (omega arith) l.invariant.below)
+
+pub loop-k-preserved : goal.loop-k-preserved
+loop-k-preserved c =
+    renamed-next c.loop-k.invariant c.loop-k-test.true c.with_number-next.ensures.value
+    c.with_number-next.ensures.upper_bound
+
+pub padded-renamed-requires : goal.padded-renamed-requires
+padded-renamed-requires c = record {
+  arity_le_max_arity = c.requires;
+  prefix_bound = (renamed-end c.loop-k.invariant (omega (arith, c.loop-k-test.false))).below;
+}
+
+pub returns : goal.returns
+returns c =
+    let end = renamed-end c.loop-k.invariant (omega (arith, c.loop-k-test.false)) in
+    record {
+      bound = end.has;
+      args_value = c.padded-renamed.ensures ∙ ap (pad_to c.args.arity) end.packed;
+    }
