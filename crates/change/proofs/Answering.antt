@@ -3,11 +3,11 @@ use mathlib.Core.Bool.{Bool, ◌||◌, cond, false, true}
 use mathlib.Core.List.{List}
 use mathlib.Core.Logic.{◌⊎◌, inl, inr}
 use mathlib.Core.Path.{◌∙◌, ◌≡◌, ap, ap₂, refl, subst, sym}
-use Prim.Native.Nat.{◌<◌, ◌≤◌, ℕ}
+use Prim.Native.Nat.{◌≤◌, ℕ}
 use native.Mathlib.Omega.{arith}
 use lib.Dec.{eqb, leb}
 use lib.ListN.{length, replicate}
-use borrow.Author.Tests.{eq-eqb, le-leb, leb-false, leb-true, lt-leb}
+use borrow.Author.Tests.{eq-eqb, le-leb}
 use Rattle.automata.specs.Automaton.{Automaton}
 use Rattle.automata.specs.Change.{product_transitions}
 use Rattle.automata.specs.NamedChange.{changed_automaton}

@@ -3,16 +3,15 @@ use Rattle.subtrees.specs.Store.{Subtrees}
 use mathlib.Core.Bool.{Bool, false, true}
 use mathlib.Core.List.{List}
 use mathlib.Core.Path.{◌∙◌, ◌≡◌, ap, refl, sym}
-use Prim.Native.Nat.{◌*◌, ◌+◌, ◌-◌, ◌≤◌, ℕ}
+use Prim.Native.Nat.{◌+◌, ◌-◌, ◌≤◌, ℕ}
 use native.Mathlib.Omega.{arith}
 use lib.Dec.{ltb}
 use lib.ListN.{get_or-eq_default, get_or}
 use lib.Seq.{get_or-drop}
 use borrow.Author.Tests.{ltb-false, ltb-true}
 use Rattle.change.specs.Given.{Given}
-use Rattle.format.specs.Format.{head_bytes, max_transitions, table_bytes, transition_bytes}
+use Rattle.format.specs.Format.{head_bytes, max_transitions, table_bytes}
 use Rattle.numbering.specs.Tables.{BlankAfter}
-use Rattle.table.specs.Layout.{body, transition_count}
 use Rattle.trees.specs.Tree.{Tree}
 use Rattle.change.proofs.Inputs.{given-layout, given-size}
 use Rattle.table.proofs.Laid.{Laid, layout-laid}

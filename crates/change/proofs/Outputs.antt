@@ -4,7 +4,7 @@ use mathlib.Core.List.{List, [], ◌∷◌, map}
 use mathlib.Core.Logic.{inl, inr}
 use mathlib.Core.Path.{◌∙◌, ◌≡◌, ap, sym}
 use Prim.Native.Nat.{ℕ}
-use Rattle.automata.specs.Automaton.{Automaton, Transition}
+use Rattle.automata.specs.Automaton.{Transition}
 use Rattle.automata.specs.Renumber.{numbering, renumber, renumbered, sort}
 use Rattle.lists.specs.Tests.{◌∈◌}
 use Rattle.automata.proofs.Numbering.{Opened, numbering-opened}

@@ -2,7 +2,7 @@
 use mathlib.Core.Bool.{Bool}
 use mathlib.Core.List.{List, map}
 use mathlib.Core.Logic.{◌⊎◌, inl, inr}
-use mathlib.Core.Path.{◌∙◌, ◌≡◌, ap, sym}
+use mathlib.Core.Path.{◌∙◌, ◌≡◌}
 use Prim.Native.Nat.{◌+◌, ◌≤◌, ℕ}
 use native.Mathlib.Omega.{arith}
 use lib.ListN.{length}
@@ -11,7 +11,7 @@ use Rattle.automata.specs.NamedChange.{OverNames, changed_automaton, changed_set
 use Rattle.automata.specs.OpenStates.{open_state}
 use Rattle.automata.specs.Quotient.{has_own, own_name, quotient_list}
 use Rattle.automata.specs.Renumber.{renumbered}
-use Rattle.change.specs.Given.{Fitting, Given, Named}
+use Rattle.change.specs.Given.{Fitting, Named}
 use Rattle.lists.specs.Positions.{up_from}
 use Rattle.lists.specs.Tests.{◌∈◌, filter}
 use Rattle.naming.specs.Choice.{name_in}

@@ -12,21 +12,19 @@ use Rattle.automata.specs.Automaton.{Transition}
 use Rattle.automata.specs.NamedChange.{OverNames}
 use Rattle.change.specs.Between.{Packed, Run, between_names}
 use Rattle.change.specs.Given.{Named}
-use Rattle.fields.specs.Fields.{HoldsTransitionsOver}
 use Rattle.format.specs.Format.{byte_values, max_arity, scratch_bytes, transition_bytes}
 use Rattle.lists.specs.Positions.{up_from}
 use Rattle.lists.specs.Tests.{◌∈◌}
-use Rattle.packed.specs.Heads.{HoldsPacked, Packs, head_arity, head_out, nth_packed, packed_in, packed_transition}
+use Rattle.packed.specs.Heads.{HoldsPacked, head_arity, head_out, nth_packed, packed_in, packed_transition}
 use Rattle.packed.specs.Heads.{place_of}
 use Rattle.naming.specs.Choice.{name_in}
 use Rattle.numbering.specs.Tables.{EntryAt, RunPut}
 use Rattle.subtrees.specs.Store.{Subtrees, bottom_up}
-use Rattle.table.specs.Layout.{arg_of, arity_of, decode, nth_transition, out_of, transition_at, transitions_in}
+use Rattle.table.specs.Layout.{arg_of, decode, nth_transition, transition_at, transitions_in}
 use Rattle.trees.specs.Tree.{Tree}
 use Rattle.change.proofs.Inputs.{given-few}
 use Rattle.change.proofs.Results.{named-legal, named-over, used-bounded}
 use Rattle.packed.proofs.Heads.{Fitting}
-use Rattle.packed.proofs.Order.{Packable}
 use Rattle.lists.proofs.Intervals.{get_d-in, get_d-tabulated, in-tabulated, length-tabulated, tabulated}
 
 -- two functions that agree on an interval

@@ -8,7 +8,6 @@ use native.Mathlib.Omega.{arith}
 use lib.Dec.{eqb}
 use lib.ListN.{get_or, length}
 use Rattle.automata.specs.Automaton.{Automaton, run}
-use Rattle.automata.specs.Change.{subtrees}
 use Rattle.automata.specs.OpenStates.{at_state, subtrees_at}
 use Rattle.lists.specs.Positions.{up_from}
 use Rattle.lists.specs.Tests.{◌∈◌, bit, filter}

@@ -1,9 +1,8 @@
 -- The transitions between names after a change, as two lists of numbers and as bytes.
-use Rattle.std.specs.Prelude.{List, ◌≡◌, ◌≤◌, ℕ}
+use Rattle.std.specs.Prelude.{List, ◌≡◌, ℕ}
 use Rattle.automata.specs.Automaton.{Transition}
 use Rattle.automata.specs.Quotient.{quotient_list}
 use Rattle.fields.specs.Fields.{HoldsTransitionsOver}
-use Rattle.format.specs.Format.{max_transitions}
 use Rattle.naming.specs.Choice.{name_in}
 use Rattle.packed.specs.Heads.{HoldsPacked, packed_in}
 use Rattle.subtrees.specs.Store.{bottom_up}

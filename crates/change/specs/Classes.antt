@@ -1,5 +1,5 @@
 -- The classes that names have after a change, by number: 1 to n are states, n + j is subtree j.
-use Rattle.std.specs.Prelude.{Bool, cond, List, ◌≡◌, ◌+◌, ◌≤◌, ℕ, eqb, length}
+use Rattle.std.specs.Prelude.{Bool, cond, List, ◌≡◌, ◌≤◌, ℕ, eqb, length}
 use Rattle.naming.specs.Classes.{class_in}
 use Rattle.quotient.specs.Kept.{state_of}
 use Rattle.table.specs.Layout.{class_at}
