@@ -118,8 +118,14 @@ fn main(rt: HostRuntime) {
     let mut line = [0u8; HELD_BYTES];
     let mut out = io::large_buffer();
     let mut chunk = io::large_buffer();
-    let Turn::Ended(w) = read_all(streams, &mut chunk, &mut line, &mut table, &mut scratch, &mut out)
-    else {
+    let Turn::Ended(w) = read_all(
+        streams,
+        &mut chunk,
+        &mut line,
+        &mut table,
+        &mut scratch,
+        &mut out,
+    ) else {
         return;
     };
     finish(streams, w, &line, &mut table, &mut scratch, &mut out);
