@@ -2,22 +2,20 @@
 -- like no state and not like 0, because every step gives a state or 0. If a parent's own name is unshared, the
 -- subtree is like no greater subtree, because in the parent's frame that subtree would make another tree with the
 -- parent's name.
-use mathlib.Core.Bool.{Bool, beq, ◌&&◌, false, true, true≢false}
+use mathlib.Core.Bool.{Bool, beq, ◌&&◌, false, true}
 use mathlib.Core.List.{List, ◌++◌, ◌∷◌}
-use mathlib.Core.Logic.{◌≢◌}
-use mathlib.Core.Path.{◌∙◌, ◌≡◌, ap, refl, subst, sym}
+use mathlib.Core.Path.{◌∙◌, ◌≡◌, ap, refl, sym}
 use Prim.Native.Nat.{◌+◌, ◌-◌, ◌<◌, ◌≤◌, ℕ}
 use native.Mathlib.Omega.{arith}
 use lib.Dec.{eqb, ltb}
 use lib.ListN.{get_or}
 use borrow.Author.Tests.{eqb-false, eqb-true, ltb-true}
 use Rattle.automata.specs.Alike.{frames_of, like_state, like_subtree}
-use Rattle.automata.specs.Automaton.{Automaton, Fits, run, runs, states}
-use Rattle.automata.specs.Change.{subtrees}
+use Rattle.automata.specs.Automaton.{Automaton, Fits, runs, states}
 use Rattle.automata.specs.ContextRun.{step_frame}
 use Rattle.automata.specs.Names.{is_subtree}
 use Rattle.lists.specs.Positions.{up_from}
-use Rattle.lists.specs.Tests.{◌∈◌, any, every}
+use Rattle.lists.specs.Tests.{◌∈◌, any}
 use Rattle.subtrees.specs.Store.{tree_numbered}
 use Rattle.trees.specs.Context.{Frame, fill}
 use Rattle.trees.specs.Tree.{Tree}

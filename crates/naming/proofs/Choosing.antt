@@ -2,7 +2,7 @@
 use mathlib.Core.Bool.{Bool, ◌||◌, false, not, true, true≢false}
 use mathlib.Core.List.{List}
 use mathlib.Core.Logic.{◌≢◌, ◌⊎◌, inl, inr}
-use mathlib.Core.Path.{◌∙◌, ◌≡◌, ap, refl, sym}
+use mathlib.Core.Path.{◌∙◌, ◌≡◌, refl, sym}
 use Prim.Native.Nat.{◌+◌, ◌-◌, ◌<◌, ◌≤◌, suc, zero, ℕ}
 use native.Mathlib.Omega.{arith}
 use lib.Dec.{eqb}
@@ -11,7 +11,6 @@ use borrow.Author.Count.{below_more}
 use borrow.Author.Tests.{eq-eqb, eqb-false, eqb-true, ne_eqb}
 use Rattle.automata.specs.Alike.{like_state, like_subtree}
 use Rattle.automata.specs.Automaton.{Automaton, states}
-use Rattle.automata.specs.OpenStates.{open_state}
 use Rattle.automata.specs.Searched.{Free}
 use Rattle.marking.specs.Marks.{marked, nonzero}
 use Rattle.pairs.specs.Counts.{Open}

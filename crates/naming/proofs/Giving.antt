@@ -1,15 +1,15 @@
 -- Names are given from the last subtree to the first, and the name chosen for each is one that the criterion allows.
-use mathlib.Core.Bool.{Bool, cond, false, true}
+use mathlib.Core.Bool.{Bool, false, true}
 use mathlib.Core.List.{List}
-use mathlib.Core.Logic.{◌≢◌, ◌⊎◌, inl, inr}
-use mathlib.Core.Path.{◌∙◌, ◌≡◌, ap, refl, subst, sym}
+use mathlib.Core.Logic.{◌≢◌}
+use mathlib.Core.Path.{◌∙◌, ◌≡◌, refl, subst, sym}
 use Prim.Native.Nat.{◌+◌, ◌-◌, ◌<◌, ◌≤◌, ℕ}
 use native.Mathlib.Omega.{arith}
 use lib.Dec.{eqb}
 use lib.ListN.{get_or, length, length-replicate, length-set, replicate, set}
 use lib.Seq.{get_or-set_other, get_or-set_same}
 use borrow.Author.Tests.{eqb-false, eqb-true}
-use Rattle.automata.specs.Automaton.{Automaton, run}
+use Rattle.automata.specs.Automaton.{Automaton}
 use Rattle.format.specs.Format.{max_nodes}
 use Rattle.naming.specs.Choice.{Bounded, Chosen}
 use Rattle.alike.specs.Known.{NamedAbove}

@@ -1,13 +1,13 @@
 -- With all names given, each subtree has the name that `Searched` requires.
-use mathlib.Core.Bool.{Bool, cond, false, true}
+use mathlib.Core.Bool.{Bool, false, true}
 use mathlib.Core.List.{List}
-use mathlib.Core.Logic.{◌≢◌, ◌⊎◌, inl, inr}
+use mathlib.Core.Logic.{◌⊎◌, inl, inr}
 use mathlib.Core.Path.{◌∙◌, ◌≡◌, ap, subst, sym}
 use Prim.Native.Nat.{◌+◌, ◌-◌, ◌<◌, ◌≤◌, ℕ}
 use native.Mathlib.Omega.{arith}
 use lib.ListN.{get_or}
 use Rattle.automata.specs.Alike.{like_subtree}
-use Rattle.automata.specs.Automaton.{Automaton, Fits, run, states}
+use Rattle.automata.specs.Automaton.{Automaton, Fits, states}
 use Rattle.automata.specs.Change.{subtree_number}
 use Rattle.automata.specs.Names.{is_subtree}
 use Rattle.automata.specs.Searched.{Free, OwnName, Searched, SharedName, StateName}

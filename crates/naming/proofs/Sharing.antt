@@ -10,7 +10,7 @@ use lib.Seq.{get_or-set_other, get_or-set_same}
 use mathlib.Core.Bool.{Bool, false, true}
 use mathlib.Core.Path.{refl}
 use borrow.Author.Tests.{eqb-false, eqb-true}
-use Rattle.naming.specs.Parents.{Marked, Shared}
+use Rattle.naming.specs.Parents.{Marked}
 
 module _ {n j name : ℕ} {m : List ℕ} where
   -- a name that is a state marks nothing, nor does the subtree's own name

@@ -2,7 +2,7 @@
 use mathlib.Core.Bool.{Bool, false, true, true≢false}
 use mathlib.Core.List.{List}
 use mathlib.Core.Path.{◌∙◌, ◌≡◌, refl, sym}
-use Prim.Native.Nat.{◌*◌, ◌+◌, ◌-◌, ◌<◌, ◌≤◌, ℕ}
+use Prim.Native.Nat.{◌*◌, ◌+◌, ◌<◌, ◌≤◌, ℕ}
 use native.Mathlib.Omega.{arith}
 use lib.Dec.{eqb, ltb}
 use borrow.Author.Tests.{eqb-false, eqb-true, ltb-false, ltb-true}
@@ -22,7 +22,7 @@ use Rattle.subtrees.specs.Store.{tree_numbered}
 use Rattle.table.specs.Layout.{arg_of, arity_of}
 use Rattle.trees.specs.Tree.{Tree}
 use Rattle.uses.specs.Uses.{Holds}
-use Rattle.naming.specs.Choice.{NoState, StateSought, StateTried, StatesSlotted}
+use Rattle.naming.specs.Choice.{StateSought, StateTried, StatesSlotted}
 use Rattle.naming.specs.Known.{Known}
 use Rattle.alike.proofs.Carried.{holds-subtrees}
 use Rattle.alike.proofs.Criterion.{like-state-parts}

@@ -1,0 +1,36 @@
+-- `naming::models::fits_subtree` meets its contract: the name is not the subtree's own, or the criterion decides.
+use mathlib.Core.Path.{◌∙◌, sym}
+use native.Mathlib.Omega.{arith}
+use Rattle.naming.proofs.Choosing.{not_own, own-tried}
+use Rattle.naming.proofs.Spans.{joined}
+use Rattle.naming.proofs.models.fits_subtree.Goals as goal
+
+pub returns-then-wide-n : goal.returns-then-wide-n
+returns-then-wide-n c =
+    λ A t ts S N K X. not_own X c.requires.j_lt_v c.requires.v_le_m (λ e. c.if-wide-n.true (c.wide.ensures ∙ e))
+
+pub like_subtree-requires : goal.like_subtree-requires
+like_subtree-requires c =
+    let first = c.requires.spans_of.each c.args.j c.requires.le_j (omega (arith, c.requires.j_lt_v, c.requires.v_le_m)) in
+    let second = c.requires.spans_of.each c.args.v (omega (arith, c.requires.j_lt_v, c.requires.v_le_m)) c.requires.v_le_m in
+    let both = joined {f = c.wide-from.result} {t = c.wide-to.result} c.requires.spans_of c.requires.le_j
+    c.requires.j_lt_v c.requires.v_le_m (omega (arith, c.wide-from.ensures, c.least.ensures.upper_bound)) (omega (arith, c.wide-from.ensures, c.least.ensures.upper_bound_2))
+    (omega (arith, c.wide-to.ensures, c.greatest.ensures.lower_bound)) (omega (arith, c.wide-to.ensures, c.greatest.ensures.lower_bound_2))
+    (omega (arith, c.wide-to.ensures, c.greatest.ensures.by_index c.args.m first.known second.known)) in
+    record {
+      searchable = c.requires.sized.searchable;
+      holds_transitions_over = c.requires.sized.over;
+      shaped = c.requires.sized.shaped;
+      le_j = c.requires.le_j;
+      j_lt_v = c.requires.j_lt_v;
+      v_le_m = c.requires.v_le_m;
+      uses_within = c.requires.sized.uses;
+      parents_within = both.0;
+      parents_within_2 = both.1;
+    }
+
+pub returns : goal.returns
+returns c =
+    λ A t ts S N K X. own-tried X c.requires.j_lt_v c.requires.v_le_m (sym c.wide.ensures ∙ c.if-wide-n.false)
+    (c.like_subtree.ensures A t ts S N K.holds X (K.classed.each c.args.j c.requires.le_j (omega (arith, c.requires.j_lt_v, c.requires.v_le_m)))
+    (K.classed.each c.args.v (omega (arith, c.requires.j_lt_v, c.requires.v_le_m)) c.requires.v_le_m))

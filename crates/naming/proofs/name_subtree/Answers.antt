@@ -1,0 +1,85 @@
+-- `naming::name_subtree` meets its contract: a parent's name gives the subtree its own name, or a state or subtree
+-- that it can stand for is found, or none is.
+use mathlib.Core.Logic.{inl, inr}
+use mathlib.Core.Path.{◌∙◌, refl, sym}
+use native.Mathlib.Omega.{arith}
+use Rattle.naming.proofs.Apart.{anchored-own}
+use Rattle.naming.proofs.Choosing.{own-chosen}
+use Rattle.naming.proofs.Spans.{spanned}
+use Rattle.alike.proofs.Carried.{holds-subtrees}
+use Rattle.naming.proofs.name_subtree.Goals as goal
+
+pub anchored-requires : goal.anchored-requires
+anchored-requires c = record {
+  n_le_max_states = c.requires.sized.states;
+  shaped = c.requires.sized.shaped;
+  parents_within = spanned c.requires.spans_of c.requires.le_j c.requires.j_le_m c.wide-from.ensures c.wide-to.ensures;
+}
+
+pub returns-then-anchored : goal.returns-then-anchored
+returns-then-anchored c = record {
+  upper_bound = omega (arith, c.requires.j_le_m);
+  chosen = λ A t ts S N K O X. inr (inr (anchored-own S (holds-subtrees K.holds) K.classes.fits K.size X c.requires.shared
+      (sym c.anchored.ensures ∙ c.if-anchored.true) c.requires.le_j));
+}
+
+pub find_state-q-requires : goal.find_state-q-requires
+find_state-q-requires c =
+    let within = spanned c.requires.spans_of c.requires.le_j c.requires.j_le_m c.wide-from.ensures c.wide-to.ensures in
+    record {
+      sized = c.requires.sized;
+      le_j = c.requires.le_j;
+      j_le_m = c.requires.j_le_m;
+      parents_within = within;
+    }
+
+pub returns-then-q-n : goal.returns-then-q-n
+returns-then-q-n c = record {
+  upper_bound = omega (arith, c.if-q-n.true);
+  chosen = λ A t ts S N K O X. inl ((c.find_state-q.ensures A t ts S N K O X).there c.if-q-n.true);
+}
+
+pub find_subtree-v-requires : goal.find_subtree-v-requires
+find_subtree-v-requires c =
+    record {
+      sized = c.requires.sized;
+      spans_of = c.requires.spans_of;
+      le_j = c.requires.le_j;
+      j_le_m = c.requires.j_le_m;
+    }
+
+pub overflow_add-result-then-v-m : goal.overflow_add-result-then-v-m
+overflow_add-result-then-v-m c =
+    omega (arith, c.requires.sized.states, c.requires.sized.shaped.few, c.if-v-m.true)
+
+pub overflow_cast-result-then-v-m : goal.overflow_cast-result-then-v-m
+overflow_cast-result-then-v-m c =
+    omega (arith, c.requires.sized.states, c.requires.sized.shaped.few, c.if-v-m.true)
+
+pub returns-then-v-m : goal.returns-then-v-m
+returns-then-v-m c = record {
+  upper_bound = omega (arith, c.if-v-m.true);
+  chosen = λ A t ts S N K O X. inr (inl (record {
+    model = c.find_subtree-v.result;
+    above = c.find_subtree-v.ensures.lower_bound;
+    known = c.if-v-m.true;
+    same = refl;
+    chosen = (c.find_subtree-v.ensures.subtree_sought A t ts S N K X).there c.if-v-m.true;
+  }));
+}
+
+pub overflow_add-result-2 : goal.overflow_add-result-2
+overflow_add-result-2 c =
+    omega (arith, c.requires.sized.states, c.requires.sized.shaped.few, c.requires.j_le_m)
+
+pub overflow_cast-result-2 : goal.overflow_cast-result-2
+overflow_cast-result-2 c =
+    omega (arith, c.requires.sized.states, c.requires.sized.shaped.few, c.requires.j_le_m)
+
+pub returns : goal.returns
+returns c = record {
+  upper_bound = omega (arith, c.requires.j_le_m);
+  chosen = λ A t ts S N K O X. inr (inr (own-chosen (c.find_state-q.ensures A t ts S N K O X)
+      (omega (arith, c.if-q-n.false))
+      (c.find_subtree-v.ensures.subtree_sought A t ts S N K X) (omega (arith, c.if-v-m.false))));
+}

@@ -1,0 +1,35 @@
+use mathlib.Core.Path.{◌∙◌, sym}
+use native.Mathlib.Omega.{arith}
+use Rattle.lists.proofs.Loops.{any-end, any_found, any_next}
+use Rattle.naming.proofs.Spans.{anchor-child, parents-tested}
+use Rattle.naming.proofs.parents.anchored.Goals as goal
+
+pub loop-i-init : goal.loop-i-init
+loop-i-init c = (
+  omega arith,
+  parents-tested c.requires.shaped c.requires.parents_within
+      (anchor-child c.args.n c.args.arities.now c.args.children.now c.args.names.now c.args.shared.now c.args.j),
+)
+
+pub anchors_child-requires : goal.anchors_child-requires
+anchors_child-requires c = record {
+  n_le_max_states = c.requires.n_le_max_states;
+  shaped = c.requires.shaped;
+  le_i = omega arith;
+  i_le_m = omega (arith, c.requires.parents_within.known);
+}
+
+pub returns-then-anchors_child : goal.returns-then-anchors_child
+returns-then-anchors_child c =
+    any_found c.loop-i.invariant.1 (omega (arith, c.loop-i.invariant.0))
+    (sym c.anchors_child.ensures ∙ c.if-anchors_child.true)
+
+pub loop-i-preserved : goal.loop-i-preserved
+loop-i-preserved c = (
+  omega arith,
+  any_next c.loop-i.invariant.1 (omega (arith, c.loop-i.invariant.0))
+      (sym c.anchors_child.ensures ∙ c.if-anchors_child.false),
+)
+
+pub returns : goal.returns
+returns c = any-end c.loop-i.invariant.1 (omega (arith, c.loop-i.invariant.0))

@@ -1,0 +1,14 @@
+-- `naming::parents::raised` meets its contract: at `i` the loop's result is that for the parents left.
+use Prim.Native.Nat.{◌+◌, ◌-◌, ◌≤◌}
+use Rattle.lists.specs.Positions.{up_from}
+use Rattle.lists.specs.Tests.{any}
+use Rattle.naming.specs.Parents.{raises}
+use Rattle.lists.proofs.Loops.{AnyFrom}
+use Rattle.naming.proofs.parents.raised.Given as goal
+
+abbrev pub invariant-loop-i : goal.invariant-loop-i
+invariant-loop-i l = (l.from ≤ l.i) × AnyFrom (any (raises l.n l.arities l.children l.names l.j) (up_from (l.j + 1) (l.m - l.j)))
+    (raises l.n l.arities l.children l.names l.j) (l.from + 1 + (l.to - l.from)) (l.i + 1)
+
+abbrev pub decreases-loop-i : goal.decreases-loop-i
+decreases-loop-i l = l.to - l.i

@@ -1,0 +1,25 @@
+-- `naming::parents::raises_child` meets its contract: the result is false as soon as one test fails.
+use Prim.Native.Nat.{◌-◌}
+use native.Mathlib.Omega.{arith}
+use lib.ListN.{get_or}
+use borrow.Author.Tests.{le-ltb, lt-ltb}
+use Rattle.naming.specs.Parents.{raises}
+use Rattle.naming.proofs.parents.raises_child.Goals as goal
+
+pub returns-then-wide-n : goal.returns-then-wide-n
+unfolding raises
+returns-then-wide-n c =
+    rw (le-ltb c.args.n ((get_or c.args.names.now (c.args.i - 1) 0)) (omega (
+      arith,
+      c.wide.ensures,
+      c.if-wide-n.true,
+    )))
+
+pub returns : goal.returns
+unfolding raises
+returns c =
+    rw (lt-ltb c.args.n ((get_or c.args.names.now (c.args.i - 1) 0)) (omega (
+      arith,
+      c.wide.ensures,
+      c.if-wide-n.false,
+    ))) c.is_child.ensures

@@ -1,0 +1,35 @@
+use mathlib.Core.Path.{subst}
+use native.Mathlib.Omega.{arith}
+use Rattle.naming.specs.Choice.{StateTried}
+use Rattle.naming.proofs.Choosing.{no-state-first, no-state-next, state-found, state-none}
+use Rattle.naming.proofs.states.first_state.Goals as goal
+
+pub loop-q-init : goal.loop-q-init
+loop-q-init c = record { within = omega arith; each = λ A t ts S N K O X. no-state-first }
+
+pub fits_state-requires : goal.fits_state-requires
+fits_state-requires c = record {
+  sized = c.requires.sized;
+  le_j = c.requires.le_j;
+  j_le_m = c.requires.j_le_m;
+  parents_within = c.requires.parents_within;
+  q_le_n = c.loop-q-test.true;
+}
+
+pub returns-then-fits_state : goal.returns-then-fits_state
+returns-then-fits_state c =
+    λ A t ts S N K O X. state-found c.loop-q-test.true ((c.fits_state.ensures A t ts S N K
+    O X).yes c.if-fits_state.true)
+
+pub loop-q-preserved : goal.loop-q-preserved
+loop-q-preserved c =
+    let now = c.loop-q in
+    record {
+      within = omega arith;
+      each = λ A t ts S N K O X. no-state-next (now.invariant.each A t ts S N K O X) (subst
+          (StateTried A t S ts N c.args.j now.q) c.if-fits_state.false (c.fits_state.ensures A t ts S N K O
+          X));
+    }
+
+pub returns : goal.returns
+returns c = λ A t ts S N K O X. state-none (c.loop-q.invariant.each A t ts S N K O X) (omega arith)
