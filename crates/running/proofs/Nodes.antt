@@ -8,7 +8,7 @@ use native.Mathlib.Omega.{arith}
 use lib.Dec.{eqb}
 use lib.ListN.{get_or, length, length-append, set, take}
 use lib.Seq.{length-sets, sets}
-use Rattle.automata.specs.Automaton.{Automaton, Transition, lookup, matches, run, step}
+use Rattle.automata.specs.Automaton.{Transition, lookup, matches, run, step}
 use Rattle.automata.specs.NodeStates.{forest_states, node_states}
 use Rattle.fields.specs.declared.Found.{Found}
 use Rattle.fields.specs.declared.Found.TheVariants.{Nothing as Lost, State as At}

@@ -23,7 +23,7 @@ use format::{HEAD_BYTES, MAX_ARITY, MAX_NODES, NODE_BYTES, wide};
 use listing::{children_at, label_at};
 
 // What a tree runs to.
-#[derive(Drop)]
+#[derive(Clone, Copy)]
 pub enum Ran {
     State(u8),
     Nothing,
