@@ -1,0 +1,7 @@
+-- `answering::add` meets its contract: it is the change that inserts.
+use Rattle.calls.specs.Calls.{add_result}
+use Rattle.answering.proofs.add.Goals as goal
+
+pub returns : goal.returns
+unfolding add_result
+returns c = c.change.ensures
