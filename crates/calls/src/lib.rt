@@ -7,7 +7,7 @@
 // states and of transitions. The total: the number of trees, or that it does not fit 64 bits. Tree to number: the serial
 // number, or what ask answers. Number to tree: finished, which is done without numbers. Each of them: the number of a
 // refusal.
-#[derive(Drop)]
+#[derive(Clone, Copy)]
 pub enum Answer {
     Approved,
     NotPart,
