@@ -1,5 +1,6 @@
 -- `answering::asked` meets its contract: what the state of the root says, and where the tree stops if it has none.
 use mathlib.Core.Path.{◌∙◌, sym}
+use native.Mathlib.Omega.{arith}
 use Rattle.table.specs.Layout.{decode}
 use Rattle.trees.specs.Listing.{read_tree}
 use Rattle.running.proofs.Tables.{root-byte}
@@ -22,5 +23,5 @@ pub returns : goal.returns
 returns c =
     let tree = read_tree c.args.tree.now in
     let root = root-byte c.requires.holds_states in
-    asked-part (decode c.args.table.now) tree (λ e. c.if-q-eq0.false (root ∙ e))
+    asked-part (decode c.args.table.now) tree (λ e. absurd (omega (arith, root, e)))
     (sym (c.accepts_state.ensures tree root) ∙ c.if-accepts_state.false)

@@ -1,4 +1,5 @@
 -- `answering::serials::buffer_refusal` meets its contract: the lengths, then the table's content.
+use native.Mathlib.Omega.{arith}
 use Rattle.answering.proofs.Numbering.{buffer-5, buffer-6, buffer-content}
 use Rattle.answering.proofs.serials.buffer_refusal.Goals as goal
 
@@ -13,4 +14,4 @@ returns-then-listing-ne-MAX_LISTING c =
 pub returns : goal.returns
 returns c =
     buffer-content c.args.table.now c.args.listing.now c.if-table-ne-TABLE_BYTES.false
-    c.if-listing-ne-MAX_LISTING.false c.content_refusal.ensures
+    (omega arith) c.content_refusal.ensures
