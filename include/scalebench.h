@@ -67,7 +67,7 @@ extern "C" {
 
 /*
  * The stack that a call takes at most: add and remove; ask and intake; total, rank and unrank; read. Measured on x86-64
- * (56, 14, 31 and 38 KiB) and rounded up. tests/stack.c makes the calls on stacks of these sizes.
+ * (55, 13, 35 and 38 KiB) and rounded up. tests/stack.c makes the calls on stacks of these sizes.
  */
 #define SCALEBENCH_CHANGE_STACK_BYTES 81920
 #define SCALEBENCH_ASK_STACK_BYTES 16384

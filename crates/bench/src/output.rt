@@ -16,13 +16,13 @@ pub struct Streams {
 }
 
 // The numbers of a console of which nothing waits to be written.
-#[derive(Drop)]
+#[derive(Clone, Copy)]
 pub struct Written {
     progress: Progress,
 }
 
 // After a part of the input: there may be more input, the input has ended, or nothing can be written any more.
-#[derive(Drop)]
+#[derive(Clone, Copy)]
 pub enum Turn {
     More(Written),
     Ended(Written),
@@ -30,7 +30,7 @@ pub enum Turn {
 }
 
 // How many bytes were handed to the write, or that it failed.
-#[derive(Drop)]
+#[derive(Clone, Copy)]
 pub enum Handed {
     All(usize),
     Failed,

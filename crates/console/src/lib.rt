@@ -20,7 +20,7 @@ pub const OUT_BYTES: usize = 65536;
 const NEWLINE: u8 = 10;
 
 // The bytes held of the line that has not ended, the lines before it, and the bytes printed and not written yet.
-#[derive(Drop)]
+#[derive(Clone, Copy)]
 pub struct Progress {
     pub held: usize,
     pub lines: u64,
@@ -28,7 +28,7 @@ pub struct Progress {
 }
 
 // How many bytes of a part of the input were taken.
-#[derive(Drop)]
+#[derive(Clone, Copy)]
 pub struct Fed {
     pub taken: usize,
     pub progress: Progress,

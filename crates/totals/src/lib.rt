@@ -27,7 +27,7 @@ use numbers::same;
 pub use numbers::{SLOTS, number_of};
 pub use rounds::product;
 use rounds::{round, rounds};
-use search::{link, settle_all};
+use search::{LINKS, link, settle_all};
 
 // The numbers of the trees of the states 1 to n, if no state comes back to itself.
 fn numbers_of(transitions: &[u8], count: usize, n: usize) -> [u64; SLOTS]
@@ -38,7 +38,8 @@ fn numbers_of(transitions: &[u8], count: usize, n: usize) -> [u64; SLOTS]
     ensures { (cl : List ℕ) → acyclic (viewed cl transitions.now n count) ≡ true →
         NumbersOf (viewed cl transitions.now n count) result }
 {
-    let links = link(transitions, count);
+    let mut links = [0u16; LINKS];
+    link(transitions, count, &mut links);
     let mut numbers = [0u64; SLOTS];
     let mut left = n;
     while left > 0 {

@@ -15,11 +15,11 @@ pub const LINKS: usize = BYTE_VALUES + MAX_TRANSITIONS;
 
 // Links the transitions into each state, as numbers from 1; 0 is none. Entry q has the last of them, and entry 256 + i
 // the one before transition i.
-pub fn link(transitions: &[u8], count: usize) -> [u16; LINKS]
+pub fn link(transitions: &[u8], count: usize, links: &mut [u16; LINKS])
     requires holds_transitions { HoldsTransitions transitions.now count }
     requires count_le_max_transitions { count ≤ max_transitions }
 {
-    let mut links = [0u16; LINKS];
+    *links = [0u16; LINKS];
     let mut i = 0;
     while i < count {
         let out = out_of(transitions, TRANSITION_BYTES * i);
@@ -27,7 +27,6 @@ pub fn link(transitions: &[u8], count: usize) -> [u16; LINKS]
         i += 1;
         links[out] = i as u16;
     }
-    links
 }
 
 // A link, if it does not lead beyond a bound; else none.
