@@ -223,7 +223,7 @@ pub fn change(
     requires table_value { table_refusal table.old ≡ 0 }
     requires scratch_len { length scratch.old ≡ scratch_bytes }
     ensures { result_of result table.new scratch.new ≡
-        changed_outcome (change_of inserting (read_tree tree.now)) table.old scratch.entry.now }
+        changed_outcome (change_of inserting (read_tree tree.now)) table.old scratch.old }
 {
     let answer = work(tree, reached, table, scratch, inserting);
     clear(scratch);

@@ -128,7 +128,7 @@ fn run_children(
         (take k (get_or rows.old parent.node []) ++
         child_states transitions.now count s.now (parent.arity - k))) }
     ensures rows_kept { RowsKept parent.node rows.old rows.new }
-    ensures states_after { states.new ≡ sets states.old node (forest_states (over transitions.entry.now count) (first_trees (parent.arity - k) (read_trees s.now))) }
+    ensures states_after { states.new ≡ sets states.old node (forest_states (over transitions.now count) (first_trees (parent.arity - k) (read_trees s.now))) }
 {
     let row = parent.node;
     if k == parent.arity {
@@ -175,7 +175,7 @@ fn run_others(
     requires states_len { length states.old ≡ max_nodes }
     ensures value { result ≡ length (preorders (first_trees left (read_trees s.now))) }
     ensures rows_kept { RowsKept node rows.old rows.new }
-    ensures states_after { states.new ≡ sets states.old node (forest_states (over transitions.entry.now count) (first_trees left (read_trees s.now))) }
+    ensures states_after { states.new ≡ sets states.old node (forest_states (over transitions.now count) (first_trees left (read_trees s.now))) }
 {
     if left == 0 {
         return 0;

@@ -181,7 +181,7 @@ pub fn collect(
     requires held { Held (read_tree tree.now) reached.now }
     requires sized { Sized labels.old arities.old children.old states.old }
     ensures { (A : Automaton) → HoldsStates A (read_tree tree.now) reached.now →
-        Lists A (read_tree tree.now) (bottom_up (read_tree tree.now)) (arrays result labels.exit.now arities.new children.new states.new) }
+        Lists A (read_tree tree.now) (bottom_up (read_tree tree.now)) (arrays result labels.new arities.new children.new states.new) }
 {
     let mut stack = [0u8; MAX_NODES];
     let mut top = MAX_NODES;
