@@ -87,8 +87,8 @@ FILENAME == ARGV[3] { if (match($0, /^[a-z_]+( staticlib)?:/)) { sub(/[ :].*/, "
 FNR == 1 {
     split("check ci doc fmt lib must-fail run tidy version", list, " "); for (i in list) command[list[i]] = 1
     # words of Rattle, antt, the kit and the system, and goals of proofs
-    split("abbrev arith break c cc cond cp drop flock get_or k let match miss omega p protected_symlinks pub refl return " \
-        "rt rw search unfolding u8 unfoldable where OneOf _ loop-i-init loop-i-preserved " \
+    split("abbrev absurd arith break c cc cond cp drop flock get_or k let match omega p protected_symlinks pub refl return " \
+        "rt rw search unfolding u8 unfoldable where _ loop-i-init loop-i-preserved " \
         "mark_output-requires overflow_add-i returns-then-label_at-eq0 Invariants.antt Answers.antt c.args.s.now " \
         "c.loop-i.invariant c.label_at.ensures.value", list, " ")
     for (i in list) word[list[i]] = 1
