@@ -223,8 +223,7 @@ fn parent_agrees(
         result ≡ parent_agrees A N ts labels.now arities.now children.now a state x i }
 {
     let arity = wide(arities[i]);
-    let mut k = 0;
-    while k < arity {
+    for k in 0..arity {
         if !place_agrees(
             transitions,
             count,
@@ -242,7 +241,6 @@ fn parent_agrees(
         ) {
             return false;
         }
-        k += 1;
     }
     true
 }
@@ -274,8 +272,7 @@ pub fn frames_agree(
         NamedAbove A t ts m j names.now N → j ≤ a → (state ≡ false → j ≤ x) →
         result ≡ every (parent_agrees A N ts labels.now arities.now children.now a state x) (up_from 0 m) }
 {
-    let mut i = from;
-    while i < to {
+    for i in from..to {
         if !parent_agrees(
             transitions,
             count,
@@ -292,7 +289,6 @@ pub fn frames_agree(
         ) {
             return false;
         }
-        i += 1;
     }
     true
 }

@@ -23,10 +23,8 @@ pub fn children_of(children: &[u8; CHILD_NUMBERS], i: usize, arity: usize) -> [u
     ensures { Filled (child_at children.now i) arity result }
 {
     let mut numbers = [0u8; MAX_ARITY];
-    let mut k = 0;
-    while k < arity {
+    for k in 0..arity {
         numbers[k] = children[MAX_ARITY * i + k];
-        k += 1;
     }
     numbers
 }
@@ -41,11 +39,9 @@ pub fn states_of(
     ensures { Filled (state_of states.now numbers) arity result }
 {
     let mut qs = [0u8; MAX_ARITY];
-    let mut k = 0;
-    while k < arity {
+    for k in 0..arity {
         let number = wide(numbers[k]);
         qs[k] = states[number - 1];
-        k += 1;
     }
     qs
 }
@@ -55,12 +51,10 @@ fn some_zero(qs: [u8; MAX_ARITY], arity: usize) -> bool
     requires { arity ≤ max_arity }
     ensures { result ≡ any (eqb 0) (take arity qs) }
 {
-    let mut k = 0;
-    while k < arity {
+    for k in 0..arity {
         if qs[k] == 0 {
             return true;
         }
-        k += 1;
     }
     false
 }

@@ -60,12 +60,10 @@ fn parent_slot(
         return no_slot();
     }
     let arity = wide(arities[i]);
-    let mut k = 0;
-    while k < arity {
+    for k in 0..arity {
         if wide(children[MAX_ARITY * i + k]) == j {
             return frame_slot(m, labels, arities, children, states, names, i, k);
         }
-        k += 1;
     }
     no_slot()
 }
@@ -87,13 +85,11 @@ pub fn frame_slot_of(
     requires to_le_m { to ≤ m }
     ensures { SlotOf m j labels.now arities.now children.now states.now names.now result }
 {
-    let mut i = from;
-    while i < to {
+    for i in from..to {
         let z = parent_slot(m, labels, arities, children, states, names, i, j);
         if z.out != 0 {
             return z;
         }
-        i += 1;
     }
     no_slot()
 }

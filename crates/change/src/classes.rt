@@ -69,9 +69,7 @@ pub fn classify_names(
     ensures { Classed (class_of_name table.now n states.now (n + m) inserting) (n + m)
         classes.new }
 {
-    let mut p = 1;
-    while p <= n + m {
+    for p in 1..n + m + 1 {
         classes[p] = class_of(table, n, states, n + m, inserting, p);
-        p += 1;
     }
 }

@@ -38,10 +38,8 @@ use uses::note_uses;
 fn clear(scratch: &mut [u8])
     ensures { scratch.new ≡ replicate (length scratch.old) 0 }
 {
-    let mut i = 0;
-    while i < scratch.len() {
+    for i in 0..scratch.len() {
         scratch[i] = 0;
-        i += 1;
     }
 }
 

@@ -29,11 +29,9 @@ fn differs_below(prints: &[usize; BYTE_VALUES], q: usize) -> bool
 {
     let print = prints[q];
     let mut alone = true;
-    let mut p = 1;
-    while p < q {
+    for p in 1..q {
         let other = differ(print, prints[p]);
         alone = alone & other;
-        p += 1;
     }
     alone
 }
@@ -57,13 +55,11 @@ pub fn all_differ(prints: &[usize; BYTE_VALUES], n: usize) -> bool
     ensures { result ≡ all_differ prints.now n }
 {
     let mut taken = [0u8; BUCKETS];
-    let mut q = 1;
-    while q < n + 1 {
+    for q in 1..n + 1 {
         if !differs_by_bucket(prints, q, &taken) {
             return false;
         }
         taken[bucket(prints[q])] = 1;
-        q += 1;
     }
     true
 }
@@ -74,11 +70,9 @@ pub fn all_some(prints: &[usize; BYTE_VALUES], n: usize) -> bool
     ensures { result ≡ all_some prints.now n }
 {
     let mut all = true;
-    let mut q = 1;
-    while q < n + 1 {
+    for q in 1..n + 1 {
         let some = differ(prints[q], 0);
         all = all & some;
-        q += 1;
     }
     all
 }

@@ -39,12 +39,10 @@ fn add_uses(
     let arity = arity_of(transitions, TRANSITION_BYTES * i);
     let s = salt(widened(label_of(transitions, TRANSITION_BYTES * i)), x);
     let all = xor_args(transitions, TRANSITION_BYTES * i, s);
-    let mut k = 0;
-    while k < arity {
+    for k in 0..arity {
         let q = arg_of(transitions, TRANSITION_BYTES * i, k);
         let others = all ^ scaled(q, k);
         add(prints, q, value(others));
-        k += 1;
     }
 }
 
@@ -55,11 +53,9 @@ fn add_all_uses(transitions: &[u8], count: usize, n: usize, prints: &mut [usize;
     requires prints { Prints prints.old }
     ensures { Gained (gains (transitions_in transitions.now count)) prints.old prints.new }
 {
-    let mut i = 0;
-    while i < count {
+    for i in 0..count {
         let out = out_of(transitions, TRANSITION_BYTES * i);
         add_uses(transitions, count, n, i, out * 50159747054999923, prints);
-        i += 1;
     }
 }
 
@@ -81,10 +77,8 @@ pub fn class_prints(classes: &[u8], n: usize) -> [usize; BYTE_VALUES]
     ensures { ClassPrints classes.now n result }
 {
     let mut prints = [0usize; BYTE_VALUES];
-    let mut q = 1;
-    while q < n + 1 {
+    for q in 1..n + 1 {
         prints[q] = class_print(classes, q);
-        q += 1;
     }
     prints
 }

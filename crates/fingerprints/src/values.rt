@@ -31,10 +31,8 @@ pub fn xor_args(transitions: &[u8], at: usize, y: usize) -> usize
 {
     let arity = arity_of(transitions, at);
     let mut all = y;
-    let mut k = 0;
-    while k < arity {
+    for k in 0..arity {
         all = all ^ scaled(arg_of(transitions, at, k), k);
-        k += 1;
     }
     all
 }

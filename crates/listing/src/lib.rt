@@ -84,12 +84,10 @@ fn all_labelled(s: &[u8]) -> bool
     ensures { result ≡ all_labelled s.now }
 {
     let nodes = s.len() / NODE_BYTES;
-    let mut i = 0;
-    while i < nodes {
+    for i in 0..nodes {
         if label_at(s, i) == 0 {
             return false;
         }
-        i += 1;
     }
     true
 }
@@ -99,12 +97,10 @@ fn all_narrow(s: &[u8]) -> bool
     ensures { result ≡ all_narrow s.now }
 {
     let nodes = s.len() / NODE_BYTES;
-    let mut i = 0;
-    while i < nodes {
+    for i in 0..nodes {
         if wide(children_at(s, i)) > MAX_ARITY {
             return false;
         }
-        i += 1;
     }
     true
 }

@@ -40,8 +40,7 @@ fn args_precede(
     ensures { result ≡ lex (map (name_in numbers.now) (first_args transitions.now a n))
         (map (name_in numbers.now) (first_args transitions.now b n)) }
 {
-    let mut k = 0;
-    while k < n {
+    for k in 0..n {
         let p = arg_of(transitions, a, k);
         let q = arg_of(transitions, b, k);
         let x = numbers[p];
@@ -49,7 +48,6 @@ fn args_precede(
         if x != y {
             return x < y;
         }
-        k += 1;
     }
     false
 }
@@ -110,10 +108,8 @@ fn first_ready(transitions: &[u8], count: usize, numbers: &[u8; BYTE_VALUES]) ->
         picked transitions.now count result ≡ best o (transitions_in transitions.now count) }
 {
     let mut best = count;
-    let mut i = 0;
-    while i < count {
+    for i in 0..count {
         let at = i;
-        i += 1;
         if !improves_on(transitions, count, best, at, numbers) {
             continue;
         }

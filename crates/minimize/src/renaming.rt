@@ -28,11 +28,9 @@ pub fn renamed(transitions: &[u8], at: usize, names: &[u8; BYTE_VALUES]) -> [u8;
     let mut entry = blank_entry();
     put_arity(&mut entry, n);
     put_out(&mut entry, names[out]);
-    let mut k = 0;
-    while k < n {
+    for k in 0..n {
         let q = arg_of(transitions, at, k);
         put_arg(&mut entry, k, names[q]);
-        k += 1;
     }
     put_label(&mut entry, label_of(transitions, at));
     entry

@@ -61,9 +61,7 @@ pub fn classify(
         (c : List ℕ) → Holds A t ts m l r' c states.now → ClassesIn A table.now →
         Rooted t ts m root → Changed inserting A t S → Classed S ts m classes.new }
 {
-    let mut j = 0;
-    while j < m {
+    for j in 0..m {
         classes[j] = class_of(table, states, root, inserting, j + 1);
-        j += 1;
     }
 }

@@ -45,11 +45,9 @@ fn note_children(
         froms.new tos.new }
 {
     let arity = wide(arities[i]);
-    let mut k = 0;
-    while k < arity {
+    for k in 0..arity {
         let j = wide(children[MAX_ARITY * i + k]);
         note_child(froms, tos, i, j);
-        k += 1;
     }
 }
 
@@ -67,10 +65,8 @@ pub fn note_parents(
 {
     *froms = [0u8; MAX_NODES];
     *tos = [0u8; MAX_NODES];
-    let mut i = 0;
-    while i < m {
+    for i in 0..m {
         note_children(m, arities, children, froms, tos, i);
-        i += 1;
     }
 }
 
@@ -88,12 +84,10 @@ fn is_child(
     ensures { result ≡ is_child arities.now children.now i j }
 {
     let arity = wide(arities[i - 1]);
-    let mut k = 0;
-    while k < arity {
+    for k in 0..arity {
         if wide(children[MAX_ARITY * (i - 1) + k]) == j {
             return true;
         }
-        k += 1;
     }
     false
 }

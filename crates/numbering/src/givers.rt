@@ -17,11 +17,9 @@ fn top_argument(transitions: &[u8], at: usize) -> usize
     requires { at + transition_bytes ≤ length transitions.now }
 {
     let mut top = 0;
-    let mut k = 0;
-    while k < MAX_ARITY {
+    for k in 0..MAX_ARITY {
         let q = arg_of(transitions, at, k);
         top = greater(top, q);
-        k += 1;
     }
     top
 }
@@ -56,12 +54,10 @@ fn forget_givers(
 )
     requires { m ≤ max_nodes }
 {
-    let mut j = 0;
-    while j < m {
+    for j in 0..m {
         if (states[j] != 0) & (names[j] != states[j]) {
             forget(givers, names[j]);
         }
-        j += 1;
     }
 }
 
@@ -78,10 +74,8 @@ pub fn givers_of(
     requires m_le_max_nodes { m ≤ max_nodes }
 {
     let mut givers = [0u16; BYTE_VALUES];
-    let mut i = 0;
-    while i < count {
+    for i in 0..count {
         note_giver(transitions, i, &mut givers);
-        i += 1;
     }
     forget_givers(m, states, names, &mut givers);
     givers
@@ -243,15 +237,13 @@ fn place_few(
     let made = end_of(ends, old, count);
     let mut given = [0u8; BYTE_VALUES];
     let mut new = 0;
-    let mut q = 1;
-    while q <= n {
+    for q in 1..n + 1 {
         let g = widened(givers[q]);
         let start = start_of(ends, g, made);
         let end = end_of(ends, g, made);
         new = place_given(
             heads, args, q, start, end, numbers, lists, next, bests, fresh, news, &mut given, new,
         );
-        q += 1;
     }
     place_others(
         heads, args, count, made, n, numbers, lists, next, bests, fresh, news, &given, new,

@@ -39,11 +39,9 @@ fn top_place(args: u64, arity: usize) -> usize
     ensures { result ≡ top (map (place_of args) (up_from 0 arity)) }
 {
     let mut t = 0;
-    let mut k = 0;
-    while k < arity {
+    for k in 0..arity {
         let q = place_of(args, k);
         t = greater(t, q);
-        k += 1;
     }
     t
 }

@@ -29,14 +29,12 @@ fn waits_on(args: u64, numbers: &[u8; BYTE_VALUES]) -> usize
     ensures { result < byte_values }
 {
     let mut most = 0;
-    let mut k = 0;
-    while k < MAX_ARITY {
+    for k in 0..MAX_ARITY {
         let q = place_of(args, k);
         if q == 0 {
             return most;
         }
         most = later(most, q, numbers);
-        k += 1;
     }
     most
 }
@@ -150,12 +148,10 @@ pub fn place_all(
     ensures { result ≤ byte_values }
 {
     let mut new = 0;
-    let mut i = 0;
-    while i < count {
+    for i in 0..count {
         new = place(
             heads, args, i, numbers, lists, next, bests, fresh, news, new,
         );
-        i += 1;
     }
     new
 }
@@ -180,8 +176,7 @@ pub fn place_list(
     let mut at = widened(lists[q]);
     lists[q] = 0;
     let mut new = 0;
-    let mut turns = 0;
-    while turns < next.len() {
+    for turns in 0..next.len() {
         if at == 0 {
             return new;
         }
@@ -202,7 +197,6 @@ pub fn place_list(
             new,
         );
         at = after;
-        turns += 1;
     }
     new
 }

@@ -117,12 +117,10 @@ fn rename_args(args: u64, arity: usize, numbers: &[u8; BYTE_VALUES]) -> Renamed
     }
     let mut whole = true;
     let mut v = 0u64;
-    let mut k = 0;
-    while k < arity {
+    for k in 0..arity {
         let next = with_number(v, args, k, numbers);
         whole = whole & (next != 256 * v);
         v = next;
-        k += 1;
     }
     let renamed = padded(v, arity);
     Renamed {
@@ -146,8 +144,7 @@ pub fn renumber(
     ensures renumbered { result ≡ true → Renumbered numbers.now heads.old args.old
         heads.new args.new count }
 {
-    let mut i = 0;
-    while i < count {
+    for i in 0..count {
         let head = heads[i];
         let renamed = rename_args(args[i], arity_of(head), numbers);
         if !renamed.whole {
@@ -158,7 +155,6 @@ pub fn renumber(
         }
         heads[i] = head_by_number(head, numbers);
         args[i] = renamed.args;
-        i += 1;
     }
     true
 }

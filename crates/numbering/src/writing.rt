@@ -21,10 +21,8 @@ fn entry_of(head: u64, args: u64) -> [u8; TRANSITION_BYTES]
     put_label(&mut entry, label_of(head));
     put_arity(&mut entry, arity_of(head));
     put_out(&mut entry, out_of(head) as u8);
-    let mut k = 0;
-    while k < MAX_ARITY {
+    for k in 0..MAX_ARITY {
         put_arg(&mut entry, k, place_of(args, k) as u8);
-        k += 1;
     }
     entry
 }
@@ -36,11 +34,9 @@ pub fn write_run(to: &mut [u8], start: usize, heads: &[u64], args: &[u64], count
     requires holds_packed { HoldsPacked heads.now args.now count }
     ensures { RunPut to.old to.new heads.now args.now start count }
 {
-    let mut i = 0;
-    while i < count {
+    for i in 0..count {
         let entry = entry_of(heads[i], args[i]);
         write(to, start + TRANSITION_BYTES * i, entry);
-        i += 1;
     }
 }
 
@@ -50,10 +46,8 @@ fn clear_between(table: &mut [u8], start: usize, end: usize)
     requires end_le_table_bytes { end ≤ table_bytes }
     ensures { ZerosBetween table.old table.new start end }
 {
-    let mut i = start;
-    while i < end {
+    for i in start..end {
         table[i] = 0;
-        i += 1;
     }
 }
 

@@ -31,10 +31,8 @@ fn at_most(transitions: &[u8], from: usize, end: usize, bound: u8) -> bool
     ensures { result ≡ every (at_most transitions.now bound) (up_from from (end - from)) }
 {
     let mut top = 0u8;
-    let mut j = from;
-    while j < end {
+    for j in from..end {
         top = greater(top, transitions[j]);
-        j += 1;
     }
     top <= bound
 }
@@ -68,13 +66,11 @@ fn args_in_range(transitions: &[u8], states: usize, at: usize, arity: usize) -> 
     requires arity_le_max_arity { arity ≤ max_arity }
     ensures { result ≡ every (arg_in_range transitions.now states at) (up_from 0 arity) }
 {
-    let mut k = 0;
-    while k < arity {
+    for k in 0..arity {
         let q = arg_of(transitions, at, k);
         if !in_range(states, q) {
             return false;
         }
-        k += 1;
     }
     true
 }
@@ -118,12 +114,10 @@ fn transitions_fit(transitions: &[u8], states: usize, count: usize) -> bool
     requires { transition_bytes * count ≤ length transitions.now }
     ensures { result ≡ every (nth_fits transitions.now states) (up_from 0 count) }
 {
-    let mut i = 0;
-    while i < count {
+    for i in 0..count {
         if !transition_fits(transitions, states, TRANSITION_BYTES * i) {
             return false;
         }
-        i += 1;
     }
     true
 }

@@ -89,8 +89,7 @@ pub fn next_in_slot(transitions: &[u8], count: usize, z: Slot, from: usize) -> u
     ensures in_slot { result < count → InSlot transitions.now z result }
     ensures lower_bound { from ≤ count → from ≤ result }
 {
-    let mut i = from;
-    while i < count {
+    for i in from..count {
         let at = TRANSITION_BYTES * i;
         let meta = meta_at(transitions, at);
         let args = args_at(transitions, at);
@@ -100,7 +99,6 @@ pub fn next_in_slot(transitions: &[u8], count: usize, z: Slot, from: usize) -> u
         if is_in_slot(transitions, count, z, i, meta, args) {
             return i;
         }
-        i += 1;
     }
     count
 }

@@ -27,11 +27,9 @@ fn count_states(m: usize, states: &[u8; MAX_NODES], counts: &mut [u8; BYTE_VALUE
     requires counts_value { counts.old ≡ zeros }
     ensures { Counted states.now m counts.new }
 {
-    let mut j = 0;
-    while j < m {
+    for j in 0..m {
         let q = index(states[j]);
         counts[q] = counts[q] + 1;
-        j += 1;
     }
 }
 
@@ -52,10 +50,8 @@ fn weigh(counts: &[u8; BYTE_VALUES], marks: &[u8; BYTE_VALUES], weights: &mut [u
     requires weights_len { length weights.old ≡ byte_values }
     ensures { Numbers (weight_of counts.now marks.now) weights.new }
 {
-    let mut q = 0;
-    while q < BYTE_VALUES {
+    for q in 0..BYTE_VALUES {
         weights[q] = weight(counts[q], marks[q]);
-        q += 1;
     }
 }
 

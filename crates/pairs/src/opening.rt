@@ -33,10 +33,8 @@ fn open_at_once(counts: &[u8; BYTE_VALUES], sums: &[u8; BYTE_VALUES], marks: &mu
     requires { length marks.old ≡ byte_values }
     ensures { MarkedBy (starts_at counts.now sums.now) marks.new }
 {
-    let mut q = 0;
-    while q < BYTE_VALUES {
+    for q in 0..BYTE_VALUES {
         marks[q] = opens(counts[q], sums[q]);
-        q += 1;
     }
 }
 
@@ -46,13 +44,11 @@ pub fn some_marked(transitions: &[u8], at: usize, marks: &[u8; BYTE_VALUES]) -> 
     ensures { result ≡ any (marked marks.now) (transition_at transitions.now at).args }
 {
     let arity = arity_of(transitions, at);
-    let mut k = 0;
-    while k < arity {
+    for k in 0..arity {
         let q = arg_of(transitions, at, k);
         if marks[q] != 0 {
             return true;
         }
-        k += 1;
     }
     false
 }
@@ -82,11 +78,9 @@ fn mark_outputs(transitions: &[u8], count: usize, marks: &mut [u8; BYTE_VALUES])
     ensures { Spread (UpTo (nth_some_up transitions.now) count) marks.old marks.new result }
 {
     let mut changed = false;
-    let mut i = 0;
-    while i < count {
+    for i in 0..count {
         let r = mark_output(transitions, TRANSITION_BYTES * i, marks);
         changed = changed | r;
-        i += 1;
     }
     changed
 }

@@ -36,13 +36,11 @@ fn all_ones(transitions: &[u8], at: usize, numbers: &[u8; BYTE_VALUES]) -> bool
     ensures { result ≡ true → 1 ≡ min product_cap (product_at numbers.now transitions.now at) }
 {
     let arity = arity_of(transitions, at);
-    let mut k = 0;
-    while k < arity {
+    for k in 0..arity {
         let q = arg_of(transitions, at, k);
         if numbers[q] != 1 {
             return false;
         }
-        k += 1;
     }
     true
 }
@@ -54,15 +52,13 @@ fn multiplied(transitions: &[u8], at: usize, numbers: &[u8; BYTE_VALUES]) -> usi
 {
     let arity = arity_of(transitions, at);
     let mut product = 1;
-    let mut k = 0;
-    while k < arity {
+    for k in 0..arity {
         let q = arg_of(transitions, at, k);
         let number = index(numbers[q]);
         if number == 0 {
             return 0;
         }
         product = capped(product * number);
-        k += 1;
     }
     product
 }
@@ -121,10 +117,8 @@ pub fn sums_into(
     requires sums_value { sums.old ≡ zeros }
     ensures { SumsInto (entry numbers.now) (transitions_in transitions.now count) sums.new }
 {
-    let mut i = 0;
-    while i < count {
+    for i in 0..count {
         add_product(transitions, TRANSITION_BYTES * i, numbers, sums);
-        i += 1;
     }
 }
 
@@ -143,13 +137,11 @@ pub fn sum_fits(
         + more) limit }
 {
     let mut sum = more;
-    let mut i = 0;
-    while i < count {
+    for i in 0..count {
         sum = sum + product(transitions, TRANSITION_BYTES * i, numbers);
         if sum > limit {
             return false;
         }
-        i += 1;
     }
     true
 }

@@ -24,12 +24,10 @@ fn first_same(keys: &[usize; BYTE_VALUES], parts: &[u8; BYTE_VALUES], q: usize) 
     requires q_bound { q ≤ 255 }
     ensures { LeastOf parts.now (key_of keys.now) q result }
 {
-    let mut p = wide(parts[q]);
-    while p < q {
+    for p in wide(parts[q])..q {
         if is_same(keys, parts, q, p) {
             return p;
         }
-        p += 1;
     }
     q
 }

@@ -27,10 +27,8 @@ fn one_part(n: usize) -> [u8; BYTE_VALUES]
     ensures { Whole n result }
 {
     let mut parts = [0u8; BYTE_VALUES];
-    let mut q = 1;
-    while q < n + 1 {
+    for q in 1..n + 1 {
         parts[q] = 1;
-        q += 1;
     }
     parts
 }
@@ -52,12 +50,10 @@ fn all_lead(n: usize, parts: &[u8; BYTE_VALUES]) -> bool
     requires { n ≤ 255 }
     ensures { result ≡ all_lead parts.now n }
 {
-    let mut q = 1;
-    while q < n + 1 {
+    for q in 1..n + 1 {
         if wide(parts[q]) != q {
             return false;
         }
-        q += 1;
     }
     true
 }

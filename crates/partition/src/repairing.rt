@@ -34,10 +34,8 @@ fn mated_states(n: usize, parts: &[u8; BYTE_VALUES]) -> [u8; BYTE_VALUES]
     ensures { Mates n parts.now result }
 {
     let mut mated = [0u8; BYTE_VALUES];
-    let mut q = 1;
-    while q < n + 1 {
+    for q in 1..n + 1 {
         note_mate(parts, q, &mut mated);
-        q += 1;
     }
     mated
 }
@@ -109,10 +107,8 @@ fn part_keys(
     ensures { PartKeys transitions.now n count parts.now i k lead result }
 {
     let mut keys = [0usize; BYTE_VALUES];
-    let mut q = 0;
-    while q < n + 1 {
+    for q in 0..n + 1 {
         keys[q] = part_key(transitions, count, n, i, k, lead, q, parts);
-        q += 1;
     }
     keys
 }
@@ -193,11 +189,9 @@ fn repair_line(
 {
     let arity = arity_of(transitions, TRANSITION_BYTES * i);
     let mut changed = false;
-    let mut k = 0;
-    while k < arity {
+    for k in 0..arity {
         let r = repair_at(transitions, count, n, i, k, mated, parts);
         changed = changed | r;
-        k += 1;
     }
     changed
 }
@@ -212,11 +206,9 @@ pub fn repair(transitions: &[u8], count: usize, n: usize, parts: &mut [u8; BYTE_
 {
     let mated = mated_states(n, parts);
     let mut changed = false;
-    let mut i = 0;
-    while i < count {
+    for i in 0..count {
         let split = repair_line(transitions, count, n, i, &mated, parts);
         changed = changed | split;
-        i += 1;
     }
     changed
 }

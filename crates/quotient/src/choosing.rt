@@ -184,14 +184,12 @@ fn first_names(
     let mut only = true;
     let mut own = true;
     let mut prefix = 0u64;
-    let mut k = 0;
-    while k < arity {
+    for k in 0..arity {
         let x = index(firsts[arg_of(transitions, at, k)]);
         none = none | (x == 0);
         only = only & (nexts[x] == 0);
         own = own & (n < x);
         prefix = 256 * prefix + x as u64;
-        k += 1;
     }
     Firsts {
         none: none,

@@ -36,10 +36,8 @@ fn count_kept(n: usize, m: usize, opens: &[u8; BYTE_VALUES], names: &[u8; MAX_NO
     ensures { result ≡ length (filter (kept_name n opens.now names.now) (up_from 1 (n + m))) }
 {
     let mut sum = 0;
-    let mut x = 1;
-    while x <= n + m {
+    for x in 1..n + m + 1 {
         sum = tallied(sum, is_kept(n, opens, names, x));
-        x += 1;
     }
     sum
 }
@@ -60,13 +58,11 @@ fn count_new(
         names.now) (up_from 0 m)) }
 {
     let mut sum = 0;
-    let mut j = 0;
-    while j < m {
+    for j in 0..m {
         sum = tallied(
             sum,
             is_new(n, m, labels, arities, children, states, names, j),
         );
-        j += 1;
     }
     sum
 }
@@ -87,13 +83,11 @@ fn count_gone(
         names.now) (up_from 0 m)) }
 {
     let mut sum = 0;
-    let mut j = 0;
-    while j < m {
+    for j in 0..m {
         sum = tallied(
             sum,
             is_gone(n, m, labels, arities, children, states, names, j),
         );
-        j += 1;
     }
     sum
 }

@@ -54,8 +54,7 @@ fn choose_all(
         firsts.now nexts.now n m metas.now keys.now names.now) heads.new args.new result }
 {
     let mut made = 0;
-    let mut i = 0;
-    while i < count {
+    for i in 0..count {
         made = choose_at(
             transitions,
             TRANSITION_BYTES * i,
@@ -72,7 +71,6 @@ fn choose_all(
             made,
         );
         note_end(ends, i, made);
-        i += 1;
     }
     made
 }
@@ -134,12 +132,10 @@ fn add_lost(
         heads.new args.new result }
 {
     let mut made = count;
-    let mut j = 0;
-    while j < m {
+    for j in 0..m {
         made = add_new(
             n, m, labels, arities, children, states, names, metas, keys, j, heads, args, made,
         );
-        j += 1;
     }
     made
 }

@@ -78,10 +78,8 @@ pub fn pack_keys(
     requires keys_len { length keys.old ≡ max_nodes }
     ensures { EachNode (key_of n children.now) m keys.new }
 {
-    let mut j = 0;
-    while j < m {
+    for j in 0..m {
         keys[j] = key_of(n, m, labels, arities, children, j);
-        j += 1;
     }
 }
 
@@ -108,10 +106,8 @@ pub fn pack_metas(
     requires metas_len { length metas.old ≡ max_nodes }
     ensures { EachNode (meta_of labels.now arities.now) m metas.new }
 {
-    let mut j = 0;
-    while j < m {
+    for j in 0..m {
         metas[j] = meta_of(labels, arities, j);
-        j += 1;
     }
 }
 
@@ -129,13 +125,11 @@ pub fn node_name(
     ensures { result ≡ named_by metas.now keys.now names.now meta key out
         (up_from 0 m) }
 {
-    let mut j = 0;
-    while j < m {
+    for j in 0..m {
         let same = (metas[j] == meta) & (keys[j] == key);
         if same {
             return names[j];
         }
-        j += 1;
     }
     out
 }
@@ -167,12 +161,10 @@ fn children_own(
     ensures { result ≡ children_own_at n arities.now children.now names.now j }
 {
     let arity = wide(arities[j]);
-    let mut k = 0;
-    while k < arity {
+    for k in 0..arity {
         if !has_own(n, names, children[MAX_ARITY * j + k]) {
             return false;
         }
-        k += 1;
     }
     true
 }

@@ -53,10 +53,8 @@ pub fn mark_odd(
     requires odd_value { odd.old ≡ replicate byte_values 1 }
     ensures { OddMarked n firsts.now nexts.now odd.new }
 {
-    let mut q = 1;
-    while q <= n {
+    for q in 1..n + 1 {
         unmark(n, firsts, nexts, q, odd);
-        q += 1;
     }
 }
 

@@ -52,10 +52,8 @@ fn copy(from: &[u8; MAX_LISTING], to: &mut [u8])
     requires to_len { length to.old ≡ max_listing }
     ensures { to.new ≡ from.now }
 {
-    let mut i = 0;
-    while i < MAX_LISTING {
+    for i in 0..MAX_LISTING {
         to[i] = from[i];
-        i += 1;
     }
 }
 

@@ -40,12 +40,10 @@ fn is_own(
     if arity_of(transitions, at) != arity {
         return false;
     }
-    let mut k = 0;
-    while k < arity {
+    for k in 0..arity {
         if arg_of(transitions, at, k) != wide(stack[top + k]) {
             return false;
         }
-        k += 1;
     }
     true
 }
@@ -70,14 +68,12 @@ fn sum_before(
         (take arity (drop top stack.now)) (transitions_in transitions.now count)) }
 {
     let mut sum = Total::Number { value: 0 };
-    let mut i = 0;
-    while i < count {
+    for i in 0..count {
         let at = TRANSITION_BYTES * i;
         if is_own(transitions, at, label, stack, top, arity) {
             return sum;
         }
         sum = plus(sum, trees_into(transitions, at, q, numbers));
-        i += 1;
     }
     sum
 }

@@ -56,15 +56,13 @@ fn put_children(
 {
     let arity = arity_of(transitions, at);
     let mut left = number;
-    let mut k = 0;
-    while k < arity {
+    for k in 0..arity {
         let weight = product_of_args(transitions, at, k + 1, arity, numbers);
         let mine = divided(left, weight);
         let others = remainder(left, weight);
         states[top + k] = arg_of(transitions, at, k) as u8;
         lefts[top + k] = mine;
         left = others;
-        k += 1;
     }
 }
 

@@ -20,10 +20,8 @@ fn copy(from: &[u8; LISTING_BYTES], to: &mut [u8])
     requires to_len { length to.old ≡ listing_bytes }
     ensures { to.new ≡ from.now }
 {
-    let mut i = 0;
-    while i < LISTING_BYTES {
+    for i in 0..LISTING_BYTES {
         to[i] = from[i];
-        i += 1;
     }
 }
 

@@ -33,10 +33,8 @@ fn popped(stack: &[u8; MAX_NODES], top: usize, arity: usize) -> [u8; MAX_ARITY]
     ensures { Filled (byte_from stack.now top) arity result }
 {
     let mut numbers = [0u8; MAX_ARITY];
-    let mut k = 0;
-    while k < arity {
+    for k in 0..arity {
         numbers[k] = stack[top + k];
-        k += 1;
     }
     numbers
 }
@@ -52,12 +50,10 @@ fn same_children(
     requires arity_le_max_arity { arity ≤ max_arity }
     ensures { result ≡ every (same_child children.now j numbers) (up_from 0 arity) }
 {
-    let mut k = 0;
-    while k < arity {
+    for k in 0..arity {
         if children[MAX_ARITY * j + k] != numbers[k] {
             return false;
         }
-        k += 1;
     }
     true
 }
@@ -101,12 +97,10 @@ pub fn search(
     ensures { First (same_node labels.now arities.now children.now label arity
         numbers) found result }
 {
-    let mut j = 0;
-    while j < found {
+    for j in 0..found {
         if same_node(labels, arities, children, j, label, arity, numbers) {
             return j;
         }
-        j += 1;
     }
     found
 }
@@ -116,10 +110,8 @@ fn store_children(children: &mut [u8; CHILD_NUMBERS], j: usize, numbers: [u8; MA
     requires j_lt_max_nodes { j < max_nodes }
     ensures { ChildrenStored children.old j numbers children.new }
 {
-    let mut k = 0;
-    while k < MAX_ARITY {
+    for k in 0..MAX_ARITY {
         children[MAX_ARITY * j + k] = numbers[k];
-        k += 1;
     }
 }
 

@@ -208,10 +208,8 @@ fn clear(listing: &mut [u8; LISTING_BYTES])
     requires { length listing.old ≡ listing_bytes }
     ensures { listing.new ≡ no_listing }
 {
-    let mut i = 0;
-    while i < LISTING_BYTES {
+    for i in 0..LISTING_BYTES {
         listing[i] = 0;
-        i += 1;
     }
 }
 

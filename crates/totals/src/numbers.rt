@@ -50,15 +50,13 @@ pub fn same(a: &[u64; SLOTS], b: &[u64; SLOTS], n: usize) -> bool
     requires { n < byte_values }
     ensures { result ≡ every (same_in a.now b.now) (up_from 1 n) }
 {
-    let mut q = 1;
-    while q <= n {
+    for q in 1..n + 1 {
         if a[q] != b[q] {
             return false;
         }
         if a[BYTE_VALUES + q] != b[BYTE_VALUES + q] {
             return false;
         }
-        q += 1;
     }
     true
 }

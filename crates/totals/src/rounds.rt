@@ -22,11 +22,9 @@ pub fn product(transitions: &[u8], at: usize, numbers: &[u64; SLOTS]) -> Total
 {
     let arity = arity_of(transitions, at);
     let mut number = Total::Number { value: 1 };
-    let mut k = 0;
-    while k < arity {
+    for k in 0..arity {
         let q = arg_of(transitions, at, k);
         number = times(number, number_of(numbers, q));
-        k += 1;
     }
     number
 }
@@ -47,10 +45,8 @@ pub fn round(transitions: &[u8], count: usize, numbers: &[u64; SLOTS]) -> [u64; 
     ensures { Sums (number_in numbers.now) (transitions_in transitions.now count) result }
 {
     let mut sums = [0u64; SLOTS];
-    let mut i = 0;
-    while i < count {
+    for i in 0..count {
         add_product(transitions, TRANSITION_BYTES * i, numbers, &mut sums);
-        i += 1;
     }
     sums
 }
@@ -62,10 +58,8 @@ pub fn rounds(transitions: &[u8], count: usize, n: usize) -> [u64; SLOTS]
     ensures { (cl : List ℕ) → NumbersOf (viewed cl transitions.now n count) result }
 {
     let mut numbers = [0u64; SLOTS];
-    let mut depth = 0;
-    while depth < n {
+    for depth in 0..n {
         numbers = round(transitions, count, &numbers);
-        depth += 1;
     }
     numbers
 }

@@ -77,9 +77,7 @@ pub fn settle_all(
     requires numbers_len { length numbers.old ≡ slots }
     ensures { length numbers.new ≡ slots }
 {
-    let mut q = 1;
-    while q <= n {
+    for q in 1..n + 1 {
         settle(transitions, count, links, q, numbers);
-        q += 1;
     }
 }

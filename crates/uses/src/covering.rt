@@ -46,10 +46,8 @@ fn choices(transitions: &[u8], at: usize, k: usize, weights: &[u8; BYTE_VALUES])
 {
     let arity = arity_of(transitions, at);
     let mut product = 1;
-    let mut x = 0;
-    while x < arity {
+    for x in 0..arity {
         product = capped(product * factor(transitions, at, k, weights, x));
-        x += 1;
     }
     product
 }

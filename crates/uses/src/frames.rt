@@ -56,12 +56,10 @@ fn same_siblings(
     ensures { result ≡ every (same_sibling transitions.now at k children.now states.now i) (up_from 0 (arity_of transitions.now at)) }
 {
     let arity = arity_of(transitions, at);
-    let mut x = 0;
-    while x < arity {
+    for x in 0..arity {
         if !same_sibling(transitions, at, k, children, states, i, x) {
             return false;
         }
-        x += 1;
     }
     true
 }
@@ -112,12 +110,10 @@ fn same_children(children: &[u8; CHILD_NUMBERS], k: usize, i: usize, h: usize, a
     requires arity_le_max_arity { arity ≤ max_arity }
     ensures { result ≡ every (same_child children.now k i h) (up_from 0 arity) }
 {
-    let mut x = 0;
-    while x < arity {
+    for x in 0..arity {
         if !same_child(children, k, i, h, x) {
             return false;
         }
-        x += 1;
     }
     true
 }
@@ -168,12 +164,10 @@ fn has_twin(
     ensures { result ≡ any (twin labels.now arities.now children.now j k i)
         (up_from 0 m) }
 {
-    let mut h = 0;
-    while h < m {
+    for h in 0..m {
         if is_twin(labels, arities, children, j, k, i, h) {
             return true;
         }
-        h += 1;
     }
     false
 }
@@ -258,8 +252,7 @@ pub fn frame_count(
     ensures upper_bound { result ≤ max_nodes }
 {
     let mut found = 0;
-    let mut i = start;
-    while i < end {
+    for i in start..end {
         found = found
             + framed_at(
                 transitions,
@@ -274,7 +267,6 @@ pub fn frame_count(
                 v,
                 i,
             );
-        i += 1;
     }
     found
 }

@@ -30,10 +30,8 @@ fn has_neither(transitions: &[u8], at: usize, p: u8, q: u8) -> bool
     ensures { result ≡ every (neither_at transitions.now at p q) (up_from 0 max_arity) }
 {
     let mut neither = true;
-    let mut k = 0;
-    while k < MAX_ARITY {
+    for k in 0..MAX_ARITY {
         neither = neither & is_neither(transitions[at + ARGS_AT + k], p, q);
-        k += 1;
     }
     neither
 }
@@ -65,8 +63,7 @@ fn transition_agrees(
     let meta = meta_at(transitions, at);
     let args = args_at(transitions, at);
     let arity = arity_of(transitions, at);
-    let mut k = 0;
-    while k < arity {
+    for k in 0..arity {
         if !place_agrees(
             transitions,
             count,
@@ -90,7 +87,6 @@ fn transition_agrees(
         ) {
             return false;
         }
-        k += 1;
     }
     true
 }
@@ -185,8 +181,7 @@ pub fn transitions_agree(
     ensures { result ≡ transitions_agree (arrays labels.now arities.now children.now states.now weights.now m j v) transitions.now count p q }
 {
     let to = greater(entry(lasts, p), entry(lasts, q));
-    let mut i = lesser(entry(lows, p), entry(lows, q));
-    while i < to {
+    for i in lesser(entry(lows, p), entry(lows, q))..to {
         if !unused_or_agrees(
             transitions,
             count,
@@ -207,7 +202,6 @@ pub fn transitions_agree(
         ) {
             return false;
         }
-        i += 1;
     }
     true
 }

@@ -44,10 +44,8 @@ fn note_args(
     ensures { Noted transitions.now (i + 1) lows.new lasts.new }
 {
     let arity = arity_of(transitions, TRANSITION_BYTES * i);
-    let mut k = 0;
-    while k < arity {
+    for k in 0..arity {
         note_arg(transitions, i, k, lows, lasts);
-        k += 1;
     }
 }
 
@@ -64,10 +62,8 @@ pub fn note_uses(
 {
     *lows = [65535u16; BYTE_VALUES];
     *lasts = [0u16; BYTE_VALUES];
-    let mut i = 0;
-    while i < count {
+    for i in 0..count {
         note_args(transitions, i, lows, lasts);
-        i += 1;
     }
 }
 

@@ -114,8 +114,7 @@ fn transition_slot(
     ensures { SlotUsed (arrays labels.now arities.now children.now states.now weights.now m j 0) transitions.now count p result }
 {
     let arity = arity_of(transitions, TRANSITION_BYTES * i);
-    let mut k = 0;
-    while k < arity {
+    for k in 0..arity {
         let z = place_slot(
             transitions,
             count,
@@ -136,7 +135,6 @@ fn transition_slot(
         if z.out != 0 {
             return z;
         }
-        k += 1;
     }
     no_slot()
 }

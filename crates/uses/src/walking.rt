@@ -333,8 +333,7 @@ pub fn walk_agrees(
     let to = greater(entry(lasts, p), entry(lasts, q));
     let from = lesser(lesser(entry(lows, p), entry(lows, q)), to);
     let places = width(transitions, count, to);
-    let mut k = 0;
-    while k < places {
+    for k in 0..places {
         if !place_agrees_in_step(
             transitions,
             count,
@@ -357,7 +356,6 @@ pub fn walk_agrees(
         ) {
             return false;
         }
-        k += 1;
     }
     true
 }

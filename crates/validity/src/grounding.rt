@@ -37,10 +37,8 @@ fn block_all(
     requires blocks { Blocks transitions.now marks.now 0 blocked.old }
     ensures { Blocks transitions.now marks.now count blocked.new }
 {
-    let mut i = 0;
-    while i < count {
+    for i in 0..count {
         block(transitions, i, marks, blocked);
-        i += 1;
     }
 }
 
@@ -67,11 +65,9 @@ fn ground_unblocked(blocked: &[u8; BYTE_VALUES], n: usize, marks: &mut [u8; BYTE
     ensures { Spread (UpTo (Unblocked blocked.now) n) marks.old marks.new result }
 {
     let mut changed = false;
-    let mut k = 0;
-    while k < n {
+    for k in 0..n {
         let r = ground(blocked, k, marks);
         changed = changed | r;
-        k += 1;
     }
     changed
 }

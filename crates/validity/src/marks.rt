@@ -16,12 +16,10 @@ pub fn all_marked(marks: &[u8; BYTE_VALUES], from: usize, end: usize) -> bool
     requires { end ≤ byte_values }
     ensures { result ≡ every (marked marks.now) (up_from from (end - from)) }
 {
-    let mut q = from;
-    while q < end {
+    for q in from..end {
         if marks[q] == 0 {
             return false;
         }
-        q += 1;
     }
     true
 }
@@ -32,13 +30,11 @@ pub fn args_marked(transitions: &[u8], at: usize, marks: &[u8; BYTE_VALUES]) -> 
     ensures { result ≡ every (marked marks.now) (transition_at transitions.now at).args }
 {
     let arity = arity_of(transitions, at);
-    let mut k = 0;
-    while k < arity {
+    for k in 0..arity {
         let q = arg_of(transitions, at, k);
         if marks[q] == 0 {
             return false;
         }
-        k += 1;
     }
     true
 }

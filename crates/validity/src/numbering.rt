@@ -42,11 +42,9 @@ fn top_argument(transitions: &[u8], at: usize) -> usize
     ensures { result ≡ top (transition_at transitions.now at).args }
 {
     let mut t = 0;
-    let mut k = 0;
-    while k < MAX_ARITY {
+    for k in 0..MAX_ARITY {
         let q = arg_of(transitions, at, k);
         t = greater(t, q);
-        k += 1;
     }
     t
 }
@@ -128,8 +126,7 @@ pub fn ruled(transitions: &[u8], count: usize, n: usize) -> Ruling
 {
     let mut seen = [0u8; BYTE_VALUES];
     let mut climbing = true;
-    let mut i = 0;
-    while i < count {
+    for i in 0..count {
         let above = climbs(transitions, i);
         climbing = climbing & above;
         if !read(transitions, i, &mut seen) {
@@ -138,7 +135,6 @@ pub fn ruled(transitions: &[u8], count: usize, n: usize) -> Ruling
                 climbing: false,
             };
         }
-        i += 1;
     }
     Ruling {
         numbered: all_marked(&seen, 1, n + 1),

@@ -20,13 +20,11 @@ fn args_below(transitions: &[u8], at: usize, ranks: &[u8; BYTE_VALUES], bound: u
         ).args }
 {
     let arity = arity_of(transitions, at);
-    let mut k = 0;
-    while k < arity {
+    for k in 0..arity {
         let q = arg_of(transitions, at, k);
         if ranks[q] >= bound {
             return false;
         }
-        k += 1;
     }
     true
 }
@@ -36,13 +34,11 @@ pub fn ranks_rise(transitions: &[u8], count: usize, ranks: &[u8; BYTE_VALUES]) -
     requires { HoldsTransitions transitions.now count }
     ensures { result ≡ every (rises_by (rank_of ranks.now)) (transitions_in transitions.now count) }
 {
-    let mut i = 0;
-    while i < count {
+    for i in 0..count {
         let out = out_of(transitions, TRANSITION_BYTES * i);
         if !args_below(transitions, TRANSITION_BYTES * i, ranks, ranks[out]) {
             return false;
         }
-        i += 1;
     }
     true
 }
@@ -89,13 +85,11 @@ fn unranked_arg(transitions: &[u8], at: usize, ranks: &[u8; BYTE_VALUES]) -> usi
     ensures { result < byte_values }
 {
     let arity = arity_of(transitions, at);
-    let mut k = 0;
-    while k < arity {
+    for k in 0..arity {
         let q = arg_of(transitions, at, k);
         if ranks[q] == 0 {
             return q;
         }
-        k += 1;
     }
     0
 }

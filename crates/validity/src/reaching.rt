@@ -34,11 +34,9 @@ fn mark_outputs(transitions: &[u8], count: usize, marks: &mut [u8; BYTE_VALUES])
     ensures { Spread (UpTo (nth_up transitions.now) count) marks.old marks.new result }
 {
     let mut changed = false;
-    let mut i = 0;
-    while i < count {
+    for i in 0..count {
         let r = mark_output(transitions, TRANSITION_BYTES * i, marks);
         changed = changed | r;
-        i += 1;
     }
     changed
 }

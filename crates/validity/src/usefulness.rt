@@ -25,12 +25,10 @@ fn use_args(transitions: &[u8], at: usize, marks: &mut [u8; BYTE_VALUES]) -> boo
 {
     let arity = arity_of(transitions, at);
     let mut changed = false;
-    let mut k = 0;
-    while k < arity {
+    for k in 0..arity {
         let q = arg_of(transitions, at, k);
         let r = mark(marks, q);
         changed = changed | r;
-        k += 1;
     }
     changed
 }
@@ -55,11 +53,9 @@ fn use_all(transitions: &[u8], count: usize, marks: &mut [u8; BYTE_VALUES]) -> b
     ensures { Spread (UpTo (nth_down transitions.now) count) marks.old marks.new result }
 {
     let mut changed = false;
-    let mut j = 0;
-    while j < count {
+    for j in 0..count {
         let r = use_transition(transitions, TRANSITION_BYTES * (count - 1 - j), marks);
         changed = changed | r;
-        j += 1;
     }
     changed
 }
@@ -84,10 +80,8 @@ fn accepting_marks(classes: &[u8], n: usize) -> [u8; BYTE_VALUES]
     ensures { Exactly (accepting (viewed classes.now [] n 0)) result }
 {
     let mut marks = [0u8; BYTE_VALUES];
-    let mut q = 1;
-    while q <= n {
+    for q in 1..n + 1 {
         marks[q] = class_mark(classes, n, q);
-        q += 1;
     }
     marks
 }

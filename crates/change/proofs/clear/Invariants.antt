@@ -6,6 +6,3 @@ use Rattle.change.proofs.clear.Given as goal
 
 abbrev pub invariant-loop-i : goal.invariant-loop-i
 invariant-loop-i l = ClearedTo (length l.initial.scratch) l.scratch l.i
-
-abbrev pub decreases-loop-i : goal.decreases-loop-i
-decreases-loop-i l = length l.initial.scratch - l.i

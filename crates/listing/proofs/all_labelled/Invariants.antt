@@ -6,6 +6,3 @@ use Rattle.listing.proofs.all_labelled.Given as goal
 
 abbrev pub invariant-loop-i : goal.invariant-loop-i
 invariant-loop-i l = EveryFrom (all_labelled l.s) (labelled l.s) (nodes_in l.s) l.i
-
-abbrev pub decreases-loop-i : goal.decreases-loop-i
-decreases-loop-i l = nodes_in l.s - l.i

@@ -7,6 +7,3 @@ use Rattle.pairs.proofs.weigh.Given as goal
 
 abbrev pub invariant-loop-q : goal.invariant-loop-q
 invariant-loop-q l = FilledTo byte_values (weight_of l.counts l.marks) l.weights l.q
-
-abbrev pub decreases-loop-q : goal.decreases-loop-q
-decreases-loop-q l = 256 - l.q

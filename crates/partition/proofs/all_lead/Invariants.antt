@@ -8,6 +8,3 @@ use Rattle.partition.proofs.all_lead.Given as goal
 
 abbrev pub invariant-loop-q : goal.invariant-loop-q
 invariant-loop-q l = (1 ≤ l.q) × EveryFrom (every (leads l.parts) (up_from 1 l.n)) (leads l.parts) (l.n + 1) l.q
-
-abbrev pub decreases-loop-q : goal.decreases-loop-q
-decreases-loop-q l = l.n + 1 - l.q

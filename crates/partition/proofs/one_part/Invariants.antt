@@ -5,6 +5,3 @@ use Rattle.partition.proofs.one_part.Given as goal
 
 abbrev pub invariant-loop-q : goal.invariant-loop-q
 invariant-loop-q l = (1 ≤ l.q) × (l.q ≤ l.n + 1) × WholeBelow l.q l.parts
-
-abbrev pub decreases-loop-q : goal.decreases-loop-q
-decreases-loop-q l = l.n + 1 - l.q

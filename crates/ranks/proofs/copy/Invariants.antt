@@ -7,6 +7,3 @@ use Rattle.ranks.proofs.copy.Given as goal
 
 abbrev pub invariant-loop-i : goal.invariant-loop-i
 invariant-loop-i l = FilledTo max_listing (λ j. get_or l.from j 0) l.to l.i
-
-abbrev pub decreases-loop-i : goal.decreases-loop-i
-decreases-loop-i l = max_listing - l.i

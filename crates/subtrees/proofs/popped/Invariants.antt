@@ -6,6 +6,3 @@ use Rattle.subtrees.proofs.popped.Given as goal
 
 abbrev pub invariant-loop-k : goal.invariant-loop-k
 invariant-loop-k l = (l.k ≤ l.arity) × Filled (byte_from l.stack l.top) l.k l.numbers
-
-abbrev pub decreases-loop-k : goal.decreases-loop-k
-decreases-loop-k l = l.arity - l.k

@@ -8,6 +8,3 @@ use Rattle.subtrees.proofs.same_children.Given as goal
 
 abbrev pub invariant-loop-k : goal.invariant-loop-k
 invariant-loop-k l = EveryFrom (every (same_child l.children l.j l.numbers) (up_from 0 l.arity)) (same_child l.children l.j l.numbers) l.arity l.k
-
-abbrev pub decreases-loop-k : goal.decreases-loop-k
-decreases-loop-k l = l.arity - l.k

@@ -7,6 +7,3 @@ use Rattle.subtrees.proofs.search.Given as goal
 
 abbrev pub invariant-loop-j : goal.invariant-loop-j
 invariant-loop-j l = (l.j ≤ l.found) × ((i : ℕ) → i < l.j → same_node l.labels l.arities l.children l.label l.arity l.numbers i ≡ false)
-
-abbrev pub decreases-loop-j : goal.decreases-loop-j
-decreases-loop-j l = l.found - l.j

@@ -5,6 +5,3 @@ use Rattle.subtrees.proofs.store_children.Given as goal
 
 abbrev pub invariant-loop-k : goal.invariant-loop-k
 invariant-loop-k l = StoredTo l.initial.children l.j l.numbers l.children l.k
-
-abbrev pub decreases-loop-k : goal.decreases-loop-k
-decreases-loop-k l = 8 - l.k

@@ -6,6 +6,3 @@ use Rattle.text.proofs.clear.Given as goal
 
 abbrev pub invariant-loop-i : goal.invariant-loop-i
 invariant-loop-i l = ClearedTo listing_bytes l.listing l.i
-
-abbrev pub decreases-loop-i : goal.decreases-loop-i
-decreases-loop-i l = listing_bytes - l.i

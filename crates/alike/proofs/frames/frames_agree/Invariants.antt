@@ -11,6 +11,3 @@ abbrev pub invariant-loop-i : goal.invariant-loop-i
 invariant-loop-i l = (l.from ≤ l.i) × Given l.transitions l.count l.m l.labels l.arities l.children l.states l.names l.a l.state l.x
     (λ A N ts. EveryFrom (every (parent_agrees A N ts l.labels l.arities l.children l.a l.state l.x) (up_from 0 l.m))
     (parent_agrees A N ts l.labels l.arities l.children l.a l.state l.x) (l.from + (l.to - l.from)) l.i)
-
-abbrev pub decreases-loop-i : goal.decreases-loop-i
-decreases-loop-i l = l.to - l.i

@@ -10,6 +10,3 @@ use Rattle.alike.proofs.frames.parent_agrees.Given as goal
 abbrev pub invariant-loop-k : goal.invariant-loop-k
 invariant-loop-k l = (l.arity ≡ get_or l.arities l.i 0) × Given l.transitions l.count l.m l.labels l.arities l.children l.states l.names l.a l.state l.x
     (λ A N ts. EveryFrom (parent_agrees A N ts l.labels l.arities l.children l.a l.state l.x l.i) (place_agrees A N ts l.labels l.arities l.children l.a l.state l.x l.i) (get_or l.arities l.i 0) l.k)
-
-abbrev pub decreases-loop-k : goal.decreases-loop-k
-decreases-loop-k l = l.arity - l.k

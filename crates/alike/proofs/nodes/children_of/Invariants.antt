@@ -6,6 +6,3 @@ use Rattle.alike.proofs.nodes.children_of.Given as goal
 
 abbrev pub invariant-loop-k : goal.invariant-loop-k
 invariant-loop-k l = (l.k ≤ l.arity) × Filled (child_at l.children l.i) l.k l.numbers
-
-abbrev pub decreases-loop-k : goal.decreases-loop-k
-decreases-loop-k l = l.arity - l.k

@@ -6,6 +6,3 @@ use Rattle.alike.proofs.nodes.some_zero.Given as goal
 
 abbrev pub invariant-loop-k : goal.invariant-loop-k
 invariant-loop-k l = (l.k ≤ l.arity) × ((i : ℕ) → i < l.k → get_or l.qs i 0 ≡ 0 → ⊥)
-
-abbrev pub decreases-loop-k : goal.decreases-loop-k
-decreases-loop-k l = l.arity - l.k

@@ -6,6 +6,3 @@ use Rattle.alike.proofs.slots.parent_slot.Given as goal
 
 abbrev pub invariant-loop-k : goal.invariant-loop-k
 invariant-loop-k l = l.arity ≡ get_or l.arities l.i 0
-
-abbrev pub decreases-loop-k : goal.decreases-loop-k
-decreases-loop-k l = l.arity - l.k

@@ -6,6 +6,3 @@ use Rattle.change.proofs.classes.classify_names.Given as goal
 
 abbrev pub invariant-loop-p : goal.invariant-loop-p
 invariant-loop-p l = (1 ≤ l.p) × (l.p ≤ l.n + l.m + 1) × ClassedBelow (class_of_name l.table l.n l.states (l.n + l.m) l.inserting) l.classes l.p
-
-abbrev pub decreases-loop-p : goal.decreases-loop-p
-decreases-loop-p l = l.n + l.m + 1 - l.p

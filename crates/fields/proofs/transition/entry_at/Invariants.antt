@@ -7,6 +7,3 @@ use Rattle.fields.proofs.transition.entry_at.Given as goal
 
 abbrev pub invariant-loop-j : goal.invariant-loop-j
 invariant-loop-j l = FilledTo transition_bytes (byte_from l.transitions l.at) l.entry l.j
-
-abbrev pub decreases-loop-j : goal.decreases-loop-j
-decreases-loop-j l = transition_bytes - l.j

@@ -9,6 +9,3 @@ use Rattle.fingerprints.proofs.differing.all_differ.Given as goal
 abbrev pub invariant-loop-q : goal.invariant-loop-q
 invariant-loop-q l = (1 ≤ l.q) × EveryFrom (every (differs_below l.prints) (up_from 1 l.n)) (differs_below l.prints) (l.n + 1) l.q ×
     TakenBelow l.prints l.q l.taken
-
-abbrev pub decreases-loop-q : goal.decreases-loop-q
-decreases-loop-q l = l.n + 1 - l.q

@@ -8,6 +8,3 @@ use Rattle.fingerprints.proofs.differing.all_some.Given as goal
 
 abbrev pub invariant-loop-q : goal.invariant-loop-q
 invariant-loop-q l = CleanFrom (every (some_at l.prints) (up_from 1 l.n)) l.all (some_at l.prints) (l.n + 1) l.q
-
-abbrev pub decreases-loop-q : goal.decreases-loop-q
-decreases-loop-q l = l.n + 1 - l.q

@@ -6,6 +6,3 @@ use Rattle.fingerprints.proofs.differing.differs_below.Given as goal
 
 abbrev pub invariant-loop-p : goal.invariant-loop-p
 invariant-loop-p l = (l.print ≡ print_of l.prints l.q) × CleanFrom (differs_below l.prints l.q) l.alone (differs l.prints l.q) l.q l.p
-
-abbrev pub decreases-loop-p : goal.decreases-loop-p
-decreases-loop-p l = l.q - l.p

@@ -8,6 +8,3 @@ use Rattle.fingerprints.proofs.prints.add_all_uses.Given as goal
 
 abbrev pub invariant-loop-i : goal.invariant-loop-i
 invariant-loop-i l = (l.i ≤ l.count) × Filling (gains (transitions_in l.transitions l.count)) (gains_from l.transitions l.count l.i) l.initial.prints l.prints
-
-abbrev pub decreases-loop-i : goal.decreases-loop-i
-decreases-loop-i l = l.count - l.i

@@ -11,6 +11,3 @@ abbrev pub invariant-loop-k : goal.invariant-loop-k
 invariant-loop-k l = (l.k ≤ l.arity) × (l.arity ≡ arity_of l.transitions (transition_bytes * l.i)) ×
     (l.all ≡ xored (nth_transition l.transitions l.i).args 0 (salted (label_of l.transitions (transition_bytes * l.i)) l.x)) ×
     Filling (gain (nth_transition l.transitions l.i) l.x) (gain_from l.transitions (transition_bytes * l.i) l.x l.k) l.initial.prints l.prints
-
-abbrev pub decreases-loop-k : goal.decreases-loop-k
-decreases-loop-k l = l.arity - l.k

@@ -5,6 +5,3 @@ use Rattle.fingerprints.proofs.prints.class_prints.Given as goal
 
 abbrev pub invariant-loop-q : goal.invariant-loop-q
 invariant-loop-q l = (1 ≤ l.q) × (l.q ≤ l.n + 1) × ClassBelow l.classes l.q l.prints
-
-abbrev pub decreases-loop-q : goal.decreases-loop-q
-decreases-loop-q l = l.n + 1 - l.q

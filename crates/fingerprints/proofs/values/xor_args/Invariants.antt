@@ -8,6 +8,3 @@ use Rattle.fingerprints.proofs.values.xor_args.Given as goal
 abbrev pub invariant-loop-k : goal.invariant-loop-k
 invariant-loop-k l = (l.k ≤ l.arity) × (l.arity ≡ arity_of l.transitions l.at) ×
     (xored (args_from l.transitions l.at l.k) l.k l.all ≡ xored (transition_at l.transitions l.at).args 0 l.y)
-
-abbrev pub decreases-loop-k : goal.decreases-loop-k
-decreases-loop-k l = l.arity - l.k

@@ -11,6 +11,3 @@ use Rattle.minimize.proofs.number.args_precede.Given as goal
 abbrev pub invariant-loop-k : goal.invariant-loop-k
 invariant-loop-k l = LexFrom (lex (map (name_in l.numbers) (first_args l.transitions l.a l.n)) (map (name_in l.numbers) (first_args l.transitions l.b l.n))) (arg_name
     l.numbers l.transitions l.a) (arg_name l.numbers l.transitions l.b) l.n l.k
-
-abbrev pub decreases-loop-k : goal.decreases-loop-k
-decreases-loop-k l = l.n - l.k

@@ -8,6 +8,3 @@ use Rattle.minimize.proofs.number.first_ready.Given as goal
 
 abbrev pub invariant-loop-i : goal.invariant-loop-i
 invariant-loop-i l = (l.best ≤ l.count) × (l.i ≤ l.count) × ((o : List ℕ) → NumbersOf l.numbers o → BestFrom o l.transitions l.count l.best l.i)
-
-abbrev pub decreases-loop-i : goal.decreases-loop-i
-decreases-loop-i l = l.count - l.i

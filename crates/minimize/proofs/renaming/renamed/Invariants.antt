@@ -8,6 +8,3 @@ use Rattle.minimize.proofs.renaming.renamed.Given as goal
 
 abbrev pub invariant-loop-k : goal.invariant-loop-k
 invariant-loop-k l = (l.n ≡ arity_of l.transitions l.at) × Renaming l.transitions l.at l.names l.entry l.k
-
-abbrev pub decreases-loop-k : goal.decreases-loop-k
-decreases-loop-k l = l.n - l.k

@@ -6,6 +6,3 @@ use Rattle.naming.proofs.classes.classify.Given as goal
 
 abbrev pub invariant-loop-j : goal.invariant-loop-j
 invariant-loop-j l = (l.j ≤ l.m) × ClassedTo (subtree_class l.table l.states l.root l.inserting) l.classes l.j
-
-abbrev pub decreases-loop-j : goal.decreases-loop-j
-decreases-loop-j l = l.m - l.j

@@ -9,6 +9,3 @@ use Rattle.naming.proofs.parents.is_child.Given as goal
 abbrev pub invariant-loop-k : goal.invariant-loop-k
 invariant-loop-k l = (l.arity ≡ get_or l.arities (l.i - 1) 0) × AnyFrom (is_child l.arities l.children l.i l.j) (child_is l.children l.i l.j) (get_or l.arities (l.i
     - 1) 0) l.k
-
-abbrev pub decreases-loop-k : goal.decreases-loop-k
-decreases-loop-k l = l.arity - l.k

@@ -8,6 +8,3 @@ use Rattle.naming.proofs.parents.note_children.Given as goal
 
 abbrev pub invariant-loop-k : goal.invariant-loop-k
 invariant-loop-k l = (l.arity ≡ get_or l.arities l.i 0) × (l.k ≤ l.arity) × ParentsNoted l.arities l.children (l.i + 1) (max_arity * l.i + l.k) l.froms l.tos
-
-abbrev pub decreases-loop-k : goal.decreases-loop-k
-decreases-loop-k l = l.arity - l.k

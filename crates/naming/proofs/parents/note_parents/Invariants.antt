@@ -6,6 +6,3 @@ use Rattle.naming.proofs.parents.note_parents.Given as goal
 
 abbrev pub invariant-loop-i : goal.invariant-loop-i
 invariant-loop-i l = (l.i ≤ l.m) × ParentsNoted l.arities l.children l.i (max_arity * l.i) l.froms l.tos
-
-abbrev pub decreases-loop-i : goal.decreases-loop-i
-decreases-loop-i l = l.m - l.i

@@ -6,6 +6,3 @@ use Rattle.numbering.proofs.givers.place_few.Given as goal
 
 abbrev pub invariant-loop-q : goal.invariant-loop-q
 invariant-loop-q l = (l.q ≤ l.n + 1) × (l.new ≤ 256) × (length l.next ≡ length l.initial.next)
-
-abbrev pub decreases-loop-q : goal.decreases-loop-q
-decreases-loop-q l = l.n + 1 - l.q

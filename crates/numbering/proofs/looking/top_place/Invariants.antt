@@ -10,6 +10,3 @@ use Rattle.numbering.proofs.looking.top_place.Given as goal
 
 abbrev pub invariant-loop-k : goal.invariant-loop-k
 invariant-loop-k l = TopFrom (top (map (place_of l.args) (up_from 0 l.arity))) (place_of l.args) l.arity l.t l.k
-
-abbrev pub decreases-loop-k : goal.decreases-loop-k
-decreases-loop-k l = l.arity - l.k

@@ -8,6 +8,3 @@ use Rattle.numbering.proofs.order.follow.Given as goal
 abbrev pub invariant-loop-turns : goal.invariant-loop-turns
 invariant-loop-turns l = (l.turns ≤ l.count) × (l.size ≤ length l.room) × (l.states ≤ l.outputs) × (l.new ≤ 256) × (length l.order ≡ 256) × (length l.next ≡
     length l.initial.next) × (length l.room ≡ length l.initial.room) × Room l.room l.spare
-
-abbrev pub decreases-loop-turns : goal.decreases-loop-turns
-decreases-loop-turns l = l.count - l.turns

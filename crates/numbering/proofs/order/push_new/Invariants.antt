@@ -7,6 +7,3 @@ use Rattle.numbering.proofs.order.push_new.Given as goal
 
 abbrev pub invariant-loop-k : goal.invariant-loop-k
 invariant-loop-k l = (l.k ≤ l.new) × (l.size ≤ length l.room) × (length l.room ≡ length l.initial.room) × Room l.room l.spare
-
-abbrev pub decreases-loop-k : goal.decreases-loop-k
-decreases-loop-k l = l.new - l.k

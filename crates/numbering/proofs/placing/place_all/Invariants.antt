@@ -6,6 +6,3 @@ use Rattle.numbering.proofs.placing.place_all.Given as goal
 
 abbrev pub invariant-loop-i : goal.invariant-loop-i
 invariant-loop-i l = (l.i ≤ l.count) × (l.new ≤ 256) × (length l.next ≡ length l.initial.next)
-
-abbrev pub decreases-loop-i : goal.decreases-loop-i
-decreases-loop-i l = l.count - l.i

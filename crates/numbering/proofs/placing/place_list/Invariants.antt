@@ -6,6 +6,3 @@ use Rattle.numbering.proofs.placing.place_list.Given as goal
 
 abbrev pub invariant-loop-turns : goal.invariant-loop-turns
 invariant-loop-turns l = (l.turns ≤ length l.next) × (l.new ≤ 256) × (length l.next ≡ length l.initial.next)
-
-abbrev pub decreases-loop-turns : goal.decreases-loop-turns
-decreases-loop-turns l = length l.initial.next - l.turns

@@ -5,6 +5,3 @@ use Rattle.numbering.proofs.renumbering.rename_args.Given as goal
 
 abbrev pub invariant-loop-k : goal.invariant-loop-k
 invariant-loop-k l = ArgsRenamed l.numbers l.args l.arity l.whole l.v l.k
-
-abbrev pub decreases-loop-k : goal.decreases-loop-k
-decreases-loop-k l = l.arity - l.k

@@ -6,6 +6,3 @@ use Rattle.numbering.proofs.renumbering.renumber.Given as goal
 
 abbrev pub invariant-loop-i : goal.invariant-loop-i
 invariant-loop-i l = RenumberedTo l.numbers l.initial.heads l.initial.args l.heads l.args l.count l.i
-
-abbrev pub decreases-loop-i : goal.decreases-loop-i
-decreases-loop-i l = l.count - l.i

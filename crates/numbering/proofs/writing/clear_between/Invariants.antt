@@ -5,6 +5,3 @@ use Rattle.numbering.proofs.writing.clear_between.Given as goal
 
 abbrev pub invariant-loop-i : goal.invariant-loop-i
 invariant-loop-i l = (l.i ≤ l.start + (l.end - l.start)) × ZerosTo l.initial.table l.table l.start l.i
-
-abbrev pub decreases-loop-i : goal.decreases-loop-i
-decreases-loop-i l = l.end - l.i

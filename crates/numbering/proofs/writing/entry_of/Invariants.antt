@@ -5,6 +5,3 @@ use Rattle.numbering.proofs.writing.entry_of.Given as goal
 
 abbrev pub invariant-loop-k : goal.invariant-loop-k
 invariant-loop-k l = EntryTo l.entry l.head l.args l.k
-
-abbrev pub decreases-loop-k : goal.decreases-loop-k
-decreases-loop-k l = 8 - l.k

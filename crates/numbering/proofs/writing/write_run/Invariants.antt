@@ -5,6 +5,3 @@ use Rattle.numbering.proofs.writing.write_run.Given as goal
 
 abbrev pub invariant-loop-i : goal.invariant-loop-i
 invariant-loop-i l = (l.i ≤ l.count) × RunPut l.initial.to l.to l.heads l.args l.start l.i
-
-abbrev pub decreases-loop-i : goal.decreases-loop-i
-decreases-loop-i l = l.count - l.i

@@ -8,6 +8,3 @@ use Rattle.packed.proofs.layout.args_in_range.Given as goal
 
 abbrev pub invariant-loop-k : goal.invariant-loop-k
 invariant-loop-k l = EveryFrom (every (arg_in_range l.transitions l.states l.at) (up_from 0 l.arity)) (arg_in_range l.transitions l.states l.at) l.arity l.k
-
-abbrev pub decreases-loop-k : goal.decreases-loop-k
-decreases-loop-k l = l.arity - l.k

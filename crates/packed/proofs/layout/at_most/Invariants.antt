@@ -11,6 +11,3 @@ use Rattle.packed.proofs.layout.at_most.Given as goal
 abbrev pub invariant-loop-j : goal.invariant-loop-j
 invariant-loop-j l = (l.from ≤ l.j) × CleanFrom (every (at_most l.transitions l.bound) (up_from l.from (l.end - l.from))) (leb l.top l.bound) (at_most l.transitions l.bound)
     (l.from + (l.end - l.from)) l.j
-
-abbrev pub decreases-loop-j : goal.decreases-loop-j
-decreases-loop-j l = l.end - l.j

@@ -8,6 +8,3 @@ use Rattle.packed.proofs.layout.transitions_fit.Given as goal
 
 abbrev pub invariant-loop-i : goal.invariant-loop-i
 invariant-loop-i l = EveryFrom (every (nth_fits l.transitions l.states) (up_from 0 l.count)) (nth_fits l.transitions l.states) l.count l.i
-
-abbrev pub decreases-loop-i : goal.decreases-loop-i
-decreases-loop-i l = l.count - l.i

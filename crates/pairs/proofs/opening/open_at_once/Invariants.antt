@@ -6,6 +6,3 @@ use Rattle.pairs.proofs.opening.open_at_once.Given as goal
 
 abbrev pub invariant-loop-q : goal.invariant-loop-q
 invariant-loop-q l = (l.q ≤ 256) × MarkedTo (starts_at l.counts l.sums) l.marks l.q
-
-abbrev pub decreases-loop-q : goal.decreases-loop-q
-decreases-loop-q l = 256 - l.q

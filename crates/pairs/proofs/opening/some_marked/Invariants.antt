@@ -10,6 +10,3 @@ use Rattle.pairs.proofs.opening.some_marked.Given as goal
 abbrev pub invariant-loop-k : goal.invariant-loop-k
 invariant-loop-k l = (l.arity ≡ arity_of l.transitions l.at) × AnyFrom (any (marked l.marks) (transition_at l.transitions l.at).args)
     (λ j. marked l.marks (arg_of l.transitions l.at j)) (arity_of l.transitions l.at) l.k
-
-abbrev pub decreases-loop-k : goal.decreases-loop-k
-decreases-loop-k l = l.arity - l.k

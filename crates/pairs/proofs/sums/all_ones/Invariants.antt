@@ -8,6 +8,3 @@ use Rattle.pairs.proofs.sums.all_ones.Given as goal
 
 abbrev pub invariant-loop-k : goal.invariant-loop-k
 invariant-loop-k l = (l.arity ≡ arity_of l.transitions l.at) × ProductFrom (entry l.numbers) l.transitions l.at 1 l.k
-
-abbrev pub decreases-loop-k : goal.decreases-loop-k
-decreases-loop-k l = l.arity - l.k

@@ -6,6 +6,3 @@ use Rattle.pairs.proofs.sums.sum_fits.Given as goal
 
 abbrev pub invariant-loop-i : goal.invariant-loop-i
 invariant-loop-i l = SumFrom (entry l.numbers) l.transitions l.count l.more l.limit l.sum l.i
-
-abbrev pub decreases-loop-i : goal.decreases-loop-i
-decreases-loop-i l = l.count - l.i

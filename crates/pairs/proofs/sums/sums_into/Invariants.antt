@@ -6,6 +6,3 @@ use Rattle.pairs.proofs.sums.sums_into.Given as goal
 
 abbrev pub invariant-loop-i : goal.invariant-loop-i
 invariant-loop-i l = SumsFrom (entry l.numbers) l.transitions l.count l.sums l.i
-
-abbrev pub decreases-loop-i : goal.decreases-loop-i
-decreases-loop-i l = l.count - l.i

@@ -6,6 +6,3 @@ use Rattle.partition.proofs.grouping.first_same.Given as goal
 
 abbrev pub invariant-loop-p : goal.invariant-loop-p
 invariant-loop-p l = NoneBefore l.parts (key_of l.keys) l.q l.p
-
-abbrev pub decreases-loop-p : goal.decreases-loop-p
-decreases-loop-p l = l.q - l.p

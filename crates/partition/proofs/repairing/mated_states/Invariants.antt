@@ -5,6 +5,3 @@ use Rattle.partition.proofs.repairing.mated_states.Given as goal
 
 abbrev pub invariant-loop-q : goal.invariant-loop-q
 invariant-loop-q l = MatedBelow l.parts l.q l.mated
-
-abbrev pub decreases-loop-q : goal.decreases-loop-q
-decreases-loop-q l = l.n + 1 - l.q

@@ -7,6 +7,3 @@ use Rattle.partition.proofs.repairing.part_keys.Given as goal
 
 abbrev pub invariant-loop-q : goal.invariant-loop-q
 invariant-loop-q l = FilledTo byte_values (part_key l.transitions l.count l.parts l.i l.k l.lead) l.keys l.q
-
-abbrev pub decreases-loop-q : goal.decreases-loop-q
-decreases-loop-q l = l.n + 1 - l.q

@@ -6,6 +6,3 @@ use Rattle.partition.proofs.repairing.repair.Given as goal
 
 abbrev pub invariant-loop-i : goal.invariant-loop-i
 invariant-loop-i l = (l.i ≤ l.count) × Split l.transitions l.n l.count (Below (StableLine l.transitions l.n l.count) l.i) l.initial.parts l.parts l.changed
-
-abbrev pub decreases-loop-i : goal.decreases-loop-i
-decreases-loop-i l = l.count - l.i

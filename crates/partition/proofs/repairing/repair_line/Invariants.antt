@@ -10,6 +10,3 @@ use Rattle.partition.proofs.repairing.repair_line.Given as goal
 abbrev pub invariant-loop-k : goal.invariant-loop-k
 invariant-loop-k l = (l.arity ≡ arity_of l.transitions (transition_bytes * l.i)) × (l.k ≤ l.arity) ×
     Split l.transitions l.n l.count (Below (Stable l.transitions l.n l.count l.i) l.k) l.initial.parts l.parts l.changed
-
-abbrev pub decreases-loop-k : goal.decreases-loop-k
-decreases-loop-k l = l.arity - l.k

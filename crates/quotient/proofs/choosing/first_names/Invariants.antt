@@ -5,6 +5,3 @@ use Rattle.quotient.proofs.choosing.first_names.Given as goal
 
 abbrev pub invariant-loop-k : goal.invariant-loop-k
 invariant-loop-k l = FirstNames l.transitions l.at l.firsts l.nexts l.n l.none l.only l.own l.prefix l.k
-
-abbrev pub decreases-loop-k : goal.decreases-loop-k
-decreases-loop-k l = l.arity - l.k

@@ -11,6 +11,3 @@ use Rattle.quotient.proofs.counting.count_gone.Given as goal
 abbrev pub invariant-loop-j : goal.invariant-loop-j
 invariant-loop-j l = TallyFrom (gone_at l.n l.arities l.children l.states l.names) (length (filter (gone_at l.n l.arities l.children l.states l.names)
     (up_from 0 l.m))) l.m l.sum l.j
-
-abbrev pub decreases-loop-j : goal.decreases-loop-j
-decreases-loop-j l = l.m - l.j

@@ -10,6 +10,3 @@ use Rattle.quotient.proofs.counting.count_kept.Given as goal
 
 abbrev pub invariant-loop-x : goal.invariant-loop-x
 invariant-loop-x l = TallyFrom (kept_name l.n l.opens l.names) (length (filter (kept_name l.n l.opens l.names) (up_from 1 (l.n + l.m)))) (l.n + l.m + 1) l.sum l.x
-
-abbrev pub decreases-loop-x : goal.decreases-loop-x
-decreases-loop-x l = l.n + l.m + 1 - l.x

@@ -10,6 +10,3 @@ use Rattle.quotient.proofs.counting.count_new.Given as goal
 abbrev pub invariant-loop-j : goal.invariant-loop-j
 invariant-loop-j l = TallyFrom (new_at l.n l.arities l.children l.states l.names) (length (filter (new_at l.n l.arities l.children l.states l.names)
     (up_from 0 l.m))) l.m l.sum l.j
-
-abbrev pub decreases-loop-j : goal.decreases-loop-j
-decreases-loop-j l = l.m - l.j

@@ -11,6 +11,3 @@ abbrev pub invariant-loop-i : goal.invariant-loop-i
 invariant-loop-i l = Making l.initial.heads l.initial.args 0 (chosen_in l.transitions l.count l.firsts l.nexts l.n l.m l.metas l.keys l.names) (left_from (nth_chosen
     l.transitions l.firsts l.nexts l.n l.m l.metas l.keys l.names) l.count l.i) l.heads l.args l.made × (l.i ≤ l.count) ×
     (length l.ends ≡ length l.initial.ends)
-
-abbrev pub decreases-loop-i : goal.decreases-loop-i
-decreases-loop-i l = l.count - l.i

@@ -9,6 +9,3 @@ use Rattle.quotient.proofs.nodes.children_own.Given as goal
 abbrev pub invariant-loop-k : goal.invariant-loop-k
 invariant-loop-k l = (l.arity ≡ get_or l.arities l.j 0) × EveryFrom (children_own_at l.n l.arities l.children l.names l.j) (child_own l.n l.children l.names
     l.j) (get_or l.arities l.j 0) l.k
-
-abbrev pub decreases-loop-k : goal.decreases-loop-k
-decreases-loop-k l = l.arity - l.k

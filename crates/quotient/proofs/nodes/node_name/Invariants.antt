@@ -5,6 +5,3 @@ use Rattle.quotient.proofs.nodes.node_name.Given as goal
 
 abbrev pub invariant-loop-j : goal.invariant-loop-j
 invariant-loop-j l = NamedFrom l.metas l.keys l.names l.meta l.key l.out l.m l.j
-
-abbrev pub decreases-loop-j : goal.decreases-loop-j
-decreases-loop-j l = l.m - l.j

@@ -5,6 +5,3 @@ use Rattle.quotient.proofs.nodes.pack_keys.Given as goal
 
 abbrev pub invariant-loop-j : goal.invariant-loop-j
 invariant-loop-j l = EachNode (key_of l.n l.children) l.j l.keys
-
-abbrev pub decreases-loop-j : goal.decreases-loop-j
-decreases-loop-j l = l.m - l.j

@@ -5,6 +5,3 @@ use Rattle.quotient.proofs.nodes.pack_metas.Given as goal
 
 abbrev pub invariant-loop-j : goal.invariant-loop-j
 invariant-loop-j l = EachNode (meta_of l.labels l.arities) l.j l.metas
-
-abbrev pub decreases-loop-j : goal.decreases-loop-j
-decreases-loop-j l = l.m - l.j

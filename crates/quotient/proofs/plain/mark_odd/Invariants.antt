@@ -9,6 +9,3 @@ use Rattle.quotient.proofs.plain.mark_odd.Given as goal
 
 abbrev pub invariant-loop-q : goal.invariant-loop-q
 invariant-loop-q l = (1 ≤ l.q) × (length l.odd ≡ byte_values) × OddMarked l.n l.firsts l.nexts l.odd
-
-abbrev pub decreases-loop-q : goal.decreases-loop-q
-decreases-loop-q l = suc l.n - l.q

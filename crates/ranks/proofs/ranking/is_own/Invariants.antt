@@ -6,6 +6,3 @@ use Rattle.ranks.proofs.ranking.is_own.Given as goal
 
 abbrev pub invariant-loop-k : goal.invariant-loop-k
 invariant-loop-k l = AgreeTo l.transitions l.at l.arity (drop l.top l.stack) l.k
-
-abbrev pub decreases-loop-k : goal.decreases-loop-k
-decreases-loop-k l = l.arity - l.k

@@ -7,6 +7,3 @@ use Rattle.ranks.proofs.ranking.sum_before.Given as goal
 
 abbrev pub invariant-loop-i : goal.invariant-loop-i
 invariant-loop-i l = CountedTo (number_in l.numbers) l.q l.label (take l.arity (drop l.top l.stack)) l.transitions l.count l.i l.sum
-
-abbrev pub decreases-loop-i : goal.decreases-loop-i
-decreases-loop-i l = l.count - l.i

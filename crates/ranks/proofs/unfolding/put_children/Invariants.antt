@@ -9,6 +9,3 @@ use Rattle.ranks.proofs.unfolding.put_children.Given as goal
 abbrev pub invariant-loop-k : goal.invariant-loop-k
 invariant-loop-k l = (l.arity ≡ arity_of l.transitions l.at)
     × PutTo (number_in l.numbers) l.transitions l.at l.number l.top l.initial.states l.initial.lefts l.states l.lefts l.left l.k
-
-abbrev pub decreases-loop-k : goal.decreases-loop-k
-decreases-loop-k l = l.arity - l.k

@@ -7,6 +7,3 @@ use Rattle.scalebench.proofs.lines.copy.Given as goal
 
 abbrev pub invariant-loop-i : goal.invariant-loop-i
 invariant-loop-i l = FilledTo listing_bytes (λ j. get_or l.from j 0) l.to l.i
-
-abbrev pub decreases-loop-i : goal.decreases-loop-i
-decreases-loop-i l = listing_bytes - l.i

@@ -8,6 +8,3 @@ use Rattle.totals.proofs.numbers.same.Given as goal
 
 abbrev pub invariant-loop-q : goal.invariant-loop-q
 invariant-loop-q l = (1 ≤ l.q) × EveryFrom (every (same_in l.a l.b) (up_from 1 l.n)) (same_in l.a l.b) (1 + l.n) l.q
-
-abbrev pub decreases-loop-q : goal.decreases-loop-q
-decreases-loop-q l = 1 + l.n - l.q

@@ -8,6 +8,3 @@ use Rattle.totals.proofs.rounds.product.Given as goal
 
 abbrev pub invariant-loop-k : goal.invariant-loop-k
 invariant-loop-k l = (l.arity ≡ arity_of l.transitions l.at) × ProductTo (number_in l.numbers) l.transitions l.at l.k l.number
-
-abbrev pub decreases-loop-k : goal.decreases-loop-k
-decreases-loop-k l = l.arity - l.k

@@ -6,6 +6,3 @@ use Rattle.totals.proofs.rounds.round.Given as goal
 
 abbrev pub invariant-loop-i : goal.invariant-loop-i
 invariant-loop-i l = (l.i ≤ l.count) × Sums (number_in l.numbers) (transitions_in l.transitions l.i) l.sums
-
-abbrev pub decreases-loop-i : goal.decreases-loop-i
-decreases-loop-i l = l.count - l.i

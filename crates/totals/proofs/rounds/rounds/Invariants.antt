@@ -7,6 +7,3 @@ use Rattle.totals.proofs.rounds.rounds.Given as goal
 
 abbrev pub invariant-loop-depth : goal.invariant-loop-depth
 invariant-loop-depth l = (l.depth ≤ l.n) × ((cl : List ℕ) → Reached (viewed cl l.transitions l.n l.count) l.depth l.numbers)
-
-abbrev pub decreases-loop-depth : goal.decreases-loop-depth
-decreases-loop-depth l = l.n - l.depth

@@ -8,6 +8,3 @@ use Rattle.uses.proofs.covering.choices.Given as goal
 
 abbrev pub invariant-loop-x : goal.invariant-loop-x
 invariant-loop-x l = (l.arity ≡ arity_of l.transitions l.at) × ProductFrom (product_at l.weights l.transitions l.at l.k) (factor_at l.weights l.transitions l.at l.k) (arity_of l.transitions l.at) l.product l.x
-
-abbrev pub decreases-loop-x : goal.decreases-loop-x
-decreases-loop-x l = l.arity - l.x

@@ -7,6 +7,3 @@ use Rattle.uses.proofs.frames.frame_count.Given as goal
 abbrev pub invariant-loop-i : goal.invariant-loop-i
 invariant-loop-i l = CountFrom (frame_count l.transitions l.at l.k l.labels l.arities l.children l.states l.m l.j l.v)
     (framed l.transitions l.at l.k l.labels l.arities l.children l.states l.m l.j l.v) l.m l.found l.i
-
-abbrev pub decreases-loop-i : goal.decreases-loop-i
-decreases-loop-i l = l.end - l.i

@@ -8,6 +8,3 @@ use Rattle.uses.proofs.frames.has_twin.Given as goal
 
 abbrev pub invariant-loop-h : goal.invariant-loop-h
 invariant-loop-h l = AnyFrom (any (twin l.labels l.arities l.children l.j l.k l.i) (up_from 0 l.m)) (twin l.labels l.arities l.children l.j l.k l.i) l.m l.h
-
-abbrev pub decreases-loop-h : goal.decreases-loop-h
-decreases-loop-h l = l.m - l.h

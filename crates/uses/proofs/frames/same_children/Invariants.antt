@@ -8,6 +8,3 @@ use Rattle.uses.proofs.frames.same_children.Given as goal
 
 abbrev pub invariant-loop-x : goal.invariant-loop-x
 invariant-loop-x l = EveryFrom (every (same_child l.children l.k l.i l.h) (up_from 0 l.arity)) (same_child l.children l.k l.i l.h) l.arity l.x
-
-abbrev pub decreases-loop-x : goal.decreases-loop-x
-decreases-loop-x l = l.arity - l.x

@@ -10,6 +10,3 @@ use Rattle.uses.proofs.frames.same_siblings.Given as goal
 
 abbrev pub invariant-loop-x : goal.invariant-loop-x
 invariant-loop-x l = (l.arity ≡ arity_of l.transitions l.at) × EveryFrom (every (same_sibling l.transitions l.at l.k l.children l.states l.i) (up_from 0 (arity_of l.transitions l.at))) (same_sibling l.transitions l.at l.k l.children l.states l.i) (arity_of l.transitions l.at) l.x
-
-abbrev pub decreases-loop-x : goal.decreases-loop-x
-decreases-loop-x l = l.arity - l.x

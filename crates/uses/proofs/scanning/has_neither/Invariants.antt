@@ -10,6 +10,3 @@ use Rattle.uses.proofs.scanning.has_neither.Given as goal
 abbrev pub invariant-loop-k : goal.invariant-loop-k
 invariant-loop-k l = CleanFrom (every (neither_at l.transitions l.at l.p l.q) (up_from 0 max_arity)) l.neither
     (neither_at l.transitions l.at l.p l.q) max_arity l.k
-
-abbrev pub decreases-loop-k : goal.decreases-loop-k
-decreases-loop-k l = max_arity - l.k

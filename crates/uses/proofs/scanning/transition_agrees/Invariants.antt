@@ -10,6 +10,3 @@ abbrev pub invariant-loop-k : goal.invariant-loop-k
 invariant-loop-k l = EveryFrom (transition_agrees (arrays l.labels l.arities l.children l.states l.weights l.m l.j l.v) l.transitions l.count l.p l.q l.i)
     (place_agrees (arrays l.labels l.arities l.children l.states l.weights l.m l.j l.v) l.transitions l.count (transition_bytes * l.i) l.p l.q)
     (arity_of l.transitions (transition_bytes * l.i)) l.k
-
-abbrev pub decreases-loop-k : goal.decreases-loop-k
-decreases-loop-k l = l.arity - l.k

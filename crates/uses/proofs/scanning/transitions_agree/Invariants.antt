@@ -6,6 +6,3 @@ use Rattle.uses.proofs.scanning.transitions_agree.Given as goal
 
 abbrev pub invariant-loop-i : goal.invariant-loop-i
 invariant-loop-i l = AgreesBelow (arrays l.labels l.arities l.children l.states l.weights l.m l.j l.v) l.transitions l.count l.p l.q l.i
-
-abbrev pub decreases-loop-i : goal.decreases-loop-i
-decreases-loop-i l = l.to - l.i

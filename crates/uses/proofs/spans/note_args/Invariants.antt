@@ -8,6 +8,3 @@ use Rattle.uses.proofs.spans.note_args.Given as goal
 
 abbrev pub invariant-loop-k : goal.invariant-loop-k
 invariant-loop-k l = (l.arity ≡ arity_of l.transitions (transition_bytes * l.i)) × NotedTo l.transitions l.i l.k l.lows l.lasts
-
-abbrev pub decreases-loop-k : goal.decreases-loop-k
-decreases-loop-k l = l.arity - l.k

@@ -5,6 +5,3 @@ use Rattle.uses.proofs.spans.note_uses.Given as goal
 
 abbrev pub invariant-loop-i : goal.invariant-loop-i
 invariant-loop-i l = (l.i ≤ l.count) × Noted l.transitions l.i l.lows l.lasts
-
-abbrev pub decreases-loop-i : goal.decreases-loop-i
-decreases-loop-i l = l.count - l.i

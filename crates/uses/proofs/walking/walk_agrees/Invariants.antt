@@ -93,6 +93,3 @@ module _ {s : List ℕ} {c : ℕ} {lows lasts : List ℕ} (within : UsesWithin s
 
 abbrev pub invariant-loop-k : goal.invariant-loop-k
 invariant-loop-k l = PlacesWalked (arrays l.labels l.arities l.children l.states l.weights l.m l.j l.v) l.transitions l.count l.p l.q l.to l.k
-
-abbrev pub decreases-loop-k : goal.decreases-loop-k
-decreases-loop-k l = max_arity - l.k

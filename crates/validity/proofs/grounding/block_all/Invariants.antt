@@ -5,6 +5,3 @@ use Rattle.validity.proofs.grounding.block_all.Given as goal
 
 abbrev pub invariant-loop-i : goal.invariant-loop-i
 invariant-loop-i l = (l.i ≤ l.count) × Blocks l.transitions l.marks l.i l.blocked
-
-abbrev pub decreases-loop-i : goal.decreases-loop-i
-decreases-loop-i l = l.count - l.i

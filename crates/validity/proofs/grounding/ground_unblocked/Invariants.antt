@@ -6,6 +6,3 @@ use Rattle.validity.proofs.grounding.ground_unblocked.Given as goal
 
 abbrev pub invariant-loop-k : goal.invariant-loop-k
 invariant-loop-k l = (l.k ≤ l.n) × Spread (UpTo (Unblocked l.blocked) l.k) l.initial.marks l.marks l.changed
-
-abbrev pub decreases-loop-k : goal.decreases-loop-k
-decreases-loop-k l = l.n - l.k

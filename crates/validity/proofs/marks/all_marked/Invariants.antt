@@ -8,6 +8,3 @@ use Rattle.validity.proofs.marks.all_marked.Given as goal
 
 abbrev pub invariant-loop-q : goal.invariant-loop-q
 invariant-loop-q l = (l.from ≤ l.q) × EveryFrom (every (marked l.marks) (up_from l.from (l.end - l.from))) (marked l.marks) (l.from + (l.end - l.from)) l.q
-
-abbrev pub decreases-loop-q : goal.decreases-loop-q
-decreases-loop-q l = l.end - l.q

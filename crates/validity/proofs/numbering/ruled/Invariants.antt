@@ -13,6 +13,3 @@ use Rattle.validity.proofs.numbering.ruled.Given as goal
 abbrev pub invariant-loop-i : goal.invariant-loop-i
 invariant-loop-i l = (length l.seen ≡ byte_values) × Passed (transitions_in l.transitions l.i) (marked l.seen) × Spans l.seen ×
     CleanFrom (climbing (transitions_in l.transitions l.count)) l.climbing (λ j. climbs (nth_transition l.transitions j)) l.count l.i
-
-abbrev pub decreases-loop-i : goal.decreases-loop-i
-decreases-loop-i l = l.count - l.i

@@ -10,6 +10,3 @@ use Rattle.validity.proofs.numbering.top_argument.Given as goal
 
 abbrev pub invariant-loop-k : goal.invariant-loop-k
 invariant-loop-k l = TopFrom (top (map (arg_of l.transitions l.at) (up_from 0 max_arity))) (arg_of l.transitions l.at) max_arity l.t l.k
-
-abbrev pub decreases-loop-k : goal.decreases-loop-k
-decreases-loop-k l = max_arity - l.k

@@ -9,6 +9,3 @@ use Rattle.validity.proofs.ranks.args_below.Given as goal
 abbrev pub invariant-loop-k : goal.invariant-loop-k
 invariant-loop-k l = (l.arity ≡ arity_of l.transitions l.at) × EveryFrom (every (λ q. ltb (rank_of l.ranks q) l.bound) (transition_at l.transitions l.at).args)
     (λ j. ltb (rank_of l.ranks (arg_of l.transitions l.at j)) l.bound) (arity_of l.transitions l.at) l.k
-
-abbrev pub decreases-loop-k : goal.decreases-loop-k
-decreases-loop-k l = l.arity - l.k

@@ -9,6 +9,3 @@ use Rattle.validity.proofs.ranks.ranks_rise.Given as goal
 abbrev pub invariant-loop-i : goal.invariant-loop-i
 invariant-loop-i l = EveryFrom (every (rises_by (rank_of l.ranks)) (transitions_in l.transitions l.count)) (λ j. rises_by (rank_of l.ranks)
     (nth_transition l.transitions j)) l.count l.i
-
-abbrev pub decreases-loop-i : goal.decreases-loop-i
-decreases-loop-i l = l.count - l.i

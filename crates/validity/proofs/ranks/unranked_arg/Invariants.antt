@@ -5,6 +5,3 @@ use Rattle.validity.proofs.ranks.unranked_arg.Given as goal
 
 abbrev pub invariant-loop-k : goal.invariant-loop-k
 invariant-loop-k l = (l.k ≤ l.arity) × (l.arity ≡ arity_of l.transitions l.at)
-
-abbrev pub decreases-loop-k : goal.decreases-loop-k
-decreases-loop-k l = l.arity - l.k

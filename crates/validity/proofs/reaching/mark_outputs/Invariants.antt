@@ -6,6 +6,3 @@ use Rattle.validity.proofs.reaching.mark_outputs.Given as goal
 
 abbrev pub invariant-loop-i : goal.invariant-loop-i
 invariant-loop-i l = (l.i ≤ l.count) × Spread (UpTo (nth_up l.transitions) l.i) l.initial.marks l.marks l.changed
-
-abbrev pub decreases-loop-i : goal.decreases-loop-i
-decreases-loop-i l = l.count - l.i

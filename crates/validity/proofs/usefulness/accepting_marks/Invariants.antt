@@ -11,6 +11,3 @@ abbrev pub invariant-loop-q : goal.invariant-loop-q
 invariant-loop-q l = (1 ≤ l.q) × (l.q ≤ l.n + 1) × (length l.marks ≡ byte_values) ×
     ((j : ℕ) → j < l.q → marked l.marks j ≡ accepting (viewed l.classes [] l.n 0) j) ×
     ((j : ℕ) → l.q ≤ j → marked l.marks j ≡ false)
-
-abbrev pub decreases-loop-q : goal.decreases-loop-q
-decreases-loop-q l = l.n + 1 - l.q

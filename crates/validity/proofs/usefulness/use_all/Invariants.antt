@@ -6,6 +6,3 @@ use Rattle.validity.proofs.usefulness.use_all.Given as goal
 
 abbrev pub invariant-loop-j : goal.invariant-loop-j
 invariant-loop-j l = (l.j ≤ l.count) × Spread (UpTo (from_last (nth_down l.transitions) l.count) l.j) l.initial.marks l.marks l.changed
-
-abbrev pub decreases-loop-j : goal.decreases-loop-j
-decreases-loop-j l = l.count - l.j

@@ -8,6 +8,3 @@ use Rattle.validity.proofs.usefulness.use_args.Given as goal
 
 abbrev pub invariant-loop-k : goal.invariant-loop-k
 invariant-loop-k l = (l.arity ≡ arity_of l.transitions l.at) × (l.k ≤ l.arity) × Spread (UpTo (DownTo l.transitions l.at) l.k) l.initial.marks l.marks l.changed
-
-abbrev pub decreases-loop-k : goal.decreases-loop-k
-decreases-loop-k l = l.arity - l.k
