@@ -4,6 +4,10 @@
 ghost use Rattle.std.specs.Prelude.{◌≡◌, ◌%◌, ◌/◌, ◌≤◌};
 ghost use Rattle.format.specs.Format.{byte_values, label_from, max_label};
 
+mod refusal;
+
+pub use refusal::Refusal;
+
 pub const BYTE_VALUES: usize = 256;
 
 pub const BYTE_PAIRS: usize = BYTE_VALUES * BYTE_VALUES;
