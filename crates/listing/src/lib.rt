@@ -4,10 +4,11 @@
 
 ghost use Rattle.std.specs.Prelude.{◌≡◌, ◌*◌, ◌+◌, ◌≤◌, length};
 ghost use Rattle.format.specs.Format.{max_label, node_bytes};
+ghost use Rattle.format.specs.Refusals.{broken};
 ghost use Rattle.trees.specs.Listing.{children_at, label_at, whole_nodes, all_labelled, all_narrow, one_tree, listing_refusal};
 ghost use Rattle.listing.specs.Measure.{measured};
 
-use format::{LABEL_BYTES, MAX_ARITY, MAX_LISTING, NODE_BYTES, label_from, wide};
+use format::{LABEL_BYTES, MAX_ARITY, MAX_LISTING, NODE_BYTES, Refusal, label_from, wide};
 
 // The label of node i, and the number of its children.
 pub fn label_at(s: &[u8], i: usize) -> u16
@@ -25,45 +26,30 @@ pub fn children_at(s: &[u8], i: usize) -> u8
     s[NODE_BYTES * i + LABEL_BYTES]
 }
 
-// What a reader finds: the number of bytes that it read, or that the slice does not start with what it looks for.
-#[derive(Drop)]
-pub enum Read {
-    Node { len: usize },
-    Bad,
-}
-
-// Reads the tree that s starts with.
+// Reads the tree that s starts with; the number of its bytes, if s starts with one.
 #[cycle(children_tree)]
-pub fn tree(s: &[u8]) -> Read
+pub fn tree(s: &[u8]) -> Option<usize>
     ensures { result ≡ measured s.now 1 }
 {
     if s.len() < NODE_BYTES {
-        return Read::Bad;
+        return None;
     }
     let count = wide(children_at(s, 0));
-    let Read::Node { len } = children(&s[NODE_BYTES..], count) else {
-        return Read::Bad;
-    };
-    Read::Node {
-        len: NODE_BYTES + len,
-    }
+    let len = children(&s[NODE_BYTES..], count)?;
+    Some(NODE_BYTES + len)
 }
 
 // Reads the count trees, one after the other, that s starts with.
 #[cycle(children_tree)]
-pub fn children(s: &[u8], count: usize) -> Read
+pub fn children(s: &[u8], count: usize) -> Option<usize>
     ensures { result ≡ measured s.now count }
 {
     if count == 0 {
-        return Read::Node { len: 0 };
+        return Some(0);
     }
-    let Read::Node { len } = tree(s) else {
-        return Read::Bad;
-    };
-    let Read::Node { len: more } = children(&s[len..], count - 1) else {
-        return Read::Bad;
-    };
-    Read::Node { len: len + more }
+    let len = tree(s)?;
+    let more = children(&s[len..], count - 1)?;
+    Some(len + more)
 }
 
 // Whether the length is that of 1 to 48 nodes (01, refusal 1).
@@ -109,27 +95,24 @@ fn all_narrow(s: &[u8]) -> bool
 fn one_tree(s: &[u8]) -> bool
     ensures { result ≡ one_tree s.now }
 {
-    let Read::Node { len } = tree(s) else {
-        return false;
-    };
-    len == s.len()
+    tree(s) == Some(s.len())
 }
 
-// The first of refusals 1 to 4 that applies, or 0.
-pub fn refusal(s: &[u8]) -> u8
-    ensures { result ≡ listing_refusal s.now }
+// Whether the bytes are a listing; the first of refusals 1 to 4 that applies, if any.
+pub fn check(s: &[u8]) -> Result<(), Refusal>
+    ensures { broken result ≡ listing_refusal s.now }
 {
     if !whole_nodes(s) {
-        return 1;
+        return Err(Refusal::ListingLength);
     }
     if !all_labelled(s) {
-        return 2;
+        return Err(Refusal::ZeroLabel);
     }
     if !all_narrow(s) {
-        return 3;
+        return Err(Refusal::TooManyChildren);
     }
     if !one_tree(s) {
-        return 4;
+        return Err(Refusal::NotOneTree);
     }
-    0
+    Ok(())
 }

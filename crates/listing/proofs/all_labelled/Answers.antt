@@ -1,7 +1,6 @@
 use Rattle.lists.proofs.Loops.{every-broken, every-end, every-next, every-start}
 use Rattle.trees.specs.Listing.{all_labelled}
 use native.Mathlib.Nat.{zero-add}
-use Prim.Native.Nat.{◌-◌}
 use mathlib.Core.Path.{ap, ◌∙◌, sym}
 use mathlib.Core.Bool.{not}
 use borrow.Author.Tests.{eq-eqb, ne_eqb}

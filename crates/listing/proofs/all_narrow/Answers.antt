@@ -3,7 +3,6 @@ use Rattle.trees.specs.Listing.{all_narrow, children_at}
 use Rattle.format.specs.Format.{max_arity}
 use native.Mathlib.Omega.{arith}
 use native.Mathlib.Nat.{zero-add}
-use Prim.Native.Nat.{◌-◌}
 use borrow.Author.Tests.{le-leb, lt-leb}
 use Rattle.listing.proofs.all_narrow.Goals as goal
 

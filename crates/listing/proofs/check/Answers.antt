@@ -1,4 +1,4 @@
--- `refusal` answers with the first condition that its check finds broken. The five laws are what each `return` knows,
+-- `check` answers with the first condition that its check finds broken. The five laws are what each `return` knows,
 -- and search finds which of them fits.
 use mathlib.Core.Bool.{Bool, false, not, true}
 use mathlib.Core.List.{List}
@@ -6,7 +6,7 @@ use mathlib.Core.Path.{◌≡◌}
 use Prim.Native.Nat.{ℕ}
 use Rattle.trees.specs.Listing.{all_labelled, all_narrow, listing_conditions, listing_refusal, one_tree, whole_nodes}
 use Rattle.listing.proofs.Checks.{broken, kept}
-use Rattle.listing.proofs.refusal.Goals as goal
+use Rattle.listing.proofs.check.Goals as goal
 
 module _ (s : List ℕ) where
   refused-1 : {w : Bool} → w ≡ whole_nodes s → not w ≡ true → ◌≡◌ {A = ℕ} 1 (listing_refusal s)
