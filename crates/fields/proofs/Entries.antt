@@ -1,4 +1,4 @@
--- The fields of an entry: each field put alone, the transition that they make, and an entry copied byte by byte.
+-- The fields of an entry: each field put alone, and the transition that they make.
 use mathlib.Core.Bool.{Bool, cond, false, true}
 use mathlib.Core.List.{List, [], ◌∷◌, map}
 use mathlib.Core.Path.{◌∙◌, ◌≡◌, ap, ap₂, refl}
@@ -11,10 +11,9 @@ use borrow.Author.Tests.{eq-eqb, eqb-false, eqb-true, ne_eqb}
 use Rattle.fields.specs.Entries.{HasFields, no_arg, put_at}
 use Rattle.format.specs.Format.{args_at, arity_at, byte_values, label_bytes, label_from, label_written, max_arity}
 use Rattle.format.specs.Format.{out_at, transition_bytes}
-use Rattle.lists.specs.Positions.{byte_from, up_from}
+use Rattle.lists.specs.Positions.{up_from}
 use Rattle.table.specs.Layout.{arg_of, arity_of, label_of, out_of, transition_at}
 use Rattle.format.proofs.Labels.{from-written}
-use Rattle.lists.proofs.Filling.{FilledTo}
 
 pub map-up_from : (f g : ℕ → ℕ) (k n : ℕ) → ((i : ℕ) → k ≤ i → i < k + n → f i ≡ g i) →
     map f (up_from k n) ≡ map g (up_from k n)
@@ -152,21 +151,3 @@ module _ {e : List ℕ} {a n : ℕ} {f : ℕ → ℕ} {q : ℕ} (is : HasFields 
   fields-args =
       ap (λ i. map (arg_of e 0) (up_from 0 i)) is.arity ∙
       map-up_from (arg_of e 0) f 0 n (λ k h l. is.arg k (omega arith))
-
--- ---- an entry copied byte by byte
-
-module _ (s : List ℕ) (at : ℕ) {e : List ℕ} {k : ℕ} (inv : FilledTo transition_bytes (byte_from s at) e k)
-    (whole : transition_bytes ≤ k) where
-  copied : (j : ℕ) → j < transition_bytes → get_or e j 0 ≡ get_or s (at + j) 0
-  copied j l = inv.same j (omega arith)
-
-  pub fields_copied : HasFields e (label_of s at) (arity_of s at) (arg_of s at) (out_of s at)
-  fields_copied = record {
-    size = inv.size;
-    label = ap₂ label_from (copied 0 (omega arith) ∙ ap (λ i. get_or s i 0) (let z : at + 0 ≡ at = omega arith in z))
-        (copied 1 (omega arith));
-    arity = copied arity_at (omega arith);
-    arg = λ k h. copied (args_at + k) (omega arith) ∙
-        ap (λ i. get_or s i 0) (let z : at + (args_at + k) ≡ at + args_at + k = omega arith in z);
-    out = copied out_at (omega arith);
-  }

@@ -1,8 +1,6 @@
--- What reading transitions from bytes needs, and what a search answers. A run of transitions is a list of
--- bytes in which transition i starts at byte 12 i: the body of a table, or a scratch.
-use Rattle.std.specs.Prelude.{Bool, false, true, List, map, ◌≡◌, ◌*◌, ◌+◌, ◌<◌, ◌≤◌, ℕ, length}
-use Rattle.fields.specs.declared.Found.{Found}
-use Rattle.fields.specs.declared.Found.TheVariants.{Nothing, State}
+-- What reading transitions from bytes needs. A run of transitions is a list of bytes in which transition i starts at
+-- byte 12 i: the body of a table, or a scratch.
+use Rattle.std.specs.Prelude.{List, map, ◌≡◌, ◌*◌, ◌+◌, ◌<◌, ◌≤◌, ℕ, length}
 use Rattle.format.specs.Format.{max_arity, max_product, max_states, max_transitions, table_bytes, transition_bytes}
 use Rattle.lists.specs.Positions.{up_from}
 use Rattle.table.specs.Layout.{arg_of, arity_of, body, label_of, out_of, state_count, transition_count}
@@ -37,13 +35,3 @@ pub record InTable (b : List ℕ) : Type 0 where
   pub states : state_count b ≤ max_states
   pub transitions : transition_count b ≤ max_transitions
   pub over : HoldsTransitionsOver (body b) (transition_count b) (state_count b)
-
--- the state that a search found; 0 if it found nothing
-abbrev pub found_state : Found → ℕ
-found_state (State q) = q
-found_state Nothing = 0
-
--- the search found something
-abbrev pub is_found : Found → Bool
-is_found (State q) = true
-is_found Nothing = false

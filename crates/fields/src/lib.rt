@@ -4,25 +4,19 @@
 
 mod transition; // fields of one transition
 
-ghost use Rattle.std.specs.Prelude.{◌≡◌, ◌<◌, ◌≤◌, length, take};
+ghost use Rattle.std.specs.Prelude.{◌≡◌, ◌<◌, ◌≤◌, is_some, length, take};
+ghost use Rattle.std.specs.Option.{unwrap_or};
 ghost use Rattle.automata.specs.Automaton.{lookup, matches};
 ghost use Rattle.format.specs.Format.{max_arity, table_bytes};
 ghost use Rattle.lists.specs.Tests.{any};
 ghost use Rattle.table.specs.Layout.{transition_count, transitions_in};
-ghost use Rattle.fields.specs.Fields.{HoldsTransitions, found_state, is_found};
+ghost use Rattle.fields.specs.Fields.{HoldsTransitions};
 
 use format::{COUNT_AT, MAX_ARITY, TRANSITION_BYTES, wide};
 pub use transition::{
     arg_of, arity_of, blank_entry, entry_at, label_of, out_of, put_arg, put_arity, put_label,
     put_out,
 };
-
-// What a search answers: the output of the transition that it found, if any.
-#[derive(Drop)]
-pub enum Found {
-    State(u8),
-    Nothing,
-}
 
 // The number of transitions of a table.
 pub fn transition_count(table: &[u8]) -> usize
@@ -35,40 +29,33 @@ pub fn transition_count(table: &[u8]) -> usize
     256 * high + low
 }
 
-// The output of the first transition that has this label and these arguments.
+// The output of the first transition that has this label and these arguments, if any.
 pub fn find(
     transitions: &[u8],
     count: usize,
     label: u16,
     arity: usize,
     args: [u8; MAX_ARITY],
-) -> Found
+) -> Option<u8>
     requires holds_transitions { HoldsTransitions transitions.now count }
     requires arity_le_max_arity { arity ≤ max_arity }
-    ensures result_value { found_state result ≡ lookup label (take arity args) (transitions_in transitions.now count) }
-    ensures result_value_2 { is_found result ≡ any (matches label (take arity args)) (transitions_in transitions.now count) }
+    ensures result_value { unwrap_or result 0 ≡ lookup label (take arity args) (transitions_in transitions.now count) }
+    ensures result_value_2 { is_some result ≡ any (matches label (take arity args)) (transitions_in transitions.now count) }
 {
-    let mut i = 0;
-    let answer = 'search: loop {
-        if i >= count {
-            break 'search Found::Nothing;
-        }
+    'search: for i in 0..count {
         let at = TRANSITION_BYTES * i;
-        i += 1;
         if label_of(transitions, at) != label {
-            continue 'search;
+            continue;
         }
         if arity_of(transitions, at) != arity {
-            continue 'search;
+            continue;
         }
-        let mut k = 0;
-        'args: while k < arity {
+        for k in 0..arity {
             if arg_of(transitions, at, k) != wide(args[k]) {
                 continue 'search;
             }
-            k += 1;
         }
-        break 'search Found::State(out_of(transitions, at) as u8);
-    };
-    answer
+        return Some(out_of(transitions, at) as u8);
+    }
+    None
 }

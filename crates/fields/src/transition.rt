@@ -55,9 +55,7 @@ pub fn entry_at(transitions: &[u8], at: usize) -> [u8; TRANSITION_BYTES]
         (arg_of transitions.now at) (out_of transitions.now at) }
 {
     let mut entry = [0u8; TRANSITION_BYTES];
-    for j in 0..TRANSITION_BYTES {
-        entry[j] = transitions[at + j];
-    }
+    entry.copy_from_slice(&transitions[at..at + TRANSITION_BYTES]);
     entry
 }
 

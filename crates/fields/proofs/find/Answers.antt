@@ -27,8 +27,8 @@ search-preserved-then-arity_of-arity c =
     (unlike-arity c.args.transitions.now (transition_bytes * c.search.i) c.args.label c.args.arity c.args.args enough
     (λ e. c.if-arity_of-arity.true (c.arity_of.ensures ∙ e)))
 
-pub args-2-init : goal.args-2-init
-args-2-init c =
+pub loop-k-init : goal.loop-k-init
+loop-k-init c =
     agree-start c.args.transitions.now (transition_bytes * c.search.i)
     c.args.arity c.args.args
 
@@ -38,26 +38,26 @@ search-preserved c =
     search-passed c.search.invariant
     (omega arith)
     (unlike-arg c.args.transitions.now (transition_bytes * c.search.i)
-    c.args.label c.args.arity c.args.args enough c.args-2.k
+    c.args.label c.args.arity c.args.args enough c.loop-k.k
     (sym c.arity_of.ensures ∙ c.if-arity_of-arity.false) (omega arith)
     (λ e. c.if-arg_of-wide.true (c.arg_of.ensures.value ∙ e ∙ sym c.wide.ensures)))
 
-pub args-2-preserved : goal.args-2-preserved
-args-2-preserved c =
-    agree-next c.args-2.invariant (omega arith) (sym c.arg_of.ensures.value ∙ c.if-arg_of-wide.false ∙ c.wide.ensures)
+pub loop-k-preserved : goal.loop-k-preserved
+loop-k-preserved c =
+    agree-next c.loop-k.invariant (omega arith) (sym c.arg_of.ensures.value ∙ c.if-arg_of-wide.false ∙ c.wide.ensures)
 
-pub returns-then-i-count : goal.returns-then-i-count
-returns-then-i-count c =
+pub returns : goal.returns
+returns c =
     let both = search-end c.search.invariant (omega arith) in
     record { result_value = both.0; result_value_2 = both.1 }
 
-pub returns-after-args-2 : goal.returns-after-args-2
-returns-after-args-2 c =
+pub returns-in-search : goal.returns-in-search
+returns-in-search c =
     let enough : c.args.arity ≤ length c.args.args = omega arith in
     let hit =
     search-hit c.search.invariant (omega arith)
     (alike c.args.transitions.now (transition_bytes * c.search.i) c.args.label
     c.args.arity c.args.args enough (sym c.label_of.ensures.value ∙ c.if-label_of-label.false)
     (sym c.arity_of.ensures ∙ c.if-arity_of-arity.false)
-    (λ j h. c.args-2.invariant.same j (omega arith))) in
+    (λ j h. c.loop-k.invariant.same j (omega arith))) in
     record { result_value = c.out_of.ensures.value ∙ hit.0; result_value_2 = hit.1 }
