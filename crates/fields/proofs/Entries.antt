@@ -1,19 +1,18 @@
--- The fields of an entry: each field put alone, and the transition that they make.
+-- The fields of an entry: an argument put alone, and the transition that they make.
 use mathlib.Core.Bool.{Bool, cond, false, true}
-use mathlib.Core.List.{List, [], ◌∷◌, map}
+use mathlib.Core.List.{List, map}
 use mathlib.Core.Path.{◌∙◌, ◌≡◌, ap, ap₂, refl}
-use Prim.Native.Nat.{◌%◌, ◌+◌, ◌/◌, ◌<◌, ◌≤◌, suc, zero, ℕ}
+use Prim.Native.Nat.{◌+◌, ◌<◌, ◌≤◌, suc, zero, ℕ}
 use native.Mathlib.Omega.{arith}
 use lib.Dec.{eqb}
-use lib.ListN.{get_or, get_or-replicate, length, length-set, replicate, set, take}
+use lib.ListN.{get_or, length, length-set, set}
 use lib.Seq.{get_or-set_other, get_or-set_same}
 use borrow.Author.Tests.{eq-eqb, eqb-false, eqb-true, ne_eqb}
-use Rattle.fields.specs.Entries.{HasFields, no_arg, put_at}
-use Rattle.format.specs.Format.{args_at, arity_at, byte_values, label_bytes, label_from, label_written, max_arity}
+use Rattle.fields.specs.Entries.{HasFields, put_at}
+use Rattle.format.specs.Format.{args_at, arity_at, label_bytes, label_from, max_arity}
 use Rattle.format.specs.Format.{out_at, transition_bytes}
 use Rattle.lists.specs.Positions.{up_from}
 use Rattle.table.specs.Layout.{arg_of, arity_of, label_of, out_of, transition_at}
-use Rattle.format.proofs.Labels.{from-written}
 
 pub map-up_from : (f g : ℕ → ℕ) (k n : ℕ) → ((i : ℕ) → k ≤ i → i < k + n → f i ≡ g i) →
     map f (up_from k n) ≡ map g (up_from k n)
@@ -24,67 +23,13 @@ map-up_from f g k (suc n) h =
       map-up_from f g (suc k) n (λ i a b. h i (omega arith) (omega arith)),
     )
 
--- zeros are an entry without fields
-pub blank-fields : HasFields (replicate transition_bytes 0) 0 0 no_arg 0
-blank-fields = record {
-  size = refl;
-  label = refl;
-  arity = refl;
-  arg = λ k h. get_or-replicate transition_bytes (args_at + k) 0 0 (omega arith);
-  out = refl;
-}
-
--- ---- one field put
-
--- the bytes of a label put
-module _ (e : List ℕ) (size : length e ≡ transition_bytes) (a : ℕ) {h l : ℕ} (high : h ≡ a / byte_values)
-    (low : l ≡ a % byte_values) where
-  other : (j : ℕ) → label_bytes ≤ j → get_or (set (set e 0 h) 1 l) j 0 ≡ get_or e j 0
-  other j m =
-      get_or-set_other (set e 0 h) 1 j l 0 (λ d. omega arith) ∙ get_or-set_other e 0 j h 0 (λ d. omega arith)
-
-  pub label-put : HasFields (set (set e 0 h) 1 l) a (arity_of e 0) (arg_of e 0) (out_of e 0)
-  label-put = record {
-    size = length-set (set e 0 h) 1 l ∙ length-set e 0 h ∙ size;
-    label = ap₂ label_from (get_or-set_other (set e 0 h) 1 0 l 0 (λ d. omega arith)
-        ∙ get_or-set_same e 0 h 0 (omega arith) ∙ high)
-        (get_or-set_same (set e 0 h) 1 l 0 (omega (arith, length-set e 0 h)) ∙ low) ∙ from-written a;
-    arity = other arity_at (omega arith);
-    arg = λ k m. other (args_at + k) (omega arith);
-    out = other out_at (omega arith);
-  }
-
-  pub label-bytes : take label_bytes (set (set e 0 h) 1 l) ≡ label_written a
-  label-bytes = first e (omega arith)
-    where
-      first : (s : List ℕ) → label_bytes ≤ length s → take label_bytes (set (set s 0 h) 1 l) ≡ label_written a
-      first [] m = absurd (omega arith)
-      first (x ∷ []) m = absurd (omega arith)
-      first (x ∷ y ∷ s) m = λ i. high i ∷ low i ∷ []
+-- ---- an argument put
 
 module _ (e : List ℕ) (v : ℕ) (size : length e ≡ transition_bytes) where
   -- a field after the label is put
   label_kept : (j : ℕ) → label_bytes ≤ j → label_of (set e j v) 0 ≡ label_of e 0
   label_kept j m =
       ap₂ label_from (get_or-set_other e j 0 v 0 (λ d. omega arith)) (get_or-set_other e j 1 v 0 (λ d. omega arith))
-
-  pub arity-put : HasFields (set e arity_at v) (label_of e 0) v (arg_of e 0) (out_of e 0)
-  arity-put = record {
-    size = length-set e arity_at v ∙ size;
-    label = label_kept arity_at (omega arith);
-    arity = get_or-set_same e arity_at v 0 (omega arith);
-    arg = λ k h. get_or-set_other e arity_at (args_at + k) v 0 (λ d. omega arith);
-    out = get_or-set_other e arity_at out_at v 0 (λ d. omega arith);
-  }
-
-  pub out-put : HasFields (set e out_at v) (label_of e 0) (arity_of e 0) (arg_of e 0) v
-  out-put = record {
-    size = length-set e out_at v ∙ size;
-    label = label_kept out_at (omega arith);
-    arity = get_or-set_other e out_at arity_at v 0 (λ d. omega arith);
-    arg = λ k h. get_or-set_other e out_at (args_at + k) v 0 (λ d. omega arith);
-    out = get_or-set_same e out_at v 0 (omega arith);
-  }
 
   pub arg-put : (j : ℕ) → j < max_arity →
       HasFields (set e (args_at + j) v) (label_of e 0) (arity_of e 0) (put_at (arg_of e 0) j v) (out_of e 0)

@@ -12,7 +12,7 @@ ghost use Rattle.lists.specs.Tests.{any};
 ghost use Rattle.table.specs.Layout.{transition_count, transitions_in};
 ghost use Rattle.fields.specs.Fields.{HoldsTransitions};
 
-use format::{COUNT_AT, MAX_ARITY, TRANSITION_BYTES, wide};
+use format::{COUNT_AT, MAX_ARITY, TRANSITION_BYTES};
 pub use transition::{
     arg_of, arity_of, blank_entry, entry_at, label_of, out_of, put_arg, put_arity, put_label,
     put_out,
@@ -24,9 +24,7 @@ pub fn transition_count(table: &[u8]) -> usize
     ensures value { result ≡ transition_count table.now }
     ensures upper_bound { result < 65536 }
 {
-    let high = wide(table[COUNT_AT]);
-    let low = wide(table[COUNT_AT + 1]);
-    256 * high + low
+    usize::from(u16::from_be_bytes([table[COUNT_AT], table[COUNT_AT + 1]]))
 }
 
 // The output of the first transition that has this label and these arguments, if any.
@@ -51,7 +49,7 @@ pub fn find(
             continue;
         }
         for k in 0..arity {
-            if arg_of(transitions, at, k) != wide(args[k]) {
+            if arg_of(transitions, at, k) != usize::from(args[k]) {
                 continue 'search;
             }
         }

@@ -5,9 +5,7 @@ ghost use Rattle.format.specs.Format.{label_bytes, label_written, max_arity, max
 ghost use Rattle.table.specs.Layout.{arg_of, arity_of, label_of, out_of};
 ghost use Rattle.fields.specs.Entries.{HasFields, no_arg, put_at};
 
-use format::{
-    ARGS_AT, ARITY_AT, OUT_AT, TRANSITION_BYTES, label_from, label_high, label_low, wide,
-};
+use format::{ARGS_AT, ARITY_AT, LABEL_BYTES, OUT_AT, TRANSITION_BYTES, label_from};
 
 pub fn label_of(transitions: &[u8], at: usize) -> u16
     requires { at + transition_bytes ≤ length transitions.now }
@@ -21,7 +19,7 @@ pub fn arity_of(transitions: &[u8], at: usize) -> usize
     requires { at + transition_bytes ≤ length transitions.now }
     ensures { result ≡ arity_of transitions.now at }
 {
-    wide(transitions[at + ARITY_AT])
+    usize::from(transitions[at + ARITY_AT])
 }
 
 pub fn arg_of(transitions: &[u8], at: usize, k: usize) -> usize
@@ -30,7 +28,7 @@ pub fn arg_of(transitions: &[u8], at: usize, k: usize) -> usize
     ensures value { result ≡ arg_of transitions.now at k }
     ensures upper_bound { result < 256 }
 {
-    wide(transitions[at + ARGS_AT + k])
+    usize::from(transitions[at + ARGS_AT + k])
 }
 
 pub fn out_of(transitions: &[u8], at: usize) -> usize
@@ -38,7 +36,7 @@ pub fn out_of(transitions: &[u8], at: usize) -> usize
     ensures value { result ≡ out_of transitions.now at }
     ensures upper_bound { result < 256 }
 {
-    wide(transitions[at + OUT_AT])
+    usize::from(transitions[at + OUT_AT])
 }
 
 // An entry with no label, no arguments and no output.
@@ -66,8 +64,7 @@ pub fn put_label(entry: &mut [u8; TRANSITION_BYTES], label: u16)
         (out_of entry.old 0) }
     ensures after { take label_bytes entry.new ≡ label_written label }
 {
-    entry[0] = label_high(label);
-    entry[1] = label_low(label);
+    entry[..LABEL_BYTES].copy_from_slice(&label.to_be_bytes());
 }
 
 pub fn put_arity(entry: &mut [u8; TRANSITION_BYTES], arity: usize)

@@ -59,7 +59,7 @@ pub fn label_from(high: u8, low: u8) -> u16
     ensures value { result ≡ label_from high low }
     ensures upper_bound { result ≤ max_label }
 {
-    256 * (high as u16) + low as u16
+    u16::from_be_bytes([high, low])
 }
 
 // The two bytes of a label.

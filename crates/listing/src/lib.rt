@@ -8,7 +8,7 @@ ghost use Rattle.format.specs.Refusals.{broken};
 ghost use Rattle.trees.specs.Listing.{children_at, label_at, whole_nodes, all_labelled, all_narrow, one_tree, listing_refusal};
 ghost use Rattle.listing.specs.Measure.{measured};
 
-use format::{LABEL_BYTES, MAX_ARITY, MAX_LISTING, NODE_BYTES, Refusal, label_from, wide};
+use format::{LABEL_BYTES, MAX_ARITY, MAX_LISTING, NODE_BYTES, Refusal, label_from};
 
 // The label of node i, and the number of its children.
 pub fn label_at(s: &[u8], i: usize) -> u16
@@ -34,7 +34,7 @@ pub fn tree(s: &[u8]) -> Option<usize>
     if s.len() < NODE_BYTES {
         return None;
     }
-    let count = wide(children_at(s, 0));
+    let count = usize::from(children_at(s, 0));
     let len = children(&s[NODE_BYTES..], count)?;
     Some(NODE_BYTES + len)
 }
@@ -84,7 +84,7 @@ fn all_narrow(s: &[u8]) -> bool
 {
     let nodes = s.len() / NODE_BYTES;
     for i in 0..nodes {
-        if wide(children_at(s, i)) > MAX_ARITY {
+        if usize::from(children_at(s, i)) > MAX_ARITY {
             return false;
         }
     }

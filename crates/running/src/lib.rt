@@ -19,7 +19,7 @@ ghost use Rattle.running.specs.Running.{Ahead, HoldsStates, Joins, Rows, RowsKep
 ghost use Rattle.running.specs.Running.{child_states, over, ran_to};
 
 use fields::{find, transition_count};
-use format::{HEAD_BYTES, MAX_ARITY, MAX_NODES, NODE_BYTES, wide};
+use format::{HEAD_BYTES, MAX_ARITY, MAX_NODES, NODE_BYTES};
 use listing::{children_at, label_at};
 
 // The state that a node runs to, if any, and how many nodes were run for that.
@@ -78,7 +78,7 @@ fn run_tree(
     let root = Parent {
         node,
         label: label_at(s, 0),
-        arity: wide(children_at(s, 0)),
+        arity: usize::from(children_at(s, 0)),
     };
     let rest = &s[NODE_BYTES..];
     let below = run_children(rest, transitions, count, rows, states, root, node + 1, 0);
@@ -213,7 +213,7 @@ pub fn accepts_state(table: &[u8], q: u8) -> bool
     ensures { (t : Tree) → q ≡ run (decode table.now) t →
         result ≡ accepts (decode table.now) t }
 {
-    let at = wide(q);
+    let at = usize::from(q);
     if at == 0 {
         return false;
     }

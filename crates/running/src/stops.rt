@@ -7,7 +7,7 @@ ghost use Rattle.trees.specs.Listing.{listing_refusal, read_tree};
 ghost use Rattle.running.specs.Running.{HoldsStates};
 ghost use Rattle.running.specs.Stopping.{walked};
 
-use format::{MAX_NODES, wide};
+use format::MAX_NODES;
 use listing::children_at;
 
 // The last node without a state that was met, and how many trees are still to come below it.
@@ -45,10 +45,10 @@ pub fn stop_place(tree: &[u8], states: &[u8; MAX_NODES]) -> u8
         run A (read_tree tree.now) ≡ 0 → result ≡ stop_place A (read_tree tree.now) }
 {
     let mut stop = 0;
-    let mut left = wide(children_at(tree, 0));
+    let mut left = usize::from(children_at(tree, 0));
     let mut i = 1;
     while left > 0 {
-        let below = walked(stop, left, i, states[i], wide(children_at(tree, i)));
+        let below = walked(stop, left, i, states[i], usize::from(children_at(tree, i)));
         stop = below.stop;
         left = below.left;
         i += 1;

@@ -40,11 +40,11 @@ search-preserved c =
     (unlike-arg c.args.transitions.now (transition_bytes * c.search.i)
     c.args.label c.args.arity c.args.args enough c.loop-k.k
     (sym c.arity_of.ensures ∙ c.if-arity_of-arity.false) (omega arith)
-    (λ e. c.if-arg_of-wide.true (c.arg_of.ensures.value ∙ e ∙ sym c.wide.ensures)))
+    (λ e. c.if-arg_of-from.true (c.arg_of.ensures.value ∙ e ∙ sym c.from.ensures)))
 
 pub loop-k-preserved : goal.loop-k-preserved
 loop-k-preserved c =
-    agree-next c.loop-k.invariant (omega arith) (sym c.arg_of.ensures.value ∙ c.if-arg_of-wide.false ∙ c.wide.ensures)
+    agree-next c.loop-k.invariant (omega arith) (sym c.arg_of.ensures.value ∙ c.if-arg_of-from.false ∙ c.from.ensures)
 
 pub returns : goal.returns
 returns c =

@@ -46,7 +46,7 @@ tree-returns-then-s-lt-NODE_BYTES t c = search tree-short
 pub tree-returns-in_err-len : goal.tree-returns-in_err-len
 tree-returns-in_err-len t c =
     c.from_residual.ensures ∙ tree-bad _ _ c.if-s-lt-NODE_BYTES.false
-    (c.wide-count.ensures ∙ c.children_at.ensures) c.children.ensures c.in_err-len.was
+    (c.from-count.ensures ∙ c.children_at.ensures) c.children.ensures c.in_err-len.was
 
 pub tree-overflow_add-result : goal.tree-overflow_add-result
 tree-overflow_add-result t c =
@@ -58,4 +58,4 @@ tree-overflow_add-result t c =
 pub tree-returns : goal.tree-returns
 tree-returns t c =
     tree-good _ _ c.if-s-lt-NODE_BYTES.false
-    (c.wide-count.ensures ∙ c.children_at.ensures) c.children.ensures c.in_ok-len.was
+    (c.from-count.ensures ∙ c.children_at.ensures) c.children.ensures c.in_ok-len.was

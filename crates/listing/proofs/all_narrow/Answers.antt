@@ -10,8 +10,8 @@ pub loop-i-init : goal.loop-i-init
 unfolding all_narrow
 loop-i-init c = every-start _ (zero-add _)
 
-pub returns-then-wide-gt-MAX_ARITY : goal.returns-then-wide-gt-MAX_ARITY
-returns-then-wide-gt-MAX_ARITY c =
+pub returns-then-from-gt-MAX_ARITY : goal.returns-then-from-gt-MAX_ARITY
+returns-then-from-gt-MAX_ARITY c =
     let k = children_at c.args.s.now c.loop-i.i in
     let more = c.loop-i-test.true in
     every-broken c.loop-i.invariant more (lt-leb k max_arity (omega arith))

@@ -240,8 +240,8 @@ run_tree-run_children-below-requires t c =
     let a = c.args in
     let p = c.requires in
     let v = p.ahead in
-    let k = c.wide.result in
-    let e : k - 0 ≡ get_or a.s.now label_bytes 0 = omega (arith, c.wide.ensures, c.children_at.ensures) in
+    let k = c.from.result in
+    let e : k - 0 ≡ get_or a.s.now label_bytes 0 = omega (arith, c.from.ensures, c.children_at.ensures) in
     let less = part_length a.s.now node_bytes in
     let narrow : k ≤ max_arity = omega (arith, root-arity v, e) in
     let none = refl {a = false} in (
@@ -265,8 +265,8 @@ pub run_tree-overflow_add-result : goal.run_tree-overflow_add-result
 run_tree-overflow_add-result t c =
     let s = c.args.s.now in
     let v = c.requires.ahead in
-    let k = c.wide.result - 0 in
-    let e : k ≡ get_or s label_bytes 0 = omega (arith, c.wide.ensures, c.children_at.ensures) in
+    let k = c.from.result - 0 in
+    let e : k ≡ get_or s label_bytes 0 = omega (arith, c.from.ensures, c.children_at.ensures) in
     let nodes = ahead-nodes (children-ahead v k e) in
     omega (arith, c.run_children-below.ensures.nodes_value, part_length s node_bytes, v.room)
 
@@ -275,8 +275,8 @@ run_tree-returns t c =
     let a = c.args in
     let v = c.requires.ahead in
     let τs = a.transitions.now in
-    let k = c.wide.result - 0 in
-    let e : k ≡ get_or a.s.now label_bytes 0 = omega (arith, c.wide.ensures, c.children_at.ensures) in
+    let k = c.from.result - 0 in
+    let e : k ≡ get_or a.s.now label_bytes 0 = omega (arith, c.from.ensures, c.children_at.ensures) in
     let below = c.run_children-below.ensures in
     let ran = root-run v k e τs a.count below.ran_value c.label_at.ensures.value in
     let state = ran-byte (run (over τs a.count) (read_tree a.s.now)) ran c.unwrap_or.ensures in

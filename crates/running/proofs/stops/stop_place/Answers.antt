@@ -13,7 +13,7 @@ children_at-requires c =
 pub loop-left-init : goal.loop-left-init
 loop-left-init c =
     let ok = passed c.args.tree.now c.requires.tree_value in
-    rw (c.wide-left.ensures ∙ c.children_at.ensures) (walking_start ok c.args.states.now)
+    rw (c.from-left.ensures ∙ c.children_at.ensures) (walking_start ok c.args.states.now)
 
 pub bounds-states-i : goal.bounds-states-i
 bounds-states-i c =
@@ -33,7 +33,7 @@ walked-below-requires c =
     record {
       le_left = omega (arith, c.loop-left-test.true);
       left_bound = omega (arith, h, ok.short, inv.few);
-      children_le_max_arity = omega (arith, ok.narrow _ h, c.wide.ensures, c.children_at-in-loop-left.ensures);
+      children_le_max_arity = omega (arith, ok.narrow _ h, c.from.ensures, c.children_at-in-loop-left.ensures);
     }
 
 pub overflow_add-i : goal.overflow_add-i
@@ -52,7 +52,7 @@ loop-left-preserved c =
     let at = c.loop-left in
     walking-next ok c.loop-left-test.true at.invariant c.walked-below.result
     (c.walked-below.ensures ∙ ap (walked at.stop at.left at.i (get_or c.args.states.now at.i 0))
-    (c.wide.ensures ∙ c.children_at-in-loop-left.ensures))
+    (c.from.ensures ∙ c.children_at-in-loop-left.ensures))
 
 pub overflow_add-result : goal.overflow_add-result
 overflow_add-result c =
