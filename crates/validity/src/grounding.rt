@@ -66,8 +66,7 @@ fn ground_unblocked(blocked: &[u8; BYTE_VALUES], n: usize, marks: &mut [u8; BYTE
 {
     let mut changed = false;
     for k in 0..n {
-        let r = ground(blocked, k, marks);
-        changed = changed | r;
+        changed |= ground(blocked, k, marks);
     }
     changed
 }

@@ -19,7 +19,7 @@ use format::{BYTE_VALUES, MAX_ARITY, TRANSITION_BYTES, wide};
 
 // What one pass says of a table: whether its states are numbered by the rule, and whether every output is above its
 // arguments.
-#[derive(Drop)]
+#[derive(Clone, Copy, Debug, PartialEq, Eq)]
 pub struct Ruling {
     pub numbered: bool,
     pub climbing: bool,
@@ -28,10 +28,7 @@ pub struct Ruling {
 pub fn greater(x: usize, y: usize) -> usize
     ensures { result ≡ max x y }
 {
-    if x < y {
-        return y;
-    }
-    x
+    x.max(y)
 }
 
 // The greatest argument; 0 for a leaf. The places beyond the arguments are 0, so all eight are looked at and the loop
@@ -44,7 +41,7 @@ fn top_argument(transitions: &[u8], at: usize) -> usize
     let mut t = 0;
     for k in 0..MAX_ARITY {
         let q = arg_of(transitions, at, k);
-        t = greater(t, q);
+        t = t.max(q);
     }
     t
 }
@@ -82,10 +79,7 @@ pub fn all_seen(seen: &[u8; BYTE_VALUES], from: usize, end: usize) -> bool
 pub fn leads_to(mark: usize, from: usize) -> bool
     ensures { result ≡ true → (1 ≤ mark) × (mark ≤ from) }
 {
-    if mark == 0 {
-        return false;
-    }
-    mark <= from
+    mark != 0 && mark <= from
 }
 
 // Reads transition i: returns whether every state strictly between its arguments and its output has been seen. The
@@ -138,6 +132,6 @@ pub fn ruled(transitions: &[u8], count: usize, n: usize) -> Ruling
     }
     Ruling {
         numbered: all_marked(&seen, 1, n + 1),
-        climbing: climbing,
+        climbing,
     }
 }

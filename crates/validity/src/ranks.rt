@@ -1,6 +1,6 @@
 // Ranks of states. If they rise from arguments to outputs in every transition, no state comes back to itself. That
 // is tested of whatever ranks there are, so how they were found has no contract: bad ranks cost time and no answer.
-ghost use Rattle.std.specs.Prelude.{◌≡◌, ◌+◌, ◌*◌, ◌<◌, ◌≤◌, length, nat_lt};
+ghost use Rattle.std.specs.Prelude.{◌≡◌, ◌+◌, ◌*◌, ◌<◌, ◌≤◌, length, nat_lt, IfSome};
 ghost use Rattle.fields.specs.Fields.{Readable, HoldsTransitions};
 ghost use Rattle.format.specs.Format.{byte_values, max_transitions};
 ghost use Rattle.lists.specs.Tests.{every};
@@ -58,40 +58,34 @@ fn link(
     ensures first_len_2 { length first.new ≡ byte_values }
     ensures others_len_2 { length others.new ≡ max_transitions }
 {
-    let mut i = 0;
-    while i < count {
+    for i in 0..count {
         let out = out_of(transitions, TRANSITION_BYTES * i);
         others[i] = first[out];
-        i += 1;
-        first[out] = i as u16;
+        first[out] = (i + 1) as u16;
     }
 }
 
-// The first transition into q that is left, as its number from 1; 0 if there is none.
-fn first_into(first: &[u16; BYTE_VALUES], q: usize, count: usize) -> usize
+// The first transition into q that is left.
+fn first_into(first: &[u16; BYTE_VALUES], q: usize, count: usize) -> Option<usize>
     requires { q < byte_values }
-    ensures { result ≤ count }
+    ensures { IfSome result (λ i. i < count) }
 {
-    let i = widened(first[q]);
-    if count < i {
-        return 0;
-    }
-    i
+    widened(first[q]).checked_sub(1).filter(|&i| i < count)
 }
 
-// An argument of the transition that starts at a byte and has no rank; 0 if there is none.
-fn unranked_arg(transitions: &[u8], at: usize, ranks: &[u8; BYTE_VALUES]) -> usize
+// An argument of the transition that starts at a byte and has no rank.
+fn unranked_arg(transitions: &[u8], at: usize, ranks: &[u8; BYTE_VALUES]) -> Option<usize>
     requires { Readable transitions.now at }
-    ensures { result < byte_values }
+    ensures { IfSome result (λ q. q < byte_values) }
 {
     let arity = arity_of(transitions, at);
     for k in 0..arity {
         let q = arg_of(transitions, at, k);
         if ranks[q] == 0 {
-            return q;
+            return Some(q);
         }
     }
-    0
+    None
 }
 
 // Goes on to state q. Returns the new depth.
@@ -135,9 +129,7 @@ fn rank_all(
     let mut depth = 0;
     let mut start = 0;
     let mut rank = 0u8;
-    let mut left = count + 3 * n;
-    while left > 0 {
-        left -= 1;
+    for _ in 0..count + 3 * n {
         if depth == 0 {
             if start == n {
                 return;
@@ -149,18 +141,16 @@ fn rank_all(
             continue;
         }
         let q = wide(path[depth - 1]) % BYTE_VALUES;
-        let i = first_into(first, q, count);
-        if i == 0 {
+        let Some(i) = first_into(first, q, count) else {
             depth -= 1;
-            rank = std::num::wrapping_add_u8(rank, 1);
+            rank = rank.wrapping_add(1);
             ranks[q] = rank;
             continue;
-        }
-        let a = unranked_arg(transitions, TRANSITION_BYTES * (i - 1), ranks);
-        if a == 0 {
-            first[q] = others[i - 1];
+        };
+        let Some(a) = unranked_arg(transitions, TRANSITION_BYTES * i, ranks) else {
+            first[q] = others[i];
             continue;
-        }
+        };
         if depth == BYTE_VALUES {
             return;
         }

@@ -35,8 +35,7 @@ fn mark_outputs(transitions: &[u8], count: usize, marks: &mut [u8; BYTE_VALUES])
 {
     let mut changed = false;
     for i in 0..count {
-        let r = mark_output(transitions, TRANSITION_BYTES * i, marks);
-        changed = changed | r;
+        changed |= mark_output(transitions, TRANSITION_BYTES * i, marks);
     }
     changed
 }

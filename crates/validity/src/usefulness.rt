@@ -1,6 +1,5 @@
 // Condition 10: states are marked from outputs to arguments, from the accepting ones on, until nothing changes.
 ghost use Rattle.std.specs.Prelude.{◌≡◌, ◌<◌, ◌≤◌, true, [], length};
-ghost use Rattle.lists.specs.Tests.{bit};
 ghost use Rattle.automata.specs.Automaton.{accepting};
 ghost use Rattle.automata.specs.Coaccessible.{all_coaccessible, coaccessible};
 ghost use Rattle.fields.specs.Fields.{Readable, HoldsTransitions};
@@ -27,8 +26,7 @@ fn use_args(transitions: &[u8], at: usize, marks: &mut [u8; BYTE_VALUES]) -> boo
     let mut changed = false;
     for k in 0..arity {
         let q = arg_of(transitions, at, k);
-        let r = mark(marks, q);
-        changed = changed | r;
+        changed |= mark(marks, q);
     }
     changed
 }
@@ -53,24 +51,10 @@ fn use_all(transitions: &[u8], count: usize, marks: &mut [u8; BYTE_VALUES]) -> b
     ensures { Spread (UpTo (nth_down transitions.now) count) marks.old marks.new result }
 {
     let mut changed = false;
-    for j in 0..count {
-        let r = use_transition(transitions, TRANSITION_BYTES * (count - 1 - j), marks);
-        changed = changed | r;
+    for i in (0..count).rev() {
+        changed |= use_transition(transitions, TRANSITION_BYTES * i, marks);
     }
     changed
-}
-
-// 1 if state q is accepting, else 0.
-fn class_mark(classes: &[u8], n: usize, q: usize) -> u8
-    requires n_in_bounds { n < length classes.now }
-    requires le_q { 1 ≤ q }
-    requires q_le_n { q ≤ n }
-    ensures { result ≡ bit (accepting (viewed classes.now [] n 0) q) }
-{
-    if classes[q] == 1 {
-        return 1;
-    }
-    0
 }
 
 // The accepting states, marked.
@@ -81,7 +65,7 @@ fn accepting_marks(classes: &[u8], n: usize) -> [u8; BYTE_VALUES]
 {
     let mut marks = [0u8; BYTE_VALUES];
     for q in 1..n + 1 {
-        marks[q] = class_mark(classes, n, q);
+        marks[q] = u8::from(classes[q] == 1);
     }
     marks
 }

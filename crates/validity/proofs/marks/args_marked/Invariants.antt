@@ -1,5 +1,5 @@
 -- `validity::marks::args_marked` meets its contract: the answer is that of the arguments left.
-use Rattle.std.proofs.Common.{◌≡◌, ◌-◌}
+use Rattle.std.proofs.Common.{◌≡◌}
 use Rattle.lists.specs.Tests.{every}
 use Rattle.marking.specs.Marks.{marked}
 use Rattle.table.specs.Layout.{arg_of, arity_of, transition_at}

@@ -1,6 +1,6 @@
 -- `validity::numbering::ruled` meets its contract: the pass has read the transitions before i. Its end says whether
 -- all states are numbered, and whether all transitions climb.
-use Rattle.std.proofs.Common.{◌≡◌, ◌-◌, length}
+use Rattle.std.proofs.Common.{◌≡◌, length}
 use Rattle.automata.specs.Numbered.{Passed}
 use Rattle.format.specs.Format.{byte_values}
 use Rattle.marking.specs.Marks.{marked}

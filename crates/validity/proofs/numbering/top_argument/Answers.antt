@@ -1,4 +1,4 @@
-use Rattle.std.proofs.Common.{◌∙◌, arith}
+use Rattle.std.proofs.Common.{◌≡◌, max, ◌∙◌, arith, rules}
 use Rattle.validity.proofs.Arguments.{top-end, top-next, top-places, top_start}
 use Rattle.validity.proofs.numbering.top_argument.Goals as goal
 
@@ -8,7 +8,8 @@ loop-k-init c = top_start
 pub loop-k-preserved : goal.loop-k-preserved
 loop-k-preserved c =
     let now = c.loop-k in
-    rw (c.greater-t.ensures, c.arg_of-q.ensures.value) (top-next now.invariant (omega arith))
+    let greater : c.max-t.result ≡ max now.t c.arg_of-q.result = search rules in
+    rw (greater, c.arg_of-q.ensures.value) (top-next now.invariant (omega arith))
 
 pub returns : goal.returns
 returns c =

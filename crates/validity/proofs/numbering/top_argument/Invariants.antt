@@ -1,6 +1,6 @@
 -- `validity::numbering::top_argument` meets its contract: the greatest place is that of the ones read and the
 -- ones left.
-use Rattle.std.proofs.Common.{◌-◌, map}
+use Rattle.std.proofs.Common.{map}
 use Rattle.automata.specs.Numbered.{top}
 use Rattle.format.specs.Format.{max_arity}
 use Rattle.lists.specs.Positions.{up_from}

@@ -1,5 +1,5 @@
 -- `validity::ranks::args_below` meets its contract: the answer is that of the arguments left.
-use Rattle.std.proofs.Common.{◌≡◌, ◌-◌, ltb}
+use Rattle.std.proofs.Common.{◌≡◌, ltb}
 use Rattle.lists.specs.Tests.{every}
 use Rattle.table.specs.Layout.{arg_of, arity_of, transition_at}
 use Rattle.lists.proofs.Loops.{EveryFrom}

@@ -1,5 +1,4 @@
 -- `validity::ranks::ranks_rise` meets its contract: the answer is that of the transitions left.
-use Rattle.std.proofs.Common.{◌-◌}
 use Rattle.lists.specs.Tests.{every}
 use Rattle.table.specs.Layout.{nth_transition, transitions_in}
 use Rattle.lists.proofs.Loops.{EveryFrom}
