@@ -1,18 +1,12 @@
 // Whether the fingerprints of the states 1 to n all differ. Each is noted by its first bits, and only if another was
 // noted there before are two compared.
-ghost use Rattle.std.specs.Prelude.{◌≡◌, ◌<◌, ◌≤◌, not, ◌==◌};
+ghost use Rattle.std.specs.Prelude.{◌≡◌, ◌<◌, ◌≤◌};
 ghost use Rattle.fingerprints.specs.Fingerprints.{TakenBelow, all_differ, all_some, bucket_of, buckets};
 ghost use Rattle.fingerprints.specs.Fingerprints.{differs_below};
 
 use format::BYTE_VALUES;
 
 const BUCKETS: usize = 1024;
-
-fn differ(x: usize, y: usize) -> bool
-    ensures { result ≡ not (x == y) }
-{
-    x != y
-}
 
 fn bucket(print: usize) -> usize
     ensures value { result ≡ bucket_of print }
@@ -30,8 +24,7 @@ fn differs_below(prints: &[usize; BYTE_VALUES], q: usize) -> bool
     let print = prints[q];
     let mut alone = true;
     for p in 1..q {
-        let other = differ(print, prints[p]);
-        alone = alone & other;
+        alone &= print != prints[p];
     }
     alone
 }
@@ -71,8 +64,7 @@ pub fn all_some(prints: &[usize; BYTE_VALUES], n: usize) -> bool
 {
     let mut all = true;
     for q in 1..n + 1 {
-        let some = differ(prints[q], 0);
-        all = all & some;
+        all &= prints[q] != 0;
     }
     all
 }

@@ -1,9 +1,8 @@
 // The fingerprint of each state, from its class and its uses.
 ghost use Rattle.std.specs.Prelude.{◌≡◌, ◌*◌, ◌<◌, ◌≤◌, length};
-ghost use Rattle.lists.specs.Tests.{bit};
 ghost use Rattle.fields.specs.Fields.{HoldsTransitionsOver};
 ghost use Rattle.fields.specs.View.{Viewed, viewed};
-ghost use Rattle.table.specs.Layout.{class_at, nth_transition, transitions_in};
+ghost use Rattle.table.specs.Layout.{nth_transition, transitions_in};
 ghost use Rattle.fingerprints.specs.Fingerprints.{ClassPrints, Fingerprinted, Gained, Prints};
 ghost use Rattle.fingerprints.specs.Fingerprints.{gain, gains, only};
 
@@ -17,8 +16,7 @@ fn add(prints: &mut [usize; BYTE_VALUES], q: usize, v: usize)
     requires q_bound { q ≤ 255 }
     ensures { Gained (only q v) prints.old prints.new }
 {
-    let sum = std::num::wrapping_add_usize(prints[q], v);
-    prints[q] = sum;
+    prints[q] = prints[q].wrapping_add(v);
 }
 
 // The uses in transition i, x for its output. The exclusive or over all arguments takes one out again.
@@ -59,18 +57,7 @@ fn add_all_uses(transitions: &[u8], count: usize, n: usize, prints: &mut [usize;
     }
 }
 
-// The class of a state as a number.
-fn class_print(classes: &[u8], q: usize) -> usize
-    requires { q < length classes.now }
-    ensures { result ≡ bit (class_at classes.now q) }
-{
-    if classes[q] == 1 {
-        return 1;
-    }
-    0
-}
-
-// What fingerprints start from.
+// What fingerprints start from: the class of each state as a number.
 pub fn class_prints(classes: &[u8], n: usize) -> [usize; BYTE_VALUES]
     requires n_in_bounds { n < length classes.now }
     requires n_bound { n ≤ 255 }
@@ -78,7 +65,7 @@ pub fn class_prints(classes: &[u8], n: usize) -> [usize; BYTE_VALUES]
 {
     let mut prints = [0usize; BYTE_VALUES];
     for q in 1..n + 1 {
-        prints[q] = class_print(classes, q);
+        prints[q] = usize::from(classes[q] == 1);
     }
     prints
 }

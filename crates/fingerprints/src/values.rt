@@ -32,7 +32,7 @@ pub fn xor_args(transitions: &[u8], at: usize, y: usize) -> usize
     let arity = arity_of(transitions, at);
     let mut all = y;
     for k in 0..arity {
-        all = all ^ scaled(arg_of(transitions, at, k), k);
+        all ^= scaled(arg_of(transitions, at, k), k);
     }
     all
 }

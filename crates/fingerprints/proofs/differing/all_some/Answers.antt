@@ -1,4 +1,4 @@
-use Rattle.std.proofs.Common.{arith}
+use Rattle.std.proofs.Common.{refl, arith}
 use Rattle.fingerprints.specs.Fingerprints.{all_some}
 use Rattle.lists.proofs.Loops.{clean_end, clean-next, clean-start}
 use Rattle.fingerprints.proofs.differing.all_some.Goals as goal
@@ -7,8 +7,7 @@ pub loop-q-init : goal.loop-q-init
 loop-q-init c = clean-start c.args.n (omega arith)
 
 pub loop-q-preserved : goal.loop-q-preserved
-loop-q-preserved c =
-    clean-next c.loop-q.invariant (omega arith) c.differ-some.ensures
+loop-q-preserved c = clean-next c.loop-q.invariant (omega arith) refl
 
 pub returns : goal.returns
 unfolding all_some

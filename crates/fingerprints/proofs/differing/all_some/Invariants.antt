@@ -1,5 +1,5 @@
 -- `fingerprints::differing::all_some` meets its contract: what passed so far, and the states left.
-use Rattle.std.proofs.Common.{◌+◌, ◌-◌}
+use Rattle.std.proofs.Common.{◌+◌}
 use Rattle.fingerprints.specs.Fingerprints.{some_at}
 use Rattle.lists.proofs.Loops.{CleanFrom}
 use Rattle.lists.specs.Positions.{up_from}

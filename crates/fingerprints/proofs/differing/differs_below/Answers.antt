@@ -7,7 +7,7 @@ loop-p-init c = (refl, clean-start (c.args.q - 1) (omega (arith, c.requires.le_q
 
 pub loop-p-preserved : goal.loop-p-preserved
 loop-p-preserved c =
-    (c.loop-p.invariant.0, clean-next c.loop-p.invariant.1 (omega arith) c.differ-other.ensures)
+    (c.loop-p.invariant.0, clean-next c.loop-p.invariant.1 (omega arith) refl)
 
 pub returns : goal.returns
 returns c = clean_end c.loop-p.invariant.1 (omega arith)

@@ -1,5 +1,5 @@
 -- `fingerprints::differing::differs_below` meets its contract: what differs so far, and the states left.
-use Rattle.std.proofs.Common.{◌≡◌, ◌-◌}
+use Rattle.std.proofs.Common.{◌≡◌}
 use Rattle.fingerprints.specs.Fingerprints.{differs, differs_below, print_of}
 use Rattle.lists.proofs.Loops.{CleanFrom}
 use Rattle.fingerprints.proofs.differing.differs_below.Given as goal

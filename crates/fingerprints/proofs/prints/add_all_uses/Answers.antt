@@ -4,19 +4,14 @@ use Rattle.fingerprints.proofs.Adding.{gains-start}
 use Rattle.fingerprints.proofs.prints.add_all_uses.Goals as goal
 
 pub loop-i-init : goal.loop-i-init
-loop-i-init c = (
-  omega arith,
-  filling-start c.requires.prints (gains-start c.args.transitions.now c.args.count),
-)
+loop-i-init c = filling-start c.requires.prints (gains-start c.args.transitions.now c.args.count)
 
 pub loop-i-preserved : goal.loop-i-preserved
-loop-i-preserved c = (
-  omega arith,
-  filling-next c.loop-i.invariant.1 c.add_uses.ensures (gains-next c.args.transitions.now
-      c.args.count c.loop-i.i (omega arith) c.out_of-out.ensures.value refl),
-)
+loop-i-preserved c =
+    filling-next c.loop-i.invariant c.add_uses.ensures
+    (gains-next c.args.transitions.now c.args.count c.loop-i.i (omega arith) c.out_of-out.ensures.value refl)
 
 pub returns : goal.returns
 returns c =
-    filling-end c.loop-i.invariant.1 (gains-end c.args.transitions.now c.args.count
+    filling-end c.loop-i.invariant (gains-end c.args.transitions.now c.args.count
     c.loop-i.i (omega arith))
