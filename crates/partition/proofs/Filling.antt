@@ -1,4 +1,4 @@
--- What the loops know that fill one part, mark the states that share theirs, and note the keys of a slot.
+-- What the loops know that mark the states that share their part, and note the keys of a slot.
 use mathlib.Core.Bool.{Bool, false, true, true≢false}
 use mathlib.Core.List.{List}
 use mathlib.Core.Logic.{◌≢◌}
@@ -7,39 +7,14 @@ use Prim.Native.Nat.{◌+◌, ◌<◌, ◌≤◌, ℕ}
 use native.Mathlib.Omega.{arith}
 use lib.Dec.{eqb}
 use lib.ListN.{length, length-replicate, length-set, replicate, set}
-use lib.Seq.{get_or-set_other}
 use borrow.Author.Count.{below_more}
 use borrow.Author.Tests.{eqb-false, eqb-true}
 use Rattle.format.specs.Format.{byte_values}
 use Rattle.marking.specs.Marks.{marked}
-use Rattle.partition.specs.Parts.{Grouped, Whole, part_of}
+use Rattle.partition.specs.Parts.{Grouped, part_of}
 use Rattle.partition.specs.Splits.{Mates, Noted, PartKeys, part_key}
-use Rattle.lists.proofs.Filling.{FilledTo, set-next-from}
+use Rattle.lists.proofs.Filling.{FilledTo}
 use Rattle.marking.proofs.Sweeps.{marked-here, set-marked}
-
--- ---- one part
-
-pub record WholeBelow (q : ℕ) (m : List ℕ) : Type 0 where
-  pub size : length m ≡ byte_values
-  pub none : part_of m 0 ≡ 0
-  pub each : (p : ℕ) → 1 ≤ p → p < q → part_of m p ≡ 1
-
-pub whole-start : WholeBelow 1 (replicate byte_values 0)
-whole-start = record {
-  size = length-replicate {A = ℕ} byte_values 0;
-  none = refl;
-  each = λ p h l. absurd (omega arith);
-}
-
-pub whole-next : {q : ℕ} {m : List ℕ} → WholeBelow q m → 1 ≤ q → q ≤ 255 → WholeBelow (q + 1) (set m q 1)
-whole-next {q} {m} w a h = record {
-  size = length-set m q 1 ∙ w.size;
-  none = get_or-set_other m q 0 1 0 (λ z. omega arith) ∙ w.none;
-  each = set-next-from (λ x. x) (λ p. 1) 1 m q 1 (omega (arith, w.size)) refl w.each;
-}
-
-pub whole-end : {q n : ℕ} {m : List ℕ} → WholeBelow q m → n < q → Whole n m
-whole-end w h = record { size = w.size; none = w.none; each = λ p a b. w.each p a (omega arith) }
 
 -- ---- states that share their part
 

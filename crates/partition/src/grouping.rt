@@ -12,10 +12,7 @@ fn is_same(keys: &[usize; BYTE_VALUES], parts: &[u8; BYTE_VALUES], q: usize, p: 
     requires p_bound { p ≤ 255 }
     ensures { result ≡ is_same (key_of keys.now) parts.now q p }
 {
-    if parts[p] != parts[q] {
-        return false;
-    }
-    keys[p] == keys[q]
+    parts[p] == parts[q] && keys[p] == keys[q]
 }
 
 // The least state of q's part that has q's key. None is below the leader.
@@ -54,11 +51,8 @@ pub fn regroup(n: usize, keys: &[usize; BYTE_VALUES], parts: &mut [u8; BYTE_VALU
     ensures { Regrouped n (key_of keys.now) parts.old parts.new result }
 {
     let mut changed = false;
-    let mut q = n;
-    while q > 0 {
-        let r = settle(keys, parts, q);
-        changed = changed | r;
-        q -= 1;
+    for q in (1..n + 1).rev() {
+        changed |= settle(keys, parts, q);
     }
     changed
 }

@@ -27,9 +27,7 @@ fn one_part(n: usize) -> [u8; BYTE_VALUES]
     ensures { Whole n result }
 {
     let mut parts = [0u8; BYTE_VALUES];
-    for q in 1..n + 1 {
-        parts[q] = 1;
-    }
+    parts[1..n + 1].fill(1);
     parts
 }
 

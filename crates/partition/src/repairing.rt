@@ -190,8 +190,7 @@ fn repair_line(
     let arity = arity_of(transitions, TRANSITION_BYTES * i);
     let mut changed = false;
     for k in 0..arity {
-        let r = repair_at(transitions, count, n, i, k, mated, parts);
-        changed = changed | r;
+        changed |= repair_at(transitions, count, n, i, k, mated, parts);
     }
     changed
 }
@@ -207,8 +206,7 @@ pub fn repair(transitions: &[u8], count: usize, n: usize, parts: &mut [u8; BYTE_
     let mated = mated_states(n, parts);
     let mut changed = false;
     for i in 0..count {
-        let split = repair_line(transitions, count, n, i, &mated, parts);
-        changed = changed | split;
+        changed |= repair_line(transitions, count, n, i, &mated, parts);
     }
     changed
 }

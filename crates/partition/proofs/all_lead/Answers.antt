@@ -7,21 +7,19 @@ use Rattle.partition.specs.Parts.{all_lead}
 use Rattle.partition.proofs.all_lead.Goals as goal
 
 pub loop-q-init : goal.loop-q-init
-loop-q-init c = (omega arith, every-start c.args.n (omega arith))
+loop-q-init c = every-start c.args.n (omega arith)
 
 pub returns-then-wide-q : goal.returns-then-wide-q
 unfolding all_lead
 returns-then-wide-q c =
-    every-broken c.loop-q.invariant.1 (omega arith)
+    every-broken c.loop-q.invariant (omega arith)
     (ap (λ x. eqb x c.loop-q.q) (sym c.wide.ensures) ∙ ne_eqb _ _ c.if-wide-q.true)
 
 pub loop-q-preserved : goal.loop-q-preserved
-loop-q-preserved c = (
-  omega arith,
-  every-next c.loop-q.invariant.1 (omega arith)
-      (ap (λ x. eqb x c.loop-q.q) (sym c.wide.ensures) ∙ eq-eqb _ _ c.if-wide-q.false),
-)
+loop-q-preserved c =
+    every-next c.loop-q.invariant (omega arith)
+    (ap (λ x. eqb x c.loop-q.q) (sym c.wide.ensures) ∙ eq-eqb _ _ c.if-wide-q.false)
 
 pub returns : goal.returns
 unfolding all_lead
-returns c = every-end c.loop-q.invariant.1 (omega arith)
+returns c = every-end c.loop-q.invariant (omega arith)

@@ -1,5 +1,4 @@
 -- `partition::grouping::first_same` meets its contract: no state before p is of q's part and key.
-use Prim.Native.Nat.{◌-◌}
 use Rattle.partition.specs.Splits.{key_of}
 use Rattle.partition.proofs.Moving.{NoneBefore}
 use Rattle.partition.proofs.grouping.first_same.Given as goal

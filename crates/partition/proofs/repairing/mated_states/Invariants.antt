@@ -1,5 +1,4 @@
 -- `partition::repairing::mated_states` meets its contract: the states before q that share their part are marked.
-use Prim.Native.Nat.{◌+◌, ◌-◌}
 use Rattle.partition.proofs.Filling.{MatedBelow}
 use Rattle.partition.proofs.repairing.mated_states.Given as goal
 

@@ -1,5 +1,4 @@
 -- `partition::repairing::part_keys` meets its contract: the keys before q are noted.
-use Prim.Native.Nat.{◌+◌, ◌-◌}
 use Rattle.format.specs.Format.{byte_values}
 use Rattle.lists.proofs.Filling.{FilledTo}
 use Rattle.partition.specs.Splits.{part_key}

@@ -1,8 +1,7 @@
 -- `partition::repairing::repair` meets its contract: the transitions before i are repaired.
-use Prim.Native.Nat.{◌-◌, ◌≤◌}
 use Rattle.marking.specs.Marks.{Below}
 use Rattle.partition.specs.Splits.{Split, StableLine}
 use Rattle.partition.proofs.repairing.repair.Given as goal
 
 abbrev pub invariant-loop-i : goal.invariant-loop-i
-invariant-loop-i l = (l.i ≤ l.count) × Split l.transitions l.n l.count (Below (StableLine l.transitions l.n l.count) l.i) l.initial.parts l.parts l.changed
+invariant-loop-i l = Split l.transitions l.n l.count (Below (StableLine l.transitions l.n l.count) l.i) l.initial.parts l.parts l.changed

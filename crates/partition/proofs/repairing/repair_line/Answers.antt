@@ -10,31 +10,29 @@ use Rattle.partition.proofs.repairing.repair_line.Goals as goal
 pub loop-k-init : goal.loop-k-init
 loop-k-init c = (
   c.arity_of-arity.ensures,
-  omega arith,
   split-begin (Stable c.args.transitions.now c.args.n c.args.count c.args.i)
       c.requires.grouped,
 )
 
-pub repair_at-r-requires : goal.repair_at-r-requires
-repair_at-r-requires c = record {
+pub repair_at-changed-requires : goal.repair_at-changed-requires
+repair_at-changed-requires c = record {
   sorted = c.requires.sorted;
   holds_transitions_over = c.requires.holds_transitions_over;
   i_lt_count = c.requires.i_lt_count;
-  k_bound = omega (arith, c.loop-k.invariant.0, c.loop-k-test.true);
-  grouped = c.loop-k.invariant.2.grouped;
-  mates = split-mates c.loop-k.invariant.2 c.requires.mates;
+  k_bound = omega (arith, c.loop-k.invariant.0);
+  grouped = c.loop-k.invariant.1.grouped;
+  mates = split-mates c.loop-k.invariant.1 c.requires.mates;
 }
 
 pub loop-k-preserved : goal.loop-k-preserved
 loop-k-preserved c = (
   c.loop-k.invariant.0,
-  omega arith,
   split-next (Stable c.args.transitions.now c.args.n c.args.count c.args.i)
-      c.loop-k.k c.loop-k.invariant.2 c.repair_at-r.ensures,
+      c.loop-k.k c.loop-k.invariant.1 c.repair_at-changed.ensures,
 )
 
 pub returns : goal.returns
 returns c =
     let e : c.loop-k.k ≡ arity_of c.args.transitions.now (transition_bytes * c.args.i) =
-    omega (arith, c.loop-k.invariant.0, c.loop-k.invariant.1, c.loop-k-test.false) in
-    rw e at c.loop-k.invariant.2
+    omega (arith, c.loop-k.invariant.0) in
+    rw e at c.loop-k.invariant.1
