@@ -1,6 +1,6 @@
 -- What each step of a table's check knows: numbered states are accessible, and the first condition broken is the
 -- answer.
-use mathlib.Core.Bool.{Bool, false, not, true}
+use mathlib.Core.Bool.{Bool, false, true}
 use mathlib.Core.List.{List, []}
 use mathlib.Core.Logic.{◌≢◌}
 use mathlib.Core.Path.{◌∙◌, ◌≡◌, ap, ap₂, refl, subst, subst₂, sym}
@@ -28,7 +28,6 @@ use Rattle.table.specs.Intake.{automaton_conditions, content_conditions, table_r
 use Rattle.table.specs.Layout.{body, decode, layout_fits, state_count, transition_count, transitions_in}
 use Rattle.automata.proofs.NumberedPass.{numbered-accessible}
 use Rattle.fields.proofs.Transitions.{layout-in-table, part_body}
-use Rattle.listing.proofs.Checks.{broken, kept}
 use Rattle.fields.proofs.Views.{viewed-ranged, viewed-states}
 use Rattle.lists.proofs.Parts.{part}
 use Rattle.packed.proofs.Padding.{layout-padded}
@@ -65,60 +64,60 @@ content-rest b p q = rw (p, q)
 -- ---- the answers
 
 module _ (A : Automaton) where
-  pub refused-9 : {r : Bool} → r ≡ all_accessible A → not r ≡ true → ◌≡◌ {A = ℕ} 9 (first_broken (automaton_conditions A))
+  pub refused-9 : {r : Bool} → r ≡ all_accessible A → r ≡ false → ◌≡◌ {A = ℕ} 9 (first_broken (automaton_conditions A))
   unfolding automaton_conditions
-  refused-9 p x = rw (broken p x)
+  refused-9 p x = rw (sym p ∙ x)
 
-  pub refused-10 : {r u : Bool} → r ≡ all_accessible A → not r ≡ false → u ≡ all_coaccessible A → not u ≡ true →
+  pub refused-10 : {r u : Bool} → r ≡ all_accessible A → r ≡ true → u ≡ all_coaccessible A → u ≡ false →
       ◌≡◌ {A = ℕ} 10 (first_broken (automaton_conditions A))
   unfolding automaton_conditions
-  refused-10 p x q y = rw (kept p x, broken q y)
+  refused-10 p x q y = rw (sym p ∙ x, sym q ∙ y)
 
-  pub refused-11 : {r u f : Bool} → r ≡ all_accessible A → not r ≡ false → u ≡ all_coaccessible A → not u ≡ false →
-      f ≡ acyclic A → not f ≡ true → ◌≡◌ {A = ℕ} 11 (first_broken (automaton_conditions A))
+  pub refused-11 : {r u f : Bool} → r ≡ all_accessible A → r ≡ true → u ≡ all_coaccessible A → u ≡ true →
+      f ≡ acyclic A → f ≡ false → ◌≡◌ {A = ℕ} 11 (first_broken (automaton_conditions A))
   unfolding automaton_conditions
-  refused-11 p x q y e z = rw (kept p x, kept q y, broken e z)
+  refused-11 p x q y e z = rw (sym p ∙ x, sym q ∙ y, sym e ∙ z)
 
-  pub refused-12 : {r u f d : Bool} → r ≡ all_accessible A → not r ≡ false → u ≡ all_coaccessible A → not u ≡ false →
-      f ≡ acyclic A → not f ≡ false → d ≡ all_distinguishable A → not d ≡ true →
+  pub refused-12 : {r u f d : Bool} → r ≡ all_accessible A → r ≡ true → u ≡ all_coaccessible A → u ≡ true →
+      f ≡ acyclic A → f ≡ true → d ≡ all_distinguishable A → d ≡ false →
       ◌≡◌ {A = ℕ} 12 (first_broken (automaton_conditions A))
   unfolding automaton_conditions
-  refused-12 p x q y e z g w = rw (kept p x, kept q y, kept e z, broken g w)
+  refused-12 p x q y e z g w = rw (sym p ∙ x, sym q ∙ y, sym e ∙ z, sym g ∙ w)
 
-  pub refused-13 : {r u f d o : Bool} → r ≡ all_accessible A → not r ≡ false → u ≡ all_coaccessible A →
-      not u ≡ false → f ≡ acyclic A → not f ≡ false → d ≡ all_distinguishable A → not d ≡ false → o ≡ numbered A →
-      not o ≡ true → ◌≡◌ {A = ℕ} 13 (first_broken (automaton_conditions A))
+  pub refused-13 : {r u f d o : Bool} → r ≡ all_accessible A → r ≡ true → u ≡ all_coaccessible A →
+      u ≡ true → f ≡ acyclic A → f ≡ true → d ≡ all_distinguishable A → d ≡ true → o ≡ numbered A →
+      o ≡ false → ◌≡◌ {A = ℕ} 13 (first_broken (automaton_conditions A))
   unfolding automaton_conditions
-  refused-13 p x q y e z g w h v = rw (kept p x, kept q y, kept e z, kept g w, broken h v)
+  refused-13 p x q y e z g w h v = rw (sym p ∙ x, sym q ∙ y, sym e ∙ z, sym g ∙ w, sym h ∙ v)
 
-  pub not-refused : {r u f d o : Bool} → r ≡ all_accessible A → not r ≡ false → u ≡ all_coaccessible A →
-      not u ≡ false → f ≡ acyclic A → not f ≡ false → d ≡ all_distinguishable A → not d ≡ false → o ≡ numbered A →
-      not o ≡ false → ◌≡◌ {A = ℕ} 0 (first_broken (automaton_conditions A))
+  pub not-refused : {r u f d o : Bool} → r ≡ all_accessible A → r ≡ true → u ≡ all_coaccessible A →
+      u ≡ true → f ≡ acyclic A → f ≡ true → d ≡ all_distinguishable A → d ≡ true → o ≡ numbered A →
+      o ≡ true → ◌≡◌ {A = ℕ} 0 (first_broken (automaton_conditions A))
   unfolding automaton_conditions
-  not-refused p x q y e z g w h v = rw (kept p x, kept q y, kept e z, kept g w, kept h v)
+  not-refused p x q y e z g w h v = rw (sym p ∙ x, sym q ∙ y, sym e ∙ z, sym g ∙ w, sym h ∙ v)
 
 -- ---- an automaton that passes
 
 module _ (cl s : List ℕ) (n c : ℕ) (over : HoldsTransitionsOver s c n) where
   -- numbered, without loops and settled: nothing is broken
-  pub passes : {o : Bool} → o ≡ numbered (viewed cl s n c) → not o ≡ false → acyclic (viewed cl s n c) ≡ true →
+  pub passes : {o : Bool} → o ≡ numbered (viewed cl s n c) → o ≡ true → acyclic (viewed cl s n c) ≡ true →
       Settled (viewed cl s n c) → ◌≡◌ {A = ℕ} 0 (first_broken (automaton_conditions (viewed cl s n c)))
   passes p x ac t =
       not-refused (viewed cl s n c)
-      (sym (numbered-accessible (viewed cl s n c) (viewed-ranged cl s n c over) (kept p x))) refl
+      (sym (numbered-accessible (viewed cl s n c) (viewed-ranged cl s n c over) (sym p ∙ x))) refl
       (sym (t.useful ac)) refl (sym ac) refl (sym (t.separated ac)) refl p x
 
 -- refusals 5, 7 and 8
-pub refused-7 : (b : List ℕ) {r : Bool} → r ≡ layout_fits b → not r ≡ true → ◌≡◌ {A = ℕ} 7 (first_broken
+pub refused-7 : (b : List ℕ) {r : Bool} → r ≡ layout_fits b → r ≡ false → ◌≡◌ {A = ℕ} 7 (first_broken
     (content_conditions b))
 unfolding content_conditions
-refused-7 b p x = rw (broken p x)
+refused-7 b p x = rw (sym p ∙ x)
 
-pub refused-8 : (b : List ℕ) {r o : Bool} → r ≡ layout_fits b → not r ≡ false →
-    o ≡ rising (transitions_in (body b) (transition_count b)) → not o ≡ true → ◌≡◌ {A = ℕ} 8 (first_broken
+pub refused-8 : (b : List ℕ) {r o : Bool} → r ≡ layout_fits b → r ≡ true →
+    o ≡ rising (transitions_in (body b) (transition_count b)) → o ≡ false → ◌≡◌ {A = ℕ} 8 (first_broken
     (content_conditions b))
 unfolding content_conditions decode
-refused-8 b p x q y = rw (kept p x, broken q y)
+refused-8 b p x q y = rw (sym p ∙ x, sym q ∙ y)
 
 pub refused-5 : (b : List ℕ) → length b ≢ table_bytes → ◌≡◌ {A = ℕ} 5 (table_refusal b)
 unfolding table_refusal

@@ -9,6 +9,7 @@ ghost use Rattle.automata.specs.Order.{rising};
 ghost use Rattle.fields.specs.Fields.{HoldsTransitionsOver};
 ghost use Rattle.fields.specs.View.{Viewed, viewed};
 ghost use Rattle.format.specs.Format.{table_bytes};
+ghost use Rattle.format.specs.Refusals.{broken};
 ghost use Rattle.lists.specs.Conditions.{first_broken};
 ghost use Rattle.packed.specs.Packed.{HoldsPadded};
 ghost use Rattle.table.specs.Intake.{automaton_conditions, content_conditions, table_refusal};
@@ -17,7 +18,7 @@ ghost use Rattle.validity.specs.Ranks.{climbing};
 
 use fields::transition_count;
 use fingerprints::settled;
-use format::{HEAD_BYTES, TABLE_BYTES, wide};
+use format::{HEAD_BYTES, Refusal, TABLE_BYTES, wide};
 use packed::{layout_fits, rises};
 use partition::all_apart;
 use validity::{acyclic, all_accessible, all_coaccessible, ranks_show, ruled};
@@ -48,77 +49,84 @@ fn loopless(transitions: &[u8], count: usize, n: usize, above: bool) -> bool
     ranks_show(transitions, count, n)
 }
 
-// Refusals 9 to 13 of an automaton whose fields are in range and whose transitions rise, or 0: each condition by a
-// search of its own.
-fn searched_refusal(classes: &[u8], transitions: &[u8], count: usize, n: usize) -> u8
+// Conditions 9 to 13 of an automaton whose fields are in range and whose transitions rise, each by a search of its
+// own.
+fn check_by_search(
+    classes: &[u8],
+    transitions: &[u8],
+    count: usize,
+    n: usize,
+) -> Result<(), Refusal>
     requires viewed { Viewed classes.now transitions.now n count }
     requires holds_padded { HoldsPadded transitions.now count }
     requires count_value { rising (transitions_in transitions.now count) ≡ true }
-    ensures { result ≡ first_broken (automaton_conditions (viewed classes.now transitions.now n
+    ensures { broken result ≡ first_broken (automaton_conditions (viewed classes.now transitions.now n
         count)) }
 {
     let rule = ruled(transitions, count, n);
     if !reached(transitions, count, n, rule.numbered) {
-        return 9;
+        return Err(Refusal::InaccessibleState);
     }
     if !all_coaccessible(classes, transitions, count, n) {
-        return 10;
+        return Err(Refusal::UnusedState);
     }
     if !acyclic(transitions, count, n) {
-        return 11;
+        return Err(Refusal::Loop);
     }
     if !all_apart(classes, transitions, count, n) {
-        return 12;
+        return Err(Refusal::EquivalentStates);
     }
     if !rule.numbered {
-        return 13;
+        return Err(Refusal::Numbering);
     }
-    0
+    Ok(())
 }
 
 // The same, by a fast path for automata that pass. Only if that shows nothing is each condition searched.
-fn automaton_refusal(classes: &[u8], transitions: &[u8], count: usize, n: usize) -> u8
+fn check_automaton(
+    classes: &[u8],
+    transitions: &[u8],
+    count: usize,
+    n: usize,
+) -> Result<(), Refusal>
     requires viewed { Viewed classes.now transitions.now n count }
     requires holds_padded { HoldsPadded transitions.now count }
     requires count_value { rising (transitions_in transitions.now count) ≡ true }
-    ensures { result ≡ first_broken (automaton_conditions (viewed classes.now transitions.now n
+    ensures { broken result ≡ first_broken (automaton_conditions (viewed classes.now transitions.now n
         count)) }
 {
     let rule = ruled(transitions, count, n);
-    if !rule.numbered {
-        return searched_refusal(classes, transitions, count, n);
+    if rule.numbered
+        && loopless(transitions, count, n, rule.climbing)
+        && settled(classes, transitions, count, n)
+    {
+        return Ok(());
     }
-    if !loopless(transitions, count, n, rule.climbing) {
-        return searched_refusal(classes, transitions, count, n);
-    }
-    if !settled(classes, transitions, count, n) {
-        return searched_refusal(classes, transitions, count, n);
-    }
-    0
+    check_by_search(classes, transitions, count, n)
 }
 
-// Refusals 7 to 13 of a table of the right length, or 0.
-pub fn content_refusal(table: &[u8]) -> u8
+// Conditions 7 to 13 of a table of the right length.
+pub fn check_content(table: &[u8]) -> Result<(), Refusal>
     requires { length table.now ≡ table_bytes }
-    ensures { result ≡ first_broken (content_conditions table.now) }
+    ensures { broken result ≡ first_broken (content_conditions table.now) }
 {
     if !layout_fits(table) {
-        return 7;
+        return Err(Refusal::Layout);
     }
     let count = transition_count(table);
     if !rises(&table[HEAD_BYTES..], count) {
-        return 8;
+        return Err(Refusal::Order);
     }
     let n = wide(table[0]);
-    automaton_refusal(table, &table[HEAD_BYTES..], count, n)
+    check_automaton(table, &table[HEAD_BYTES..], count, n)
 }
 
-// The first of refusals 5 and 7 to 13 that applies to a table, or 0.
-pub fn refusal(table: &[u8]) -> u8
-    ensures { result ≡ table_refusal table.now }
+// Conditions 5 and 7 to 13 of a table: the error is the first that is broken.
+pub fn check(table: &[u8]) -> Result<(), Refusal>
+    ensures { broken result ≡ table_refusal table.now }
 {
     if table.len() != TABLE_BYTES {
-        return 5;
+        return Err(Refusal::TableLength);
     }
-    content_refusal(table)
+    check_content(table)
 }

@@ -1,13 +1,12 @@
--- `intake::content_refusal` meets its contract: 7 and 8 first, then those of the automaton.
-use mathlib.Core.Bool.{not}
-use mathlib.Core.Path.{◌∙◌, ap, sym}
+-- `intake::check_content` meets its contract: 7 and 8 first, then those of the automaton.
+use mathlib.Core.Path.{◌∙◌, sym}
 use Rattle.intake.proofs.Checks.{refused-7, refused-8, table-padded, table-rises, table-seen}
 use Rattle.intake.proofs.Checks.{table-answer}
-use Rattle.intake.proofs.content_refusal.Goals as goal
+use Rattle.intake.proofs.check_content.Goals as goal
 
 pub returns-then-not-layout_fits : goal.returns-then-not-layout_fits
 returns-then-not-layout_fits c =
-    refused-7 c.args.table.now c.layout_fits.ensures (ap not c.if-not-layout_fits.true)
+    refused-7 c.args.table.now c.layout_fits.ensures c.if-not-layout_fits.true
 
 pub rises-requires : goal.rises-requires
 rises-requires c =
@@ -16,11 +15,11 @@ rises-requires c =
 
 pub returns-then-not-rises : goal.returns-then-not-rises
 returns-then-not-rises c =
-    refused-8 c.args.table.now c.layout_fits.ensures (ap not c.if-not-layout_fits.false)
-    (table-rises c.args.table.now c.transition_count-count.ensures.value c.rises.ensures) (ap not c.if-not-rises.true)
+    refused-8 c.args.table.now c.layout_fits.ensures c.if-not-layout_fits.false
+    (table-rises c.args.table.now c.transition_count-count.ensures.value c.rises.ensures) c.if-not-rises.true
 
-pub automaton_refusal-requires : goal.automaton_refusal-requires
-automaton_refusal-requires c =
+pub check_automaton-requires : goal.check_automaton-requires
+check_automaton-requires c =
     let both = table-seen c.args.table.now c.requires (sym c.layout_fits.ensures ∙ c.if-not-layout_fits.false)
     c.transition_count-count.ensures.value c.wide-n.ensures
     (sym (table-rises c.args.table.now c.transition_count-count.ensures.value c.rises.ensures) ∙ c.if-not-rises.false) in
@@ -30,4 +29,4 @@ pub returns : goal.returns
 returns c =
     table-answer c.args.table.now (sym c.layout_fits.ensures ∙ c.if-not-layout_fits.false)
     (sym (table-rises c.args.table.now c.transition_count-count.ensures.value c.rises.ensures) ∙ c.if-not-rises.false)
-    c.transition_count-count.ensures.value c.wide-n.ensures c.automaton_refusal.ensures
+    c.transition_count-count.ensures.value c.wide-n.ensures c.check_automaton.ensures
