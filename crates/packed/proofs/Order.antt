@@ -5,12 +5,12 @@ use mathlib.Core.Path.{◌∙◌, ◌≡◌, refl, sym}
 use Prim.Native.Nat.{◌*◌, ◌+◌, ◌-◌, ◌<◌, ◌≤◌, ℕ}
 use native.Mathlib.Omega.{arith}
 use lib.Dec.{eqb, ltb}
-use lib.ListN.{get_or-eq_default, get_or, length}
-use lib.Seq.{ext_get_or}
+use lib.ListN.{drop, get_or-eq_default, get_or, length, take}
+use lib.Seq.{ext_get_or, get_or-drop, get_or-take}
 use borrow.Author.Tests.{eq-eqb, eqb-false, eqb-true, le-ltb, lt-ltb, ltb-false, ltb-true, ne_eqb}
 use Rattle.automata.specs.Order.{lex, precedes}
 use Rattle.fields.specs.Fields.{first_args}
-use Rattle.format.specs.Format.{AllBytes, args_at, max_arity, max_label, transition_bytes}
+use Rattle.format.specs.Format.{AllBytes, args_at, max_arity, max_label, out_at, transition_bytes}
 use Rattle.lists.specs.Positions.{up_from}
 use Rattle.lists.specs.Tests.{every}
 use Rattle.packed.specs.Packed.{HoldsPadded, Padded, Searchable, before, comes_before, meta_at}
@@ -135,6 +135,14 @@ compares-next {s} {i = i} bytes holds inv h e d =
     (holds.each (i + 1) h)))
 
 -- ---- lists of arguments
+
+-- the bytes of the places as one number
+pub packed-places : (s : List ℕ) (at : ℕ) → packed (take (at + out_at - (at + args_at)) (drop (at + args_at) s)) ≡ packed_at s at
+unfolding packed packed_at
+packed-places s at = let places = take (at + out_at - (at + args_at)) (drop (at + args_at) s) in
+    digits_same (padded places) (arg_of s at) 0 max_arity 0
+    (λ k _ l. get_or-take (at + out_at - (at + args_at)) (drop (at + args_at) s) k 0 (omega arith)
+    ∙ get_or-drop (at + args_at) s k 0)
 
 -- the number read from the places is that of the arguments
 pub packed-args : (s : List ℕ) (at : ℕ) → Padded s at → packed_at s at ≡ packed (transition_at s at).args

@@ -1,5 +1,5 @@
 -- Search by two numbers. They order transitions as keys do, and different keys have different numbers.
-use mathlib.Core.Bool.{Bool, false, true, true≢false}
+use mathlib.Core.Bool.{Bool, false, true}
 use mathlib.Core.List.{List, ◌∷◌, map}
 use mathlib.Core.Logic.{◌⊎◌, inl, inr}
 use mathlib.Core.Path.{◌∙◌, ◌≡◌, ap, ap₂, refl, sym}
@@ -9,7 +9,6 @@ use native.Mathlib.Omega.{arith}
 use lib.Dec.{eqb, ltb}
 use lib.ListN.{get_or-eq_default, get_or, length, take}
 use lib.Seq.{ext_get_or, get_or-take, length-take-le}
-use borrow.Author.Count.{below_more}
 use borrow.Author.Tests.{eqb-false, eqb-true, ltb-false, ltb-true}
 use Rattle.automata.specs.Automaton.{Transition, lookup}
 use Rattle.automata.specs.Order.{key, lex, precedes}
@@ -17,7 +16,7 @@ use Rattle.format.specs.Format.{AllBytes, args_at, byte_pairs, byte_values, max_
 use Rattle.lists.specs.Positions.{up_from}
 use Rattle.packed.specs.Packed.{Searchable, before, comes_before, meta_at, packed, packed_at, padded}
 use Rattle.packed.specs.Seeking.{Eight, Packs, Places, SoughtAt, sought}
-use Rattle.sorted.specs.Sorted.{LowerBound, standing}
+use Rattle.sorted.specs.Sorted.{LowerBound}
 use Rattle.table.specs.Layout.{arity_of, label_of, nth_transition, out_of, transitions_in}
 use Rattle.automata.proofs.Order.{key-equal}
 use Rattle.automata.proofs.Steps.{Has, lookup-view}
@@ -26,7 +25,7 @@ use Rattle.fields.proofs.Transitions.{arg-at, args-length}
 use Rattle.lists.proofs.Intervals.{tabulated}
 use Rattle.packed.proofs.Digits.{digits-equal, digits-lex, digits_same}
 use Rattle.packed.proofs.Order.{before-trans, higher-decides, lower-decides, numbers-rise, packed-args, sorted}
-use Rattle.sorted.proofs.Searched.{Halving, before-lex, halving-down, halving-end, halving-start, halving-up}
+use Rattle.sorted.proofs.Searched.{bound-between}
 use Rattle.sorted.proofs.Searched.{key-args, key-label, key-nowhere, lookup-found}
 use Rattle.table.proofs.Decoded.{transitions_in-in}
 
@@ -145,62 +144,24 @@ module _ {s : List ℕ} {n : ℕ} (bytes : AllBytes s) (r : Searchable s n) wher
 
 -- ---- binary search
 
-lex-standing : (xs ys : List ℕ) → lex xs ys ≡ true → standing xs ys ≡ 0
-unfolding standing
-lex-standing xs ys e = rw e
+-- the transition before r comes before the numbers m and a, and transition r does not
+module _ {s : List ℕ} {n r : ℕ} (m a : ℕ) (bytes : AllBytes s) (searchable : Searchable s n) (within : r ≤ n)
+    (before : 0 < r → comes_before s m a (r - 1) ≡ true) (here : r < n → comes_before s m a r ≡ false) where
+  pub bound-sought : (b : ℕ) (qs : List ℕ) → Packs m a b qs → LowerBound s n (sought b qs) r
+  bound-sought b qs p =
+      bound-between (sorted searchable) within
+      (λ h. sym (comes-precedes bytes searchable p (r - 1) (omega arith) refl refl) ∙ before h)
+      (λ h. sym (comes-precedes bytes searchable p r h refl refl) ∙ here h)
 
--- a search between low and high for the transition with the numbers m and a
-pub record BoundFrom (s : List ℕ) (n m a low high : ℕ) : Type 0 where
-  pub order : low ≤ high
-  pub within : high ≤ n
-  pub below : (j : ℕ) → j < low → comes_before s m a j ≡ true
-  pub halves : (b : ℕ) (qs : List ℕ) → Packs m a b qs → Halving s n (sought b qs) low high
-
-pub bound-start : (s : List ℕ) (n m a : ℕ) → BoundFrom s n m a 0 n
-bound-start s n m a = record {
-  order = omega arith;
-  within = omega arith;
-  below = λ j l. absurd (omega arith);
-  halves = λ b qs p. halving-start s n (sought b qs);
-}
-
-module _ {s : List ℕ} {n m a low high : ℕ} (bytes : AllBytes s) (r : Searchable s n) (inv : BoundFrom s n m a low high)
-    (i : ℕ) (h : i < high) {m' a' : ℕ} (meta : m' ≡ meta_at s (transition_bytes * i))
-    (args : a' ≡ packed_at s (transition_bytes * i)) {c : Bool} (compared : c ≡ before m' a' m a) where
-  comes : {b : ℕ} {qs : List ℕ} → Packs m a b qs → c ≡ lex (key (nth_transition s i)) (key (sought b qs))
-  comes p = compared ∙ comes-precedes bytes r p i (omega (arith, inv.within)) meta args
-
-  pub bound-up : c ≡ true → BoundFrom s n m a (i + 1) high
-  bound-up e = record {
-    order = omega arith;
-    within = inv.within;
-    below = λ j l. below j l (eqb j i) refl;
-    halves = λ b qs p. halving-up (sorted r) (inv.halves b qs p) i refl h
-        (lex-standing (key (nth_transition s i)) (key (sought b qs)) (sym (comes p) ∙ e));
-  }
+  pub bound-below : (i : ℕ) → i < r → comes_before s m a i ≡ true
+  bound-below i h = go (eqb i (r - 1)) refl
     where
-      here : comes_before s m a i ≡ true
-      here = ap₂ (λ x y. before x y m a) (sym meta) (sym args) ∙ sym compared ∙ e
-
-      below : (j : ℕ) → j < i + 1 → (d : Bool) → eqb j i ≡ d → comes_before s m a j ≡ true
-      below j l true d = rw (eqb-true j i d) here
-      below j l false d = let ne = eqb-false j i d in
-          before-trans (meta_at s (transition_bytes * j)) (packed_at s (transition_bytes * j))
-          (meta_at s (transition_bytes * i)) (packed_at s (transition_bytes * i)) m a
-          (numbers-rise bytes r j i (omega arith) (omega (arith, inv.within))) here
-
-  pub bound-down : low ≤ i → c ≡ false → BoundFrom s n m a low i
-  bound-down l e = record {
-    order = l;
-    within = omega (arith, inv.within);
-    below = inv.below;
-    halves = λ b qs p. halving-down (sorted r) (inv.halves b qs p) i refl l h
-        (λ z. true≢false (sym (before-lex (key (nth_transition s i)) (key (sought b qs)) z) ∙ sym (comes p) ∙ e));
-  }
-
-pub bound-end : {s : List ℕ} {n m a low high : ℕ} → BoundFrom s n m a low high → high ≤ low → (b : ℕ) (qs : List ℕ) →
-    Packs m a b qs → LowerBound s n (sought b qs) low
-bound-end inv h b qs p = halving-end (inv.halves b qs p) h
+      go : (c : Bool) → eqb i (r - 1) ≡ c → comes_before s m a i ≡ true
+      go true e = rw (eqb-true i (r - 1) e) (before (omega arith))
+      go false e = let ne = eqb-false i (r - 1) e in
+          before-trans (meta_at s (transition_bytes * i)) (packed_at s (transition_bytes * i))
+          (meta_at s (transition_bytes * (r - 1))) (packed_at s (transition_bytes * (r - 1))) m a
+          (numbers-rise bytes searchable i (r - 1) (omega arith) (omega arith)) (before (omega arith))
 
 -- ---- what is found
 
@@ -277,23 +238,3 @@ module _ {n : ℕ} {qs : List ℕ} (eight : length qs ≡ max_arity) (p : Places
       bytes = λ k. omega (arith, bytes k, taken_at k);
     };
   }
-
--- eight numbers, each a byte
-pub eight-bytes : (qs : List ℕ) → length qs ≡ max_arity → get_or qs 0 0 < byte_values → get_or qs 1 0 < byte_values →
-    get_or qs 2 0 < byte_values → get_or qs 3 0 < byte_values → get_or qs 4 0 < byte_values → get_or qs 5 0 < byte_values →
-    get_or qs 6 0 < byte_values → get_or qs 7 0 < byte_values → AllBytes qs
-eight-bytes qs size b0 b1 b2 b3 b4 b5 b6 b7 i = go (ltb i max_arity) refl
-  where
-    P : ℕ → Type 0
-    P k = get_or qs k 0 < byte_values
-
-    to : (k : ℕ) → k < max_arity → P k
-    to = below_more P 7 (below_more P 6 (below_more P 5 (below_more P 4 (below_more P 3 (below_more P 2 (below_more P 1
-        (below_more P 0 (λ k h. absurd (omega arith)) b0) b1) b2) b3) b4) b5) b6) b7
-
-    go : (c : Bool) → ltb i max_arity ≡ c → get_or qs i 0 < byte_values
-    go true h = to i (ltb-true i max_arity h)
-    go false h =
-        let o = ltb-false i max_arity h in
-        let z : get_or qs i 0 ≡ 0 = get_or-eq_default qs 0 (omega arith) in
-        omega arith

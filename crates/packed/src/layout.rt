@@ -14,16 +14,6 @@ use format::{
     COUNT_AT, HEAD_BYTES, MAX_ARITY, MAX_STATES, MAX_TRANSITIONS, TRANSITION_BYTES, wide,
 };
 
-// The greater of two bytes.
-fn greater(x: u8, y: u8) -> u8
-    ensures { result ≡ max x y }
-{
-    if x < y {
-        return y;
-    }
-    x
-}
-
 // Whether the bytes from `from` on and below `end` are at most a bound. No early exit, so the loop vectorises. On
 // small tables nearly all bytes are checked here.
 fn at_most(transitions: &[u8], from: usize, end: usize, bound: u8) -> bool
@@ -32,7 +22,7 @@ fn at_most(transitions: &[u8], from: usize, end: usize, bound: u8) -> bool
 {
     let mut top = 0u8;
     for j in from..end {
-        top = greater(top, transitions[j]);
+        top = top.max(transitions[j]);
     }
     top <= bound
 }
@@ -54,10 +44,7 @@ fn classes_fit(table: &[u8], states: usize) -> bool
 fn in_range(states: usize, q: usize) -> bool
     ensures { result ≡ in_range states q }
 {
-    if q < 1 {
-        return false;
-    }
-    q <= states
+    1 <= q && q <= states
 }
 
 // Whether the arguments of the transition that starts at a byte are states.

@@ -13,39 +13,21 @@ ghost use Rattle.format.specs.Format.{byte_values, max_arity, transition_bytes};
 ghost use Rattle.table.specs.Layout.{arg_of, transitions_in};
 ghost use Rattle.packed.specs.Packed.{HoldsPadded, before, meta_at, packed_at};
 
-use fields::{arg_of, arity_of, label_of};
+use fields::{arity_of, label_of};
 pub use filling::padded;
-use format::TRANSITION_BYTES;
+use format::{ARGS_AT, MAX_ARITY, OUT_AT, TRANSITION_BYTES};
 pub use layout::layout_fits;
 pub use searching::{meta_of, output, pack, seek};
 pub use slots::{Slot, at_place, first_in_slot, next_in_slot, no_slot};
 
-// A number and, as its next digit to base 256, argument k of the transition that starts at a byte.
-fn with_arg(v: u64, transitions: &[u8], at: usize, k: usize) -> u64
-    requires transition_bytes_in_bounds { at + transition_bytes ≤ length transitions.now }
-    requires k_lt_max_arity { k < max_arity }
-    requires v_bound { v < 2 ^ 56 }
-    ensures value { result ≡ byte_values * v + arg_of transitions.now at k }
-    ensures upper_bound { result < byte_values * v + byte_values }
-{
-    let q = arg_of(transitions, at, k);
-    256 * v + q as u64
-}
-
 // The eight places for arguments of the transition that starts at a byte as one number, the first the highest.
-// Unrolled by hand, it compiles to one load and a byte swap; a loop does not.
 pub fn args_at(transitions: &[u8], at: usize) -> u64
     requires { at + transition_bytes ≤ length transitions.now }
     ensures { result ≡ packed_at transitions.now at }
 {
-    let v = with_arg(0, transitions, at, 0);
-    let v = with_arg(v, transitions, at, 1);
-    let v = with_arg(v, transitions, at, 2);
-    let v = with_arg(v, transitions, at, 3);
-    let v = with_arg(v, transitions, at, 4);
-    let v = with_arg(v, transitions, at, 5);
-    let v = with_arg(v, transitions, at, 6);
-    with_arg(v, transitions, at, 7)
+    let mut places = [0u8; MAX_ARITY];
+    places.copy_from_slice(&transitions[at + ARGS_AT..at + OUT_AT]);
+    pack(places)
 }
 
 // The child count and the label of the transition that starts at a byte as one number, the child count in the high
@@ -54,19 +36,14 @@ pub fn meta_at(transitions: &[u8], at: usize) -> u64
     requires { at + transition_bytes ≤ length transitions.now }
     ensures { result ≡ meta_at transitions.now at }
 {
-    let arity = arity_of(transitions, at);
-    let label = label_of(transitions, at);
-    65536 * arity as u64 + label as u64
+    meta_of(arity_of(transitions, at), label_of(transitions, at))
 }
 
 // Whether a transition with the numbers m and a comes before one with the numbers n and b.
 pub fn comes_before(m: u64, a: u64, n: u64, b: u64) -> bool
     ensures { result ≡ before m a n b }
 {
-    if m != n {
-        return m < n;
-    }
-    a < b
+    (m, a) < (n, b)
 }
 
 // Condition 8: each transition comes before the next.
@@ -79,8 +56,7 @@ pub fn rises(transitions: &[u8], count: usize) -> bool
     }
     let mut meta = meta_at(transitions, 0);
     let mut args = args_at(transitions, 0);
-    let mut i = 0;
-    while i + 1 < count {
+    for i in 0..count - 1 {
         let next = TRANSITION_BYTES * (i + 1);
         let next_meta = meta_at(transitions, next);
         let next_args = args_at(transitions, next);
@@ -89,7 +65,6 @@ pub fn rises(transitions: &[u8], count: usize) -> bool
         }
         meta = next_meta;
         args = next_args;
-        i += 1;
     }
     true
 }

@@ -1,7 +1,7 @@
 // Binary search in rising transitions, compared by their two numbers.
-ghost use Rattle.std.specs.Prelude.{true, List, ◌≡◌, ◌+◌, ◌*◌, ◌<◌, ◌^◌, ◌≤◌, ℕ, take};
+ghost use Rattle.std.specs.Prelude.{true, List, ◌≡◌, ◌+◌, ◌*◌, ◌<◌, ◌≤◌, ℕ, length, take};
 ghost use Rattle.automata.specs.Automaton.{lookup};
-ghost use Rattle.format.specs.Format.{AllBytes, byte_pairs, byte_values, max_arity};
+ghost use Rattle.format.specs.Format.{AllBytes, byte_pairs, byte_values, max_arity, transition_bytes};
 ghost use Rattle.sorted.specs.Sorted.{LowerBound};
 ghost use Rattle.table.specs.Layout.{transitions_in};
 ghost use Rattle.packed.specs.Packed.{Searchable, comes_before, packed};
@@ -10,6 +10,21 @@ ghost use Rattle.packed.specs.Seeking.{Packs, Places, SoughtAt, sought};
 use crate::{args_at, comes_before, meta_at};
 use fields::out_of;
 use format::{MAX_ARITY, TRANSITION_BYTES};
+use sorted::partition_point;
+
+// Whether transition i comes before one with the numbers meta and args.
+fn precedes(transitions: &[u8], i: usize, meta: u64, args: u64) -> bool
+    requires { transition_bytes * i + transition_bytes ≤ length transitions.now }
+    ensures { result ≡ comes_before transitions.now meta args i }
+{
+    let at = TRANSITION_BYTES * i;
+    comes_before(
+        meta_at(transitions, at),
+        args_at(transitions, at),
+        meta,
+        args,
+    )
+}
 
 // The number of transitions that come before one with the numbers meta and args.
 pub fn bound(transitions: &[u8], count: usize, meta: u64, args: u64) -> usize
@@ -19,20 +34,7 @@ pub fn bound(transitions: &[u8], count: usize, meta: u64, args: u64) -> usize
         LowerBound transitions.now count (sought b qs) result }
     ensures by_index_2 { (i : ℕ) → i < result → comes_before transitions.now meta args i ≡ true }
 {
-    let mut low = 0;
-    let mut high = count;
-    while low < high {
-        let middle = low + (high - low) / 2;
-        let at = TRANSITION_BYTES * middle;
-        let m = meta_at(transitions, at);
-        let a = args_at(transitions, at);
-        if comes_before(m, a, meta, args) {
-            low = middle + 1;
-        } else {
-            high = middle;
-        }
-    }
-    low
+    partition_point(count, |i| precedes(transitions, i, meta, args))
 }
 
 // The number, from 1, of the transition with the numbers meta and args; 0 if there is none.
@@ -56,33 +58,17 @@ pub fn seek(transitions: &[u8], count: usize, meta: u64, args: u64) -> usize
     i + 1
 }
 
-// A number and, as its next digit to base 256, a byte.
-fn with_digit(v: u64, q: u8) -> u64
-    requires { v < 2 ^ 56 }
-    ensures value { result ≡ byte_values * v + q }
-    ensures upper_bound { result < byte_values * v + byte_values }
-{
-    256 * v + q as u64
-}
-
 // Eight bytes as one number, the first the highest.
 pub fn pack(qs: [u8; MAX_ARITY]) -> u64
     ensures value { result ≡ packed qs }
     ensures all_bytes { AllBytes qs }
 {
-    let v = with_digit(0, qs[0]);
-    let v = with_digit(v, qs[1]);
-    let v = with_digit(v, qs[2]);
-    let v = with_digit(v, qs[3]);
-    let v = with_digit(v, qs[4]);
-    let v = with_digit(v, qs[5]);
-    let v = with_digit(v, qs[6]);
-    with_digit(v, qs[7])
+    u64::from_be_bytes(qs)
 }
 
 // The child count and the label as one number, the child count in the high digits.
 pub fn meta_of(arity: usize, label: u16) -> u64
-    requires { arity ≤ max_arity }
+    requires { arity < byte_values }
     ensures { result ≡ byte_pairs * arity + label }
 {
     65536 * arity as u64 + label as u64

@@ -1,5 +1,4 @@
 -- `packed::layout::args_in_range` meets its contract: in the loop the result is that for the arguments left.
-use Prim.Native.Nat.{◌-◌}
 use Rattle.lists.specs.Positions.{up_from}
 use Rattle.lists.specs.Tests.{every}
 use Rattle.packed.specs.Places.{arg_in_range}

@@ -14,7 +14,7 @@ pub loop-j-preserved : goal.loop-j-preserved
 loop-j-preserved c =
     let bound = c.args.bound in (
       omega arith,
-      rw (c.greater-top.ensures, leb-max c.loop-j.top _ bound)
+      rw (c.max-top.ensures, leb-max c.loop-j.top _ bound)
           (clean-next c.loop-j.invariant.1 (omega arith) refl),
     )
 

@@ -1,5 +1,4 @@
 -- `packed::layout::transitions_fit` meets its contract: in the loop the result is that for the transitions left.
-use Prim.Native.Nat.{◌-◌}
 use Rattle.lists.specs.Positions.{up_from}
 use Rattle.lists.specs.Tests.{every}
 use Rattle.table.specs.Layout.{nth_fits}

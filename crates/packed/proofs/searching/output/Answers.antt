@@ -8,7 +8,7 @@ use Rattle.packed.specs.Seeking.{SoughtAt}
 use Rattle.packed.proofs.searching.output.Goals as goal
 
 pub meta_of-meta-requires : goal.meta_of-meta-requires
-meta_of-meta-requires c = c.requires.places.narrow
+meta_of-meta-requires c = omega (arith, c.requires.places.narrow)
 
 pub returns-then-i-eq0 : goal.returns-then-i-eq0
 returns-then-i-eq0 c =

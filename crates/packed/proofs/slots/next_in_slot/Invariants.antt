@@ -1,6 +1,6 @@
 -- `packed::slots::next_in_slot` meets its contract: none so far is in the slot, and after a transition past the slot
 -- none is.
-use Prim.Native.Nat.{◌-◌, ◌≤◌}
+use Prim.Native.Nat.{◌≤◌}
 use Rattle.packed.proofs.Walks.{SlotWalk}
 use Rattle.packed.proofs.slots.next_in_slot.Given as goal
 
