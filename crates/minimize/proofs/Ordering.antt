@@ -5,14 +5,15 @@ use mathlib.Core.List.{List, [], ◌++◌, ◌∷◌, map}
 use mathlib.Core.Logic.{◌⊎◌, inl, inr}
 use mathlib.Core.Option.{none, some}
 use mathlib.Core.Path.{◌∙◌, ◌≡◌, ap, refl, subst, sym}
-use Prim.Native.Nat.{◌*◌, ◌+◌, ◌-◌, ◌<◌, ◌≤◌, suc, zero, ℕ}
+use Prim.Native.Nat.{◌*◌, ◌+◌, ◌-◌, ◌<◌, suc, zero, ℕ}
 use native.Mathlib.Nat.{sub-zero}
 use native.Mathlib.Numerals.{add-one}
 use native.Mathlib.Omega.{arith}
 use lib.Dec.{eqb}
 use lib.ListN.{length, length-append, length-map, length-set, set, take}
 use lib.Seq.{get_or-set_other, get_or-set_same, length-take-le, take-suc-set}
-use borrow.Author.Tests.{eqb-false, eqb-true, le-ltb, lt-ltb, ne_eqb, not-true}
+use borrow.Author.Tests.{eqb-false, eqb-true, ne_eqb, not-true}
+use Rattle.std.specs.Prelude.{None, Option as Found, Some}
 use Rattle.automata.specs.Automaton.{Transition}
 use Rattle.automata.specs.Renumber.{best, number_of, numbering, numbering_from}
 use Rattle.format.specs.Format.{transition_bytes}
@@ -64,8 +65,8 @@ numbering-step Q d o τ e = rw e
 abbrev pub output : Transition → ℕ
 output τ = τ.out
 
--- k states are numbered, and transition b of the run is the first that is ready
-pub record Ordering (s : List ℕ) (count : ℕ) (order numbers : List ℕ) (k b : ℕ) : Type 0 where
+-- k states are numbered
+pub record Ordering (s : List ℕ) (count : ℕ) (order numbers : List ℕ) (k : ℕ) : Type 0 where
   pub few : k < 256
   pub room : length order ≡ 256
   pub room' : length numbers ≡ 256
@@ -76,18 +77,16 @@ pub record Ordering (s : List ℕ) (count : ℕ) (order numbers : List ℕ) (k b
   pub left :
       numbering (transitions_in s count) ≡
       numbering_from (transitions_in s count) (length (transitions_in s count) - k) (take k order)
-  pub next : picked s count b ≡ best (take k order) (transitions_in s count)
 
 -- b is the first ready transition, for every order that has these numbers
-abbrev pub Leads : List ℕ → ℕ → List ℕ → ℕ → Type 0
+abbrev pub Leads : List ℕ → ℕ → List ℕ → Found ℕ → Type 0
 Leads s count numbers b =
-    (o : List ℕ) → NumbersOf numbers o → picked s count b ≡ best o (transitions_in s count)
+    (o : List ℕ) → NumbersOf numbers o → picked s b ≡ best o (transitions_in s count)
 
 pub ordering-start : (s : List ℕ) (count : ℕ) {order numbers : List ℕ} → length order ≡ 256 →
-    length numbers ≡ 256 → Unnumbered numbers → (b : ℕ) → Leads s count numbers b →
-    Ordering s count order numbers 0 b
+    length numbers ≡ 256 → Unnumbered numbers → Ordering s count order numbers 0
 unfolding numbering
-ordering-start s count room room' zeros b leads = record {
+ordering-start s count room room' zeros = record {
   few = omega arith;
   room = room;
   room' = room';
@@ -96,7 +95,6 @@ ordering-start s count room room' zeros b leads = record {
   outputs = λ q i. absurd i;
   states = λ q i. absurd i;
   left = ap (λ n. numbering_from (transitions_in s count) n []) (sym (sub-zero (length (transitions_in s count))));
-  next = leads [] (record { number = zeros });
 }
 
 in-snoc : (o : List ℕ) (q x : ℕ) → x ∈ (o ++ (q ∷ [])) → (x ∈ o) ⊎ (x ≡ q)
@@ -107,8 +105,7 @@ in-snoc o q x i = go (append-in o (q ∷ []) x i)
     go (inr (inl e)) = inr e
     go (inr (inr x)) = elim x [ ]
 
-module _ {s : List ℕ} {count : ℕ} {order numbers : List ℕ} {k b : ℕ}
-    (inv : Ordering s count order numbers k b) where
+module _ {s : List ℕ} {count : ℕ} {order numbers : List ℕ} {k : ℕ} (inv : Ordering s count order numbers k) where
   abbrev Q : List Transition
   Q = transitions_in s count
 
@@ -118,9 +115,9 @@ module _ {s : List ℕ} {count : ℕ} {order numbers : List ℕ} {k b : ℕ}
   length_o : length o ≡ k
   length_o = length-take-le k order (omega (arith, inv.few, inv.room))
 
-  pub ordering-end : count ≤ b → NumberingHeld (transitions_in s count) order numbers k
-  ordering-end h =
-      let none-ready : best o Q ≡ none = sym inv.next ∙ rw (le-ltb b count h) in
+  pub ordering-end : Leads s count numbers None → NumberingHeld (transitions_in s count) order numbers k
+  ordering-end leads =
+      let none-ready : best o Q ≡ none = sym (leads o inv.numbered) in
       let e = sym (inv.left ∙ numbering-still Q (length Q - k) o none-ready) in record {
         few = inv.few;
         size = inv.room;
@@ -128,10 +125,10 @@ module _ {s : List ℕ} {count : ℕ} {order numbers : List ℕ} {k b : ℕ}
         numbered = subst (λ (l : List ℕ). NumbersOf numbers l) e inv.numbered;
       }
 
-  module _ (h : b < count) {q : ℕ} (out : q ≡ out_of s (transition_bytes * b)) (lead : Outputs s count)
+  module _ {b : ℕ} (h : b < count) (leads : Leads s count numbers (Some b)) {q : ℕ} (out : q ≡ out_of s (transition_bytes * b)) (lead : Outputs s count)
       (byte : q < 256) where
     found : some (nth_transition s b) ≡ best o Q
-    found = (rw (lt-ltb b count h)) ∙ inv.next
+    found = leads o inv.numbered
 
     first : Best o Q (nth_transition s b)
     first = subst (BestView o Q) (sym found) (best-view o Q)
@@ -187,9 +184,8 @@ module _ {s : List ℕ} {count : ℕ} {order numbers : List ℕ} {k b : ℕ}
     numbered' : NumbersOf (set numbers q (k + 1)) (take (k + 1) (set order k q))
     numbered' = rw more (numbers-next inv.numbered inv.room' byte new (add-one k ∙ ap suc (sym length_o)))
 
-    next' : (b' : ℕ) → Leads s count (set numbers q (k + 1)) b' →
-        Ordering s count (set order k q) (set numbers q (k + 1)) (k + 1) b'
-    next' b' leads = record {
+    next' : Ordering s count (set order k q) (set numbers q (k + 1)) (k + 1)
+    next' = record {
       few = ordering_few;
       room = length-set order k q ∙ inv.room;
       room' = length-set numbers q (k + 1) ∙ inv.room';
@@ -201,12 +197,9 @@ module _ {s : List ℕ} {count : ℕ} {order numbers : List ℕ} {k b : ℕ}
           numbering-step Q (length Q - (k + 1)) o (nth_transition s b) (sym found) ∙
           ap (λ x. numbering_from Q (length Q - (k + 1)) (o ++ (x ∷ []))) (sym out) ∙
           ap (numbering_from Q (length Q - (k + 1))) (sym more);
-      next = leads (take (k + 1) (set order k q)) numbered';
     }
 
     -- p is q as an index
-    pub ordering-next : {p b' : ℕ} → p ≡ q → Leads s count (set numbers p (k + 1)) b' →
-        Ordering s count (set order k q) (set numbers p (k + 1)) (k + 1) b'
-    ordering-next {p} {b'} e =
-        subst (λ (x : ℕ). Leads s count (set numbers x (k + 1)) b' →
-        Ordering s count (set order k q) (set numbers x (k + 1)) (k + 1) b') (sym e) (next' b')
+    pub ordering-next : {p : ℕ} → p ≡ q → Ordering s count (set order k q) (set numbers p (k + 1)) (k + 1)
+    ordering-next e =
+        subst (λ (x : ℕ). Ordering s count (set order k q) (set numbers x (k + 1)) (k + 1)) (sym e) next'

@@ -6,9 +6,8 @@ use mathlib.Core.Option.{Option, none, some}
 use mathlib.Core.Path.{◌∙◌, ◌≡◌, ap, fun_ext, refl, sym}
 use Prim.Native.Nat.{◌+◌, ◌-◌, ◌<◌, ◌≤◌, suc, zero, ℕ}
 use native.Mathlib.Nat.{sub-zero}
-use native.Mathlib.Omega.{arith}
-use lib.Dec.{eqb, ltb}
-use borrow.Author.Tests.{le-ltb, lt-ltb}
+use lib.Dec.{eqb}
+use Rattle.std.specs.Prelude.{None, Option as Found, Some}
 use Rattle.automata.specs.Automaton.{Transition}
 use Rattle.automata.specs.Order.{key, precedes}
 use Rattle.automata.specs.Renumber.{best, choose, number_of, ready, renumber, renumber_by}
@@ -58,20 +57,21 @@ module _ (numbers : List ℕ) (τ : Transition) where
 
 -- ---- one transition compared with the best so far
 
-module _ (o s : List ℕ) (n b i : ℕ) where
-  pub improves-unready : ready o (nth_transition s i) ≡ false → false ≡ improves o s n b i
+module _ (o s : List ℕ) (i : ℕ) where
+  pub improves-unready : (b : Found ℕ) → ready o (nth_transition s i) ≡ false → false ≡ improves o s b i
   unfolding improves
-  improves-unready e = rw e
+  improves-unready None e = sym e
+  improves-unready (Some b) e = rw e
 
   module _ (e : ready o (nth_transition s i) ≡ true) where
-    pub improves-first : n ≤ b → true ≡ improves o s n b i
+    pub improves-first : true ≡ improves o s None i
     unfolding improves
-    improves-first h = rw (e, le-ltb b n h)
+    improves-first = sym e
 
-    pub improves-before : b < n →
-        precedes (renumber o (nth_transition s i)) (renumber o (nth_transition s b)) ≡ improves o s n b i
+    pub improves-before : (b : ℕ) →
+        precedes (renumber o (nth_transition s i)) (renumber o (nth_transition s b)) ≡ improves o s (Some b) i
     unfolding improves
-    improves-before h = rw (e, lt-ltb b n h)
+    improves-before b = rw e
 
 -- ---- the pass
 
@@ -113,45 +113,53 @@ choose-choose o β τ (some υ) =
     go false e false f false g = rw f
 
 -- a pass at transition i of n, with b the best so far
-pub record BestFrom (o s : List ℕ) (n b i : ℕ) : Type 0 where
-  pub left : best o (transitions_in s n) ≡ held o (picked s n b) (best o (transitions_from s i (n - i)))
+pub record BestFrom (o s : List ℕ) (n : ℕ) (b : Found ℕ) (i : ℕ) : Type 0 where
+  pub left : best o (transitions_in s n) ≡ held o (picked s b) (best o (transitions_from s i (n - i)))
 
 module _ {o s : List ℕ} {n : ℕ} where
-  pub best-start : BestFrom o s n n 0
+  pub best-start : BestFrom o s n None 0
   unfolding transitions_in
-  best-start = record { left = rw (le-ltb n n (omega arith), sub-zero n) }
+  best-start = record { left = rw (sub-zero n) }
 
-  module _ {b i : ℕ} (inv : BestFrom o s n b i) (h : i < n) where
+  module _ {b : Found ℕ} {i : ℕ} (inv : BestFrom o s n b i) (h : i < n) where
     abbrev rest : Option Transition
     rest = best o (transitions_from s (i + 1) (n - (i + 1)))
 
     here : best o (transitions_in s n) ≡
-        held o (picked s n b) (cond (ready o (nth_transition s i)) (choose o (nth_transition s i) rest) rest)
+        held o (picked s b) (cond (ready o (nth_transition s i)) (choose o (nth_transition s i) rest) rest)
     here = inv.left ∙ rw (up_from-next i n h)
 
-    pub best-keep : false ≡ improves o s n b i → BestFrom o s n b (i + 1)
+    pub best-keep : false ≡ improves o s b i → BestFrom o s n b (i + 1)
     unfolding improves
-    best-keep e = record { left = here ∙ go (ready o (nth_transition s i)) (ltb b n) e }
+    best-keep e = record { left = here ∙ go b e }
       where
-        go : (c d : Bool) →
-            false ≡ (c && (not d || precedes (renumber o (nth_transition s i)) (renumber o (nth_transition s b)))) →
-            held o (cond d (some (nth_transition s b)) none) (cond c (choose o (nth_transition s i) rest) rest) ≡
-            held o (cond d (some (nth_transition s b)) none) rest
-        go false d e = refl
-        go true false e = absurd (true≢false (sym e))
-        go true true e = choose-choose o (nth_transition s b) (nth_transition s i) rest ∙ rw (← e)
+        kept : (β : Transition) (c : Bool) →
+            false ≡ (c && precedes (renumber o (nth_transition s i)) (renumber o β)) →
+            choose o β (cond c (choose o (nth_transition s i) rest) rest) ≡ choose o β rest
+        kept β false e = refl
+        kept β true e = choose-choose o β (nth_transition s i) rest ∙ rw (← e)
 
-    pub best-take : true ≡ improves o s n b i → BestFrom o s n i (i + 1)
+        go : (b : Found ℕ) → false ≡ improves o s b i →
+            held o (picked s b) (cond (ready o (nth_transition s i)) (choose o (nth_transition s i) rest) rest) ≡
+            held o (picked s b) rest
+        go None e = rw (← e)
+        go (Some b) e = kept (nth_transition s b) (ready o (nth_transition s i)) e
+
+    pub best-take : true ≡ improves o s b i → BestFrom o s n (Some i) (i + 1)
     unfolding improves
-    best-take e = record { left = here ∙ go (ready o (nth_transition s i)) (ltb b n) e ∙ rw (lt-ltb i n h) }
+    best-take e = record { left = here ∙ go b e }
       where
-        go : (c d : Bool) →
-            true ≡ (c && (not d || precedes (renumber o (nth_transition s i)) (renumber o (nth_transition s b)))) →
-            held o (cond d (some (nth_transition s b)) none) (cond c (choose o (nth_transition s i) rest) rest) ≡
+        taken : (β : Transition) (c : Bool) →
+            true ≡ (c && precedes (renumber o (nth_transition s i)) (renumber o β)) →
+            choose o β (cond c (choose o (nth_transition s i) rest) rest) ≡ choose o (nth_transition s i) rest
+        taken β false e = absurd (true≢false e)
+        taken β true e = choose-choose o β (nth_transition s i) rest ∙ rw (← e)
+
+        go : (b : Found ℕ) → true ≡ improves o s b i →
+            held o (picked s b) (cond (ready o (nth_transition s i)) (choose o (nth_transition s i) rest) rest) ≡
             choose o (nth_transition s i) rest
-        go false d e = absurd (true≢false e)
-        go true false e = refl
-        go true true e = choose-choose o (nth_transition s b) (nth_transition s i) rest ∙ rw (← e)
+        go None e = rw (← e)
+        go (Some b) e = taken (nth_transition s b) (ready o (nth_transition s i)) e
 
-  pub best-end : {b i : ℕ} → BestFrom o s n b i → n ≤ i → picked s n b ≡ best o (transitions_in s n)
-  best-end {b} {i} inv h = sym (inv.left ∙ rw (up_from-none i n h) (held_none o (picked s n b)))
+  pub best-end : {b : Found ℕ} {i : ℕ} → BestFrom o s n b i → n ≤ i → picked s b ≡ best o (transitions_in s n)
+  best-end {b} {i} inv h = sym (inv.left ∙ rw (up_from-none i n h) (held_none o (picked s b)))

@@ -1,17 +1,17 @@
 -- The bytes of a table written one after another: classes, body, and the whole.
-use mathlib.Core.List.{List}
+use mathlib.Core.List.{List, ◌++◌}
 use mathlib.Core.Path.{◌∙◌, ◌≡◌, ap, refl, sym}
 use Prim.Native.Nat.{◌%◌, ◌+◌, ◌-◌, ◌/◌, ◌<◌, ◌≤◌, ℕ}
 use native.Mathlib.Omega.{arith}
 use lib.Dec.{eqb, ltb}
-use lib.ListN.{get_or, length, length-set, set}
-use lib.Seq.{ext_get_or, get_or-set_other, get_or-set_same}
+use lib.ListN.{get_or, get_or-append, length, length-set, set, take}
+use lib.Seq.{ext_get_or, get_or-append_right, get_or-set_other, get_or-set_same, get_or-take, length-take-le}
 use borrow.Author.Tests.{eq-eqb, eqb-false, eqb-true, le-leb, lt-leb, ltb-false, ltb-true, ne_eqb}
 use Rattle.lists.specs.Tests.{bit}
 use Rattle.automata.specs.Automaton.{Automaton, accepting, states}
 use Rattle.format.specs.Format.{count_at, head_bytes, max_states, table_bytes}
 use Rattle.minimize.specs.Renaming.{name_in}
-use Rattle.minimize.specs.Written.{BodyWritten, ClassesWritten, TableWritten, class_byte}
+use Rattle.minimize.specs.Written.{BodyWritten, ClassesWritten, TableWritten, class_byte, room_bytes}
 use Rattle.table.specs.Layout.{body_byte, byte_at, encode}
 use Rattle.table.proofs.Bytes.{cond-is, encode-byte, encode-length}
 use Rattle.lists.proofs.Filling.{set-next-from}
@@ -71,40 +71,33 @@ module _ {b t : List ℕ} {f : ℕ → ℕ} {q : ℕ} (inv : ClassesBelow b t f 
 
 -- ---- body
 
--- the body written up to byte i
-pub record BodyBelow (b t made : List ℕ) (i : ℕ) : Type 0 where
-  pub start : head_bytes ≤ i
-  pub size : length t ≡ length b
-  pub head : (j : ℕ) → j < head_bytes → get_or t j 0 ≡ get_or b j 0
-  pub body : (j : ℕ) → head_bytes ≤ j → j < i → get_or t j 0 ≡ get_or made (j - head_bytes) 0
+-- the first h bytes of b, then n of made
+module _ (h n : ℕ) (b made rest : List ℕ) (i : ℕ) (room : h ≤ length b) where
+  joined-head : i < h → get_or (take h b ++ (take n made ++ rest)) i 0 ≡ get_or b i 0
+  joined-head l =
+      get_or-append (take h b) (take n made ++ rest) 0 i (omega (arith, length-take-le h b room)) ∙ get_or-take h b i 0 l
 
-pub body-start : {b made : List ℕ} → BodyBelow b b made head_bytes
-body-start = record {
-  start = omega arith;
-  size = refl;
-  head = λ j h. refl;
-  body = λ j h l. absurd (omega arith);
-}
+  joined-body : n ≤ length made → h ≤ i → i < h + n →
+      get_or (take h b ++ (take n made ++ rest)) i 0 ≡ get_or made (i - h) 0
+  joined-body few l m =
+      get_or-append_right (take h b) (take n made ++ rest) i 0 (omega (arith, length-take-le h b room)) ∙
+      ap (λ k. get_or (take n made ++ rest) (i - k) 0) (length-take-le h b room) ∙
+      get_or-append (take n made) rest 0 (i - h) (omega (arith, length-take-le n made few)) ∙
+      get_or-take n made (i - h) 0 (omega arith)
 
-module _ {b t made : List ℕ} {i : ℕ} (inv : BodyBelow b t made i) where
-  pub body-next : i < length b → BodyBelow b (set t i (get_or made (i - head_bytes) 0)) made (i + 1)
-  body-next h = record {
-    start = omega (arith, inv.start);
-    size = length-set t i x ∙ inv.size;
-    head = λ j l. get_or-set_other t i j x 0 (λ z. omega (arith, inv.start)) ∙ inv.head j l;
-    body = set-next-from (λ y. y) (λ j. get_or made (j - head_bytes) 0) head_bytes t i x (omega (arith, inv.size)) refl
-        inv.body;
-  }
-    where
-      x : ℕ
-      x = get_or made (i - head_bytes) 0
-
-  pub body_end : table_bytes ≤ i → BodyWritten b t made
-  body_end h = record {
-    size = inv.size;
-    head = inv.head;
-    body = λ j l m. inv.body j l (omega arith);
-  }
+pub body-written : (b made rest : List ℕ) → length b ≡ table_bytes → length made ≡ room_bytes → {xs t : List ℕ} →
+    xs ≡ take (table_bytes - head_bytes) made → t ≡ take head_bytes b ++ (xs ++ rest) → length t ≡ length b →
+    BodyWritten b t made
+body-written b made rest size few {xs} {t} e d long =
+    let n = table_bytes - head_bytes in
+    let whole : t ≡ take head_bytes b ++ (take n made ++ rest) =
+    d ∙ ap (λ ys. take head_bytes b ++ (ys ++ rest)) e in
+    record {
+      size = long;
+      head = λ i h. ap (λ ys. get_or ys i 0) whole ∙ joined-head head_bytes n b made rest i (omega arith) h;
+      body = λ i h l. ap (λ ys. get_or ys i 0) whole ∙
+          joined-body head_bytes n b made rest i (omega arith) (omega arith) h (omega arith);
+    }
 
 -- ---- the whole table
 

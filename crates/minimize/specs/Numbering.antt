@@ -1,5 +1,5 @@
 -- Numbers given by the rule, from a table of the numbers so far.
-use Rattle.std.specs.Prelude.{Bool, ◌&&◌, ◌||◌, cond, not, List, ◌≡◌, ◌*◌, ◌<◌, ◌≤◌, ℕ, ltb, length, take}
+use Rattle.std.specs.Prelude.{Bool, ◌&&◌, None, Option as Found, Some, not, List, ◌≡◌, ◌*◌, ◌<◌, ◌≤◌, ℕ, length, take}
 use Rattle.std.proofs.Math.Option.{Option, none, some}
 use Rattle.automata.specs.Automaton.{Transition}
 use Rattle.automata.specs.Order.{precedes}
@@ -22,15 +22,17 @@ Unnumbered numbers = (q : ℕ) → name_in numbers q ≡ 0
 abbrev pub ready_by : List ℕ → Transition → Bool
 ready_by numbers τ = every (marked numbers) τ.args && not (marked numbers τ.out)
 
--- transition i of n; none if i is not below n
-abbrev pub picked : List ℕ → ℕ → ℕ → Option Transition
-picked s n i = cond (ltb i n) (some (nth_transition s i)) none
+-- a transition, if there is one
+abbrev pub picked : List ℕ → Found ℕ → Option Transition
+picked s None = none
+picked s (Some i) = some (nth_transition s i)
 
--- transition i of n is ready, and comes before transition b if there is one
-unfoldable pub improves : List ℕ → List ℕ → ℕ → ℕ → ℕ → Bool
-improves o s n b i =
+-- transition i is ready, and comes before transition b if there is one
+unfoldable pub improves : List ℕ → List ℕ → Found ℕ → ℕ → Bool
+improves o s None i = ready o (nth_transition s i)
+improves o s (Some b) i =
     ready o (nth_transition s i) &&
-    (not (ltb b n) || precedes (renumber o (nth_transition s i)) (renumber o (nth_transition s b)))
+    precedes (renumber o (nth_transition s i)) (renumber o (nth_transition s b))
 
 -- the outputs are states
 abbrev pub Outputs : List ℕ → ℕ → Type 0

@@ -1,6 +1,7 @@
 // States numbered by the rule: of all transitions whose arguments have numbers and whose output has none, the first
 // by the order of the new numbers gives its output the next number. The number 0 stands for no number.
 ghost use Rattle.std.specs.Prelude.{◌≡◌, List, map, ◌<◌, ◌≤◌, ℕ, length};
+ghost use Rattle.std.specs.Option.{ForSome};
 ghost use Rattle.automata.specs.Order.{lex, precedes};
 ghost use Rattle.automata.specs.Renumber.{best, renumber_by};
 ghost use Rattle.fields.specs.Fields.{Readable, HoldsTransitions, first_args};
@@ -72,48 +73,46 @@ fn precedes_by(transitions: &[u8], a: usize, b: usize, numbers: &[u8; BYTE_VALUE
     args_precede(transitions, a, b, n, numbers)
 }
 
-// Whether transition i is ready and comes before the first ready one so far; `best` is `count` if there is none.
+// Whether transition i is ready and comes before the first ready one so far, if there is one.
 fn improves_on(
     transitions: &[u8],
     count: usize,
-    best: usize,
+    best: Option<usize>,
     i: usize,
     numbers: &[u8; BYTE_VALUES],
 ) -> bool
     requires holds_transitions { HoldsTransitions transitions.now count }
-    requires best_le_count { best ≤ count }
+    requires best_lt_count { ForSome best (λ b. b < count) }
     requires i_lt_count { i < count }
     ensures { (o : List ℕ) → NumbersOf numbers.now o →
-        result ≡ improves o transitions.now count best i }
+        result ≡ improves o transitions.now best i }
 {
     if !ready(transitions, TRANSITION_BYTES * i, numbers) {
         return false;
     }
-    if best == count {
+    let Some(first) = best else {
         return true;
-    }
+    };
     precedes_by(
         transitions,
         TRANSITION_BYTES * i,
-        TRANSITION_BYTES * best,
+        TRANSITION_BYTES * first,
         numbers,
     )
 }
 
-// The first ready transition; `count` if none is ready.
-fn first_ready(transitions: &[u8], count: usize, numbers: &[u8; BYTE_VALUES]) -> usize
+// The first ready transition.
+fn first_ready(transitions: &[u8], count: usize, numbers: &[u8; BYTE_VALUES]) -> Option<usize>
     requires { HoldsTransitions transitions.now count }
-    ensures upper_bound { result ≤ count }
+    ensures upper_bound { ForSome result (λ i. i < count) }
     ensures by_index { (o : List ℕ) → NumbersOf numbers.now o →
-        picked transitions.now count result ≡ best o (transitions_in transitions.now count) }
+        picked transitions.now result ≡ best o (transitions_in transitions.now count) }
 {
-    let mut best = count;
+    let mut best = None;
     for i in 0..count {
-        let at = i;
-        if !improves_on(transitions, count, best, at, numbers) {
-            continue;
+        if improves_on(transitions, count, best, i, numbers) {
+            best = Some(i);
         }
-        best = at;
     }
     best
 }
@@ -134,13 +133,11 @@ pub fn number(
     ensures { NumberingHeld (transitions_in transitions.now count) order.new numbers.new result }
 {
     let mut k = 0;
-    let mut best = first_ready(transitions, count, numbers);
-    while best < count {
-        let q = out_of(transitions, TRANSITION_BYTES * best);
+    while let Some(first) = first_ready(transitions, count, numbers) {
+        let q = out_of(transitions, TRANSITION_BYTES * first);
         order[k] = q as u8;
         k += 1;
         numbers[q] = k as u8;
-        best = first_ready(transitions, count, numbers);
     }
     k
 }

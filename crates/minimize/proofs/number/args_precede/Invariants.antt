@@ -4,7 +4,6 @@ use Rattle.fields.proofs.Searching.{LexFrom}
 use Rattle.minimize.specs.Renaming.{name_in}
 use Rattle.fields.specs.Fields.{first_args}
 use Rattle.automata.specs.Order.{lex}
-use Prim.Native.Nat.{◌-◌}
 use mathlib.Core.List.{map}
 use Rattle.minimize.proofs.number.args_precede.Given as goal
 

@@ -1,41 +1,28 @@
 use Rattle.minimize.proofs.Ordering.{ordering-end, ordering_few, ordering-next, ordering-start}
 use native.Mathlib.Omega.{arith}
-use mathlib.Core.Path.{refl}
+use mathlib.Core.Path.{◌∙◌, ap, refl, sym}
+use Rattle.minimize.specs.Numbering.{picked}
 use Rattle.minimize.proofs.number.number.Goals as goal
 
-pub loop-best-init : goal.loop-best-init
-loop-best-init c = (
-  c.first_ready-best.ensures.upper_bound,
-  ordering-start c.args.transitions.now c.args.count c.requires.order_len c.requires.numbers_len c.requires.unnumbered _ c.first_ready-best.ensures.by_index,
-)
-
-pub bounds-order-k : goal.bounds-order-k
-bounds-order-k c =
-    omega (arith, c.loop-best.invariant.1.few, c.loop-best.invariant.1.room)
-
-pub overflow_add-k : goal.overflow_add-k
-overflow_add-k c = omega (arith, c.loop-best.invariant.1.few)
+pub loop-first-init : goal.loop-first-init
+loop-first-init c =
+    ordering-start c.args.transitions.now c.args.count c.requires.order_len c.requires.numbers_len
+    c.requires.unnumbered
 
 pub overflow_cast-numbers : goal.overflow_cast-numbers
 overflow_cast-numbers c =
     omega (
       arith,
-      ordering_few c.loop-best.invariant.1 c.loop-best-test.true c.out_of-q.ensures.value
-          c.requires.outputs (omega (arith, c.out_of-q.ensures.upper_bound)),
+      ordering_few c.loop-first.invariant (c.in-Some.ensures.upper_bound _ refl) c.in-Some.ensures.by_index
+          c.out_of-q.ensures.value c.requires.outputs (omega (arith, c.out_of-q.ensures.upper_bound)),
     )
 
-pub bounds-numbers-q : goal.bounds-numbers-q
-bounds-numbers-q c = omega (arith, c.loop-best.invariant.1.room')
-
-pub loop-best-smaller : goal.loop-best-smaller
-loop-best-smaller c = omega (arith, c.loop-best.invariant.1.few)
-
-pub loop-best-preserved : goal.loop-best-preserved
-loop-best-preserved c = (
-  c.first_ready-best-in-loop-best.ensures.upper_bound,
-  ordering-next c.loop-best.invariant.1 c.loop-best-test.true c.out_of-q.ensures.value
-      c.requires.outputs (omega (arith, c.out_of-q.ensures.upper_bound)) refl c.first_ready-best-in-loop-best.ensures.by_index,
-)
+pub loop-first-preserved : goal.loop-first-preserved
+loop-first-preserved c =
+    ordering-next c.loop-first.invariant (c.in-Some.ensures.upper_bound _ refl) c.in-Some.ensures.by_index
+    c.out_of-q.ensures.value c.requires.outputs (omega (arith, c.out_of-q.ensures.upper_bound)) refl
 
 pub returns : goal.returns
-returns c = ordering-end c.loop-best.invariant.1 (omega arith)
+returns c =
+    ordering-end c.loop-first.invariant (λ o of. ap (picked c.args.transitions.now) (sym c.in_default.is) ∙
+    c.first_ready.ensures.by_index o of)

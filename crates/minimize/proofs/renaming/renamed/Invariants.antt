@@ -1,7 +1,6 @@
 -- `minimize::renaming::renamed` meets its contract: in the loop the first k arguments have their names, the others
 -- are 0.
 use mathlib.Core.Path.{◌≡◌}
-use Prim.Native.Nat.{◌-◌}
 use Rattle.table.specs.Layout.{arity_of}
 use Rattle.minimize.proofs.Entries.{Renaming}
 use Rattle.minimize.proofs.renaming.renamed.Given as goal
