@@ -29,7 +29,7 @@ fn count_states(m: usize, states: &[u8; MAX_NODES], counts: &mut [u8; BYTE_VALUE
 {
     for j in 0..m {
         let q = index(states[j]);
-        counts[q] = counts[q] + 1;
+        counts[q] += 1;
     }
 }
 
@@ -38,10 +38,7 @@ fn weight(count: u8, mark: u8) -> u8
     requires { count ≤ max_nodes }
     ensures { result ≡ count + bit (nonzero mark) }
 {
-    if mark == 0 {
-        return count;
-    }
-    count + 1
+    count + u8::from(mark != 0)
 }
 
 // The number of pairs of each state.

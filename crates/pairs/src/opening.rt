@@ -19,13 +19,7 @@ use format::{BYTE_VALUES, TRANSITION_BYTES};
 fn opens(count: u8, sum: u8) -> u8
     ensures { nonzero result ≡ (eqb count 0 || not (eqb sum count)) }
 {
-    if count == 0 {
-        return 1;
-    }
-    if sum != count {
-        return 1;
-    }
-    0
+    u8::from(count == 0 || sum != count)
 }
 
 // Marks for the states that are open at once.
@@ -80,7 +74,7 @@ fn mark_outputs(transitions: &[u8], count: usize, marks: &mut [u8; BYTE_VALUES])
     let mut changed = false;
     for i in 0..count {
         let r = mark_output(transitions, TRANSITION_BYTES * i, marks);
-        changed = changed | r;
+        changed |= r;
     }
     changed
 }

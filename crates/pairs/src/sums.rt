@@ -24,10 +24,7 @@ pub fn index(x: u8) -> usize
 fn capped(product: usize) -> usize
     ensures { result ≡ min product_cap product }
 {
-    if product > MAX_PRODUCT {
-        return MAX_PRODUCT + 1;
-    }
-    product
+    product.min(MAX_PRODUCT + 1)
 }
 
 // Whether the numbers of all arguments are 1, as they mostly are.
@@ -79,11 +76,7 @@ fn raised(sum: u8, more: usize) -> u8
     requires { more ≤ product_cap }
     ensures { result ≡ min sum_cap (sum + more) }
 {
-    let total = wide(sum) + more;
-    if total > SUM_CAP {
-        return SUM_CAP as u8;
-    }
-    total as u8
+    (wide(sum) + more).min(SUM_CAP) as u8
 }
 
 // Adds the product of the transition that starts at a byte to the sum of its output. Outputs whose number is 0 are
@@ -138,7 +131,7 @@ pub fn sum_fits(
 {
     let mut sum = more;
     for i in 0..count {
-        sum = sum + product(transitions, TRANSITION_BYTES * i, numbers);
+        sum += product(transitions, TRANSITION_BYTES * i, numbers);
         if sum > limit {
             return false;
         }

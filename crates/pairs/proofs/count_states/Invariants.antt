@@ -1,5 +1,5 @@
 -- `pairs::count_states` meets its contract: the entries before `j` are counted.
-use Prim.Native.Nat.{◌-◌, ◌≤◌}
+use Prim.Native.Nat.{◌≤◌}
 use Rattle.pairs.specs.Counts.{Counted}
 use Rattle.pairs.proofs.count_states.Given as goal
 

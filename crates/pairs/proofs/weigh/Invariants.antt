@@ -1,5 +1,4 @@
 -- `pairs::weigh` meets its contract: in the loop the entries before `q` are filled in.
-use Prim.Native.Nat.{◌-◌}
 use Rattle.format.specs.Format.{byte_values}
 use Rattle.lists.proofs.Filling.{FilledTo}
 use Rattle.pairs.specs.Counts.{weight_of}

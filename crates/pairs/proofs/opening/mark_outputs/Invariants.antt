@@ -1,5 +1,5 @@
 -- `pairs::opening::mark_outputs` meets its contract: the marks have spread by the transitions before i.
-use Prim.Native.Nat.{◌-◌, ◌≤◌}
+use Prim.Native.Nat.{◌≤◌}
 use Rattle.pairs.specs.Counts.{nth_some_up}
 use Rattle.marking.specs.Spread.{Spread, UpTo}
 use Rattle.pairs.proofs.opening.mark_outputs.Given as goal

@@ -1,6 +1,5 @@
 -- `pairs::opening::some_marked` meets its contract: in the loop the result is that for the arguments left.
 use mathlib.Core.Path.{◌≡◌}
-use Prim.Native.Nat.{◌-◌}
 use Rattle.lists.specs.Tests.{any}
 use Rattle.marking.specs.Marks.{marked}
 use Rattle.table.specs.Layout.{arg_of, arity_of, transition_at}

@@ -1,6 +1,5 @@
 -- `pairs::sums::all_ones` meets its contract: the product over the arguments read is 1.
 use mathlib.Core.Path.{◌≡◌}
-use Prim.Native.Nat.{◌-◌}
 use Rattle.table.specs.Layout.{arity_of}
 use Rattle.pairs.specs.Counts.{entry}
 use Rattle.pairs.proofs.Products.{ProductFrom}

@@ -1,6 +1,5 @@
 -- `pairs::sums::multiplied` meets its contract: the product so far times the product of the rest is the whole.
 use mathlib.Core.Path.{◌≡◌}
-use Prim.Native.Nat.{◌-◌}
 use Rattle.table.specs.Layout.{arity_of}
 use Rattle.pairs.specs.Counts.{entry}
 use Rattle.pairs.proofs.Products.{ProductFrom}

@@ -1,5 +1,4 @@
 -- `pairs::sums::sum_fits` meets its contract: the sum so far and the sum of the rest are the whole.
-use Prim.Native.Nat.{◌-◌}
 use Rattle.pairs.specs.Counts.{entry}
 use Rattle.pairs.proofs.Summing.{SumFrom}
 use Rattle.pairs.proofs.sums.sum_fits.Given as goal

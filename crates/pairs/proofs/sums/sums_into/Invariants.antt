@@ -1,5 +1,4 @@
 -- `pairs::sums::sums_into` meets its contract: the sums so far and the sums of the rest are the whole.
-use Prim.Native.Nat.{◌-◌}
 use Rattle.pairs.specs.Counts.{entry}
 use Rattle.pairs.proofs.Summing.{SumsFrom}
 use Rattle.pairs.proofs.sums.sums_into.Given as goal
