@@ -2,7 +2,7 @@
 use mathlib.Core.Bool.{Bool, false, true}
 use mathlib.Core.List.{List, ◌∷◌, map}
 use mathlib.Core.Logic.{◌⊎◌, inl, inr}
-use mathlib.Core.Path.{◌∙◌, ◌≡◌, ap, ap₂, refl, sym}
+use mathlib.Core.Path.{◌∙◌, ◌≡◌, ap, ap₂, refl, subst, sym}
 use Prim.Native.Nat.{◌*◌, ◌+◌, ◌-◌, ◌<◌, ◌≤◌, ℕ}
 use native.Mathlib.Nat.{zero-add}
 use native.Mathlib.Omega.{arith}
@@ -17,6 +17,7 @@ use Rattle.lists.specs.Positions.{up_from}
 use Rattle.packed.specs.Packed.{Searchable, before, comes_before, meta_at, packed, packed_at, padded}
 use Rattle.packed.specs.Seeking.{Eight, Packs, Places, SoughtAt, sought}
 use Rattle.sorted.specs.Sorted.{LowerBound}
+use Rattle.std.specs.Prelude.{None, Option, Some}
 use Rattle.table.specs.Layout.{arity_of, label_of, nth_transition, out_of, transitions_in}
 use Rattle.automata.proofs.Order.{key-equal}
 use Rattle.automata.proofs.Steps.{Has, lookup-view}
@@ -168,45 +169,48 @@ module _ {s : List ℕ} {n r : ℕ} (m a : ℕ) (bytes : AllBytes s) (searchable
 -- transition i has both numbers, so it has the key
 pub sought-there : {s : List ℕ} {n m a i : ℕ} → AllBytes s → Searchable s n → i < n → {m' a' : ℕ} →
     m' ≡ meta_at s (transition_bytes * i) → a' ≡ packed_at s (transition_bytes * i) → m' ≡ m → a' ≡ a →
-    (b : ℕ) (qs : List ℕ) → Packs m a b qs → SoughtAt s n b qs (i + 1)
-sought-there {i} bytes r h meta args d e b qs p = let z : i + 1 - 1 ≡ i = omega arith in record {
-  there = λ _. rw z (numbers-same bytes r p i h meta args d e);
-  none = λ z. absurd (omega arith);
+    (b : ℕ) (qs : List ℕ) → Packs m a b qs → SoughtAt s n b qs (Some i)
+sought-there {s} {i = i} bytes r h meta args d e b qs p = record {
+  there = λ j f. let same : j ≡ i = cc in
+      subst (λ (k : ℕ). key (nth_transition s k) ≡ key (sought b qs)) (sym same)
+      (numbers-same bytes r p i h meta args d e);
+  none = λ f. absurd (cc);
 }
 
 module _ {s : List ℕ} {n m a i : ℕ} (bytes : AllBytes s) (r : Searchable s n)
     (bound : (b : ℕ) (qs : List ℕ) → Packs m a b qs → LowerBound s n (sought b qs) i) where
   -- a transition with this key can only be at the bound
   pub sought-none : ((b : ℕ) (qs : List ℕ) → Packs m a b qs → i < n → key (nth_transition s i) ≡ key (sought b qs) → ⊥) →
-      (b : ℕ) (qs : List ℕ) → Packs m a b qs → SoughtAt s n b qs 0
+      (b : ℕ) (qs : List ℕ) → Packs m a b qs → SoughtAt s n b qs None
   sought-none h b qs p = record {
-    there = λ l. absurd (omega arith);
+    there = λ j f. absurd (cc);
     none = λ _. key-nowhere (sorted r) (sought b qs) i (bound b qs p) (h b qs p);
   }
 
   module _ (h : i < n) {m' : ℕ} (meta : m' ≡ meta_at s (transition_bytes * i)) where
-    pub other-meta : (m' ≡ m → ⊥) → (b : ℕ) (qs : List ℕ) → Packs m a b qs → SoughtAt s n b qs 0
+    pub other-meta : (m' ≡ m → ⊥) → (b : ℕ) (qs : List ℕ) → Packs m a b qs → SoughtAt s n b qs None
     other-meta d = sought-none (λ b qs p l e. d (same_numbers bytes r p i h meta refl e).0)
 
     pub other-args : {a' : ℕ} → a' ≡ packed_at s (transition_bytes * i) → (a' ≡ a → ⊥) → (b : ℕ) (qs : List ℕ) →
-        Packs m a b qs → SoughtAt s n b qs 0
+        Packs m a b qs → SoughtAt s n b qs None
     other-args args d = sought-none (λ b qs p l e. d (same_numbers bytes r p i h meta args e).1)
 
 -- ---- the output of what is found
 
-module _ {s : List ℕ} {n : ℕ} (bytes : AllBytes s) (r : Searchable s n) {b : ℕ} {qs : List ℕ} where
-  pub sought-output : {i : ℕ} → SoughtAt s n b qs i → 1 ≤ i → i ≤ n →
-      out_of s (transition_bytes * (i - 1)) ≡ lookup b qs (transitions_in s n)
-  sought-output {i} f h l = lookup-found (sorted r) (sought b qs) (i - 1) (omega arith) (f.there h)
+module _ {s : List ℕ} {n : ℕ} (bytes : AllBytes s) (r : Searchable s n) {b : ℕ} {qs : List ℕ} {found : Option ℕ}
+    (f : SoughtAt s n b qs found) where
+  pub sought-output : {i : ℕ} → found ≡ Some i → i < n →
+      out_of s (transition_bytes * i) ≡ lookup b qs (transitions_in s n)
+  sought-output {i} e l = lookup-found (sorted r) (sought b qs) i l (f.there i e)
 
-  pub sought-nothing : SoughtAt s n b qs 0 → 0 ≡ lookup b qs (transitions_in s n)
-  sought-nothing f = go (lookup-view b qs (transitions_in s n))
+  pub sought-nothing : found ≡ None → 0 ≡ lookup b qs (transitions_in s n)
+  sought-nothing none = go (lookup-view b qs (transitions_in s n))
     where
       go : (lookup b qs (transitions_in s n) ≡ 0) ⊎ (Has (transitions_in s n) b qs (lookup b qs (transitions_in s n))) →
           0 ≡ lookup b qs (transitions_in s n)
       go (inl z) = sym z
       go (inr (σ, m, p, q, o)) = let (j, l, e) = transitions_in-in s n σ m in
-          absurd (f.none refl j l (ap key (sym e) ∙ key-equal σ (sought b qs) p q))
+          absurd (f.none none j l (ap key (sym e) ∙ key-equal σ (sought b qs) p q))
 
 -- ---- eight bytes, of which the first n are taken
 

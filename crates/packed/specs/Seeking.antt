@@ -1,5 +1,6 @@
 -- What a search by two numbers returns.
-use Rattle.std.specs.Prelude.{List, ◌≡◌, ◌*◌, ◌+◌, ◌-◌, ◌<◌, ◌≤◌, ℕ, get_or, length}
+use Rattle.std.specs.Prelude.{List, None, Option, ◌≡◌, ◌*◌, ◌+◌, ◌<◌, ◌≤◌, ℕ, get_or, length}
+use Rattle.std.specs.Option.{ForSome}
 use Rattle.automata.specs.Automaton.{Transition}
 use Rattle.automata.specs.Order.{key}
 use Rattle.format.specs.Format.{AllBytes, byte_pairs, max_arity}
@@ -22,10 +23,10 @@ pub record Packs (m a b : ℕ) (qs : List ℕ) : Type 0 where
   pub label : b < byte_pairs
   pub list : Eight qs
 
--- r is the number, from 1, of the transition with this label and these arguments; 0 if there is none
-pub record SoughtAt (s : List ℕ) (n b : ℕ) (qs : List ℕ) (r : ℕ) : Type 0 where
-  pub there : 1 ≤ r → key (nth_transition s (r - 1)) ≡ key (sought b qs)
-  pub none : r ≡ 0 → (i : ℕ) → i < n → key (nth_transition s i) ≡ key (sought b qs) → ⊥
+-- r is the transition with this label and these arguments, if there is one
+pub record SoughtAt (s : List ℕ) (n b : ℕ) (qs : List ℕ) (r : Option ℕ) : Type 0 where
+  pub there : ForSome r (λ i. key (nth_transition s i) ≡ key (sought b qs))
+  pub none : r ≡ None → (i : ℕ) → i < n → key (nth_transition s i) ≡ key (sought b qs) → ⊥
 
 -- eight places for arguments; every place from n on is 0
 pub record Places (n : ℕ) (qs : List ℕ) : Type 0 where

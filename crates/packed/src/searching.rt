@@ -1,5 +1,6 @@
 // Binary search in rising transitions, compared by their two numbers.
 ghost use Rattle.std.specs.Prelude.{true, List, ◌≡◌, ◌+◌, ◌*◌, ◌<◌, ◌≤◌, ℕ, length, take};
+ghost use Rattle.std.specs.Option.{ForSome};
 ghost use Rattle.automata.specs.Automaton.{lookup};
 ghost use Rattle.format.specs.Format.{AllBytes, byte_pairs, byte_values, max_arity, transition_bytes};
 ghost use Rattle.sorted.specs.Sorted.{LowerBound};
@@ -37,25 +38,25 @@ pub fn bound(transitions: &[u8], count: usize, meta: u64, args: u64) -> usize
     partition_point(count, |i| precedes(transitions, i, meta, args))
 }
 
-// The number, from 1, of the transition with the numbers meta and args; 0 if there is none.
-pub fn seek(transitions: &[u8], count: usize, meta: u64, args: u64) -> usize
+// The transition with the numbers meta and args.
+pub fn seek(transitions: &[u8], count: usize, meta: u64, args: u64) -> Option<usize>
     requires { Searchable transitions.now count }
-    ensures upper_bound { result ≤ count }
+    ensures upper_bound { ForSome result (λ i. i < count) }
     ensures by_index { (b : ℕ) (qs : List ℕ) → Packs meta args b qs →
         SoughtAt transitions.now count b qs result }
 {
     let i = bound(transitions, count, meta, args);
     if i >= count {
-        return 0;
+        return None;
     }
     let at = TRANSITION_BYTES * i;
     if meta_at(transitions, at) != meta {
-        return 0;
+        return None;
     }
     if args_at(transitions, at) != args {
-        return 0;
+        return None;
     }
-    i + 1
+    Some(i)
 }
 
 // Eight bytes as one number, the first the highest.
@@ -87,9 +88,8 @@ pub fn output(
     ensures { result ≡ lookup label (take arity args) (transitions_in transitions.now count) }
 {
     let meta = meta_of(arity, label);
-    let i = seek(transitions, count, meta, pack(args));
-    if i == 0 {
+    let Some(i) = seek(transitions, count, meta, pack(args)) else {
         return 0;
-    }
-    out_of(transitions, TRANSITION_BYTES * (i - 1)) as u8
+    };
+    out_of(transitions, TRANSITION_BYTES * i) as u8
 }
