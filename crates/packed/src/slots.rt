@@ -3,7 +3,7 @@
 ghost use Rattle.std.specs.Prelude.{false, true, ◌≡◌, ◌*◌, ◌+◌, ◌-◌, ◌<◌, ◌^◌, ◌≤◌, ℕ};
 ghost use Rattle.format.specs.Format.{byte_values, max_arity, transition_bytes};
 ghost use Rattle.packed.specs.Packed.{Searchable, before, meta_at, packed_at};
-ghost use Rattle.packed.specs.Slots.{InSlot};
+ghost use Rattle.packed.specs.Slots.{InSlot, NextInSlot};
 
 use crate::searching::bound;
 use crate::{args_at, meta_at};
@@ -80,36 +80,31 @@ fn is_in_slot(transitions: &[u8], count: usize, z: Slot, i: usize, meta: u64, ar
     args - z.args == at_place(q, z.place)
 }
 
-// The first transition in the slot from `from` on; `count` if there is none.
-pub fn next_in_slot(transitions: &[u8], count: usize, z: Slot, from: usize) -> usize
+// The first transition in the slot from index `from` on.
+pub fn next_in_slot(transitions: &[u8], count: usize, z: Slot, from: usize) -> Option<usize>
     requires searchable { Searchable transitions.now count }
     requires place_lt_max_arity { z.place < max_arity }
-    ensures upper_bound { result ≤ count }
-    ensures by_index { (i : ℕ) → from ≤ i → i < result → InSlot transitions.now z i → ⊥ }
-    ensures in_slot { result < count → InSlot transitions.now z result }
-    ensures lower_bound { from ≤ count → from ≤ result }
+    ensures { NextInSlot transitions.now count z from result }
 {
     for i in from..count {
         let at = TRANSITION_BYTES * i;
         let meta = meta_at(transitions, at);
         let args = args_at(transitions, at);
         if is_past(z, meta, args) {
-            return count;
+            return None;
         }
         if is_in_slot(transitions, count, z, i, meta, args) {
-            return i;
+            return Some(i);
         }
     }
-    count
+    None
 }
 
-// The first transition in the slot; `count` if there is none.
-pub fn first_in_slot(transitions: &[u8], count: usize, z: Slot) -> usize
+// The first transition in the slot.
+pub fn first_in_slot(transitions: &[u8], count: usize, z: Slot) -> Option<usize>
     requires searchable { Searchable transitions.now count }
     requires place_lt_max_arity { z.place < max_arity }
-    ensures upper_bound { result ≤ count }
-    ensures by_index { (i : ℕ) → i < result → InSlot transitions.now z i → ⊥ }
-    ensures in_slot { result < count → InSlot transitions.now z result }
+    ensures { NextInSlot transitions.now count z 0 result }
 {
     let from = bound(transitions, count, z.meta, z.args);
     next_in_slot(transitions, count, z, from)

@@ -8,7 +8,6 @@ pub returns : goal.returns
 returns c =
     let below = walk-bound c.args.z c.bound-from.ensures.by_index_2 in
     record {
-      upper_bound = c.next_in_slot.ensures.upper_bound;
-      by_index = λ i l I. walk-past below c.next_in_slot.ensures.by_index i (omega arith) l I;
-      in_slot = c.next_in_slot.ensures.in_slot;
+      here = λ i e. let (_, l, I) = c.next_in_slot.ensures.here i e in (omega arith, l, I);
+      others = λ i l I. walk-past below c.next_in_slot.ensures.others i (omega arith) I;
     }
