@@ -7,6 +7,8 @@ use native.Mathlib.Nat.{add-mul, mul_assoc, one-mul}
 use native.Mathlib.Omega.{arith}
 use lib.ListN.{drop, drop_of_length-le, get_or, length, length-set, set, take}
 use lib.Seq.{drop-drop}
+use Rattle.std.specs.declared.option.Option.{Option}
+use Rattle.std.specs.declared.option.Option.TheVariants.{Some}
 use Rattle.automata.specs.Automaton.{Automaton, Transition, run, runs}
 use Rattle.automata.specs.Ranks.{rank_in, ranks_in, sum_before}
 use Rattle.automata.specs.Totals.{product_over}
@@ -14,8 +16,6 @@ use Rattle.format.specs.Format.{max_arity, max_nodes}
 use Rattle.running.specs.Running.{HoldsStates}
 use Rattle.running.proofs.Tables.{node-byte}
 use Rattle.totals.specs.Limited.{total_of, worth}
-use Rattle.totals.specs.declared.limited.Total.{Total}
-use Rattle.totals.specs.declared.limited.Total.TheVariants.{Number}
 use Rattle.totals.proofs.Limits.{total-is, total-plus, total-times}
 use Rattle.trees.specs.Listing.{children_at, first_tree, first_trees, label_at, later_trees, nodes_in, read_tree, read_trees}
 use Rattle.trees.specs.Tree.{Forest, Tree, cons, count, nil, node}
@@ -71,11 +71,11 @@ module _ (A : Automaton) where
 -- ---- the pass
 
 -- what is on the stack and what is counted, for an automaton that has these transitions and states
-pub record Stands (A : Automaton) (w : ℕ → ℕ) (f : Forest) (stack : List ℕ) (top : ℕ) (r : Total) : Type 0 where
+pub record Stands (A : Automaton) (w : ℕ → ℕ) (f : Forest) (stack : List ℕ) (top : ℕ) (r : Option ℕ) : Type 0 where
   pub states : runs A f ≡ drop top stack
   pub number : r ≡ total_of (ranks_in A w f)
 
-pub record Ranking (τs : List Transition) (w : ℕ → ℕ) (s bs stack : List ℕ) (top i : ℕ) (r : Total) : Type 0 where
+pub record Ranking (τs : List Transition) (w : ℕ → ℕ) (s bs stack : List ℕ) (top i : ℕ) (r : Option ℕ) : Type 0 where
   pub left : i ≤ nodes_in s
   pub below : i ≤ top
   pub stacked : length stack ≡ max_nodes
@@ -84,7 +84,7 @@ pub record Ranking (τs : List Transition) (w : ℕ → ℕ) (s bs stack : List 
       Stands A w (read_trees (nodes_from s i)) stack top r
 
 pub ranking-start : (τs : List Transition) (w : ℕ → ℕ) {s : List ℕ} → Passed s → (bs : List ℕ) {stack : List ℕ} →
-    length stack ≡ max_nodes → Ranking τs w s bs stack max_nodes (nodes_in s) (Number 0)
+    length stack ≡ max_nodes → Ranking τs w s bs stack max_nodes (nodes_in s) (Some 0)
 ranking-start τs w {s} ok bs {stack} e =
     let z = ap read_trees (nodes-end ok) in
     record {
@@ -98,7 +98,7 @@ ranking-start τs w {s} ok bs {stack} e =
       };
     }
 
-module _ {τs : List Transition} {w : ℕ → ℕ} {s bs stack : List ℕ} {top i : ℕ} {r : Total} (ok : Passed s)
+module _ {τs : List Transition} {w : ℕ → ℕ} {s bs stack : List ℕ} {top i : ℕ} {r : Option ℕ} (ok : Passed s)
     (done : Ranking τs w s bs stack top i r) (more : 0 < i) where
   abbrev j : ℕ
   j = i - 1
@@ -129,7 +129,7 @@ module _ {τs : List Transition} {w : ℕ → ℕ} {s bs stack : List ℕ} {top 
   pub push-room : 1 ≤ top + arity
   push-room = omega (arith, inv.below)
 
-  pub ranking-next : {q : ℕ} → q ≡ get_or bs j 0 → {before weight product r' : Total} →
+  pub ranking-next : {q : ℕ} → q ≡ get_or bs j 0 → {before weight product r' : Option ℕ} →
       before ≡ total_of (sum_before w q (label_at s j) (take arity (drop top stack)) τs) →
       weight ≡ total_of (product_over w (drop (top + arity) stack)) →
       product ≡ total_of (worth before * worth weight) → r' ≡ total_of (worth product + worth r) →
@@ -186,7 +186,7 @@ module _ {τs : List Transition} {w : ℕ → ℕ} {s bs stack : List ℕ} {top 
               ∙ rw (← state, firsts, others, t)
 
 -- no node is left
-pub ranking-end : {τs : List Transition} {w : ℕ → ℕ} {s bs stack : List ℕ} {top i : ℕ} {r : Total} → Passed s →
+pub ranking-end : {τs : List Transition} {w : ℕ → ℕ} {s bs stack : List ℕ} {top i : ℕ} {r : Option ℕ} → Passed s →
     Ranking τs w s bs stack top i r → i ≤ 0 → (A : Automaton) → A.transitions ≡ τs → HoldsStates A (read_tree s) bs →
     r ≡ total_of (rank_in A w (read_tree s))
 ranking-end {τs} {w} {s} {bs} {stack} {top} {i} {r} ok x h A t H =

@@ -7,6 +7,7 @@ use native.Mathlib.Nat.{mod-le, sub-zero}
 use native.Mathlib.Omega.{arith}
 use lib.ListN.{get_or, length, length-set, set}
 use lib.Seq.{get_or-set_other, get_or-set_same}
+use Rattle.std.specs.declared.option.Option.{Option}
 use Rattle.automata.specs.Ranks.{children_of}
 use Rattle.automata.specs.Totals.{product_over}
 use Rattle.format.specs.Format.{max_nodes}
@@ -15,7 +16,6 @@ use Rattle.lists.proofs.Loops.{up_from-next, up_from-none}
 use Rattle.lists.proofs.Radix.{digit-first, digit-second, factor-second}
 use Rattle.table.specs.Layout.{arg_of, arity_of, transition_at}
 use Rattle.totals.specs.Limited.{limit, total_of, worth}
-use Rattle.totals.specs.declared.limited.Total.{Total}
 use Rattle.trees.specs.Tree.{Forest, Tree, ◌⧺◌, cons, count, nil}
 use Rattle.trees.proofs.Trees.{snoc-append}
 use Rattle.ranks.specs.Steps.{ChildrenPut, trees_from}
@@ -111,7 +111,7 @@ module _ {w : ℕ → ℕ} {s : List ℕ} {at n top : ℕ} {qs₀ ks₀ : List �
           later-numbers = λ j i. x.later-numbers j (omega arith);
         }
 
-    module _ (more : k < arity_of s at) {end : ℕ} (all : end ≡ arity_of s at) {weight : Total}
+    module _ (more : k < arity_of s at) {end : ℕ} (all : end ≡ arity_of s at) {weight : Option ℕ}
         (weighs : weight ≡ total_of (product_over w (map (arg_of s at) (up_from (k + 1) (end - (k + 1)))))) where
       abbrev rest : ℕ
       rest = product_over w (later_args s at (k + 1))

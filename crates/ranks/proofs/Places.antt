@@ -1,22 +1,23 @@
 -- The place that a number falls in, found by going from place to place.
 use mathlib.Core.Bool.{Bool, cond, false, true}
 use mathlib.Core.List.{List, ◌∷◌, map}
-use mathlib.Core.Path.{◌∙◌, ◌≡◌, ap}
+use mathlib.Core.Path.{◌∙◌, ◌≡◌, ap, sym}
 use Prim.Native.Nat.{◌+◌, ◌-◌, ◌<◌, ◌≤◌, ℕ}
 use native.Mathlib.Nat.{sub-zero}
 use native.Mathlib.Omega.{arith}
 use lib.Dec.{eqb, ltb}
 use borrow.Author.Tests.{le-ltb, lt-ltb}
+use Rattle.std.specs.declared.option.Option.{Option}
+use Rattle.std.specs.declared.option.Option.TheVariants.{None, Some}
 use Rattle.automata.specs.Automaton.{Automaton, Transition, accepting}
 use Rattle.automata.specs.Ranks.{state_of, transition_of}
 use Rattle.automata.specs.Totals.{product_over, sum_accepting, sum_into}
 use Rattle.lists.specs.Positions.{up_from}
 use Rattle.lists.proofs.Loops.{up_from-next, up_from-none}
 use Rattle.table.specs.Layout.{nth_transition, transitions_in}
-use Rattle.totals.specs.Limited.{limit, total_of, worth}
-use Rattle.totals.specs.declared.limited.Total.{Total}
+use Rattle.totals.specs.Limited.{limit, total_of}
+use Rattle.totals.proofs.Limits.{total-none, total-some}
 use Rattle.ranks.specs.Steps.{StateChosen, TransitionChosen}
-use Rattle.ranks.proofs.Worth.{above-number, above-worth, below-number}
 
 -- ---- transitions
 
@@ -50,7 +51,7 @@ module _ {w : ℕ → ℕ} {s : List ℕ} {c q k : ℕ} where
     transition-more h =
         omega (arith, x.below, ap (λ (is : List ℕ). sum_into w q (map (nth_transition s) is)) (up_from-none i c h))
 
-    module _ (more : i < c) {h : Total} (e : h ≡ total_of (trees_at w q (nth_transition s i))) where
+    module _ (more : i < c) {h : Option ℕ} (e : h ≡ total_of (trees_at w q (nth_transition s i))) where
       abbrev here : ℕ
       here = trees_at w q (nth_transition s i)
 
@@ -65,10 +66,8 @@ module _ {w : ℕ → ℕ} {s : List ℕ} {c q k : ℕ} where
       sum : l < here + sum_into w q (later_transitions s c (i + 1))
       sum = omega (arith, x.below, ap (sum_into w q) next)
 
-      pub transition-found : ltb l (worth h) ≡ true → TransitionChosen w s c q k (record { place = i; left = l })
-      transition-found d =
-          let less = below-number l here x.fits e d in
-          record { within = more; chosen = step ∙ rw (lt-ltb l here less); below = inside less }
+      found : l < here → TransitionChosen w s c q k (record { place = i; left = l })
+      found less = record { within = more; chosen = step ∙ rw (lt-ltb l here less); below = inside less }
         where
           inside : l < here → l < product_over w (nth_transition s i).args
           inside less = go (eqb (nth_transition s i).out q) less
@@ -78,14 +77,19 @@ module _ {w : ℕ → ℕ} {s : List ℕ} {c q k : ℕ} where
               go true p = p
               go false p = absurd (omega arith)
 
-      pub transition-next : ltb l (worth h) ≡ false → {v : ℕ} → v ≡ worth h → TransitionFrom w s c q k (l - v) (i + 1)
-      transition-next d {v} z =
-          let less = above-number l here x.fits e d in
-          let same : v ≡ here = z ∙ above-worth l here x.fits e d in
+      pub transition-found : {v : ℕ} → h ≡ Some v → l < v → TransitionChosen w s c q k (record { place = i; left = l })
+      transition-found d less = found (omega (arith, total-some here (sym d ∙ e)))
+
+      pub transition-over : h ≡ None → TransitionChosen w s c q k (record { place = i; left = l })
+      transition-over d = found (omega (arith, x.fits, total-none here (sym d ∙ e)))
+
+      pub transition-next : {v : ℕ} → h ≡ Some v → v ≤ l → TransitionFrom w s c q k (l - v) (i + 1)
+      transition-next {v} d less =
+          let same = total-some here (sym d ∙ e) in
           rw same (record {
             within = omega arith;
             fits = omega (arith, x.fits);
-            same = step ∙ rw (le-ltb l here less);
+            same = step ∙ rw (le-ltb l here (omega arith));
             below = omega (arith, sum);
           })
 
@@ -117,7 +121,7 @@ module _ {A : Automaton} {w : ℕ → ℕ} {n k : ℕ} where
     pub state-more : n < q → ⊥
     state-more h = omega (arith, x.below, ap (sum_accepting A w) (up_from-none q (1 + n) (omega arith)))
 
-    module _ (more : q ≤ n) {h : Total} (e : h ≡ total_of (trees_of_state A w q)) where
+    module _ (more : q ≤ n) {b : Bool} (class : accepting A q ≡ b) {h : Option ℕ} (e : h ≡ total_of (cond b (w q) 0)) where
       abbrev mine : ℕ
       mine = trees_of_state A w q
 
@@ -131,28 +135,34 @@ module _ {A : Automaton} {w : ℕ → ℕ} {n k : ℕ} where
       state-sum : l < mine + sum_accepting A w (later_states n (q + 1))
       state-sum = omega (arith, x.below, ap (sum_accepting A w) next-state)
 
-      pub state-found : ltb l (worth h) ≡ true → StateChosen A w n k (record { place = q; left = l })
-      state-found d =
-          let less = below-number l mine x.fits e d in
-          record {
-            some = x.some;
-            state = more;
-            chosen = state-step ∙ rw (lt-ltb l mine less);
-            below = inside (accepting A q) less;
-          }
+      numbered : h ≡ total_of mine
+      numbered = e ∙ ap (λ (b : Bool). total_of (cond b (w q) 0)) (sym class)
+
+      chosen-state : l < mine → StateChosen A w n k (record { place = q; left = l })
+      chosen-state less = record {
+        some = x.some;
+        state = more;
+        chosen = state-step ∙ rw (lt-ltb l mine less);
+        below = inside (accepting A q) less;
+      }
         where
           inside : (b : Bool) → l < cond b (w q) 0 → l < w q
           inside true p = p
           inside false p = absurd (omega arith)
 
-      pub state-next : ltb l (worth h) ≡ false → {v : ℕ} → v ≡ worth h → StateFrom A w n k (l - v) (q + 1)
-      state-next d {v} z =
-          let less = above-number l mine x.fits e d in
-          let same : v ≡ mine = z ∙ above-worth l mine x.fits e d in
+      pub state-found : {v : ℕ} → h ≡ Some v → l < v → StateChosen A w n k (record { place = q; left = l })
+      state-found d less = chosen-state (omega (arith, total-some mine (sym d ∙ numbered)))
+
+      pub state-over : h ≡ None → StateChosen A w n k (record { place = q; left = l })
+      state-over d = chosen-state (omega (arith, x.fits, total-none mine (sym d ∙ numbered)))
+
+      pub state-next : {v : ℕ} → h ≡ Some v → v ≤ l → StateFrom A w n k (l - v) (q + 1)
+      state-next {v} d less =
+          let same = total-some mine (sym d ∙ numbered) in
           rw same (record {
             some = omega arith;
             within = omega arith;
             fits = omega (arith, x.fits);
-            same = state-step ∙ rw (le-ltb l mine less);
+            same = state-step ∙ rw (le-ltb l mine (omega arith));
             below = omega (arith, state-sum);
           })

@@ -5,24 +5,24 @@ use Prim.Native.Nat.{◌*◌, ◌+◌, ◌-◌, ◌<◌, ◌≤◌, suc, ℕ}
 use native.Mathlib.Omega.{arith}
 use lib.ListN.{drop, drop_of_length-le, get_or, length}
 use lib.Seq.{drop-cons}
+use Rattle.std.specs.declared.option.Option.{Option}
+use Rattle.std.specs.declared.option.Option.TheVariants.{Some}
 use Rattle.automata.specs.Totals.{product_over}
 use Rattle.lists.specs.Positions.{up_from}
 use Rattle.lists.proofs.Loops.{up_from-next, up_from-none}
 use Rattle.totals.specs.Limited.{total_of, worth}
-use Rattle.totals.specs.declared.limited.Total.{Total}
-use Rattle.totals.specs.declared.limited.Total.TheVariants.{Number}
 use Rattle.totals.proofs.Limits.{total-is, total-times}
 
 -- r is the product over some states
-pub record Product (w : ℕ → ℕ) (qs : List ℕ) (r : Total) : Type 0 where
+pub record Product (w : ℕ → ℕ) (qs : List ℕ) (r : Option ℕ) : Type 0 where
   pub is : r ≡ total_of (product_over w qs)
 
 module _ {w : ℕ → ℕ} where
-  none : {qs : List ℕ} → qs ≡ [] → Product w qs (Number 1)
+  none : {qs : List ℕ} → qs ≡ [] → Product w qs (Some 1)
   none e = record { is = total-is (ap (product_over w) (sym e)) (rw e (omega arith)) }
 
   -- t is the number of the state before them
-  more : {qs ps : List ℕ} {q : ℕ} {r r' t : Total} → Product w qs r → ps ≡ q ∷ qs → t ≡ total_of (w q) →
+  more : {qs ps : List ℕ} {q : ℕ} {r r' t : Option ℕ} → Product w qs r → ps ≡ q ∷ qs → t ≡ total_of (w q) →
       r' ≡ total_of (worth t * worth r) → Product w ps r'
   more {qs} {ps} {q} x e f g = record {
     is = g ∙ total-times (w q) (product_over w qs) f x.is ∙ ap (λ (l : List ℕ). total_of (product_over w l)) (sym e);
@@ -30,16 +30,16 @@ module _ {w : ℕ → ℕ} where
 
 -- ---- states by index, from k up to n
 
-pub record ProductFrom (w f : ℕ → ℕ) (n k : ℕ) (r : Total) : Type 0 where
+pub record ProductFrom (w f : ℕ → ℕ) (n k : ℕ) (r : Option ℕ) : Type 0 where
   pub within : k ≤ n
   pub product : Product w (map f (up_from k (n - k))) r
 
 module _ {w f : ℕ → ℕ} {n : ℕ} where
-  pub from_start : {k : ℕ} → k ≡ n → ProductFrom w f n k (Number 1)
+  pub from_start : {k : ℕ} → k ≡ n → ProductFrom w f n k (Some 1)
   from_start {k} e = record { within = omega arith; product = none (ap (map f) (up_from-none k n (omega arith))) }
 
   -- t is the number of the state before place k
-  pub from_next : {k p : ℕ} {r r' t : Total} → ProductFrom w f n k r → 0 < k → p ≡ f (k - 1) → t ≡ total_of (w p) →
+  pub from_next : {k p : ℕ} {r r' t : Option ℕ} → ProductFrom w f n k r → 0 < k → p ≡ f (k - 1) → t ≡ total_of (w p) →
       r' ≡ total_of (worth t * worth r) → ProductFrom w f n (k - 1) r'
   from_next {k} x l d e g =
       let z : k - 1 + 1 ≡ k = omega arith in
@@ -51,22 +51,22 @@ module _ {w f : ℕ → ℕ} {n : ℕ} where
             (e ∙ ap (λ (q : ℕ). total_of (w q)) d) g;
       }
 
-  pub from_end : {k from : ℕ} {r : Total} → ProductFrom w f n k r → k ≡ from →
+  pub from_end : {k from : ℕ} {r : Option ℕ} → ProductFrom w f n k r → k ≡ from →
       r ≡ total_of (product_over w (map f (up_from from (n - from))))
   from_end x e = x.product.is ∙ ap (λ (k : ℕ). total_of (product_over w (map f (up_from k (n - k))))) e
 
 -- ---- states on a stack, from index k on
 
-pub record ProductOn (w : ℕ → ℕ) (stack : List ℕ) (k : ℕ) (r : Total) : Type 0 where
+pub record ProductOn (w : ℕ → ℕ) (stack : List ℕ) (k : ℕ) (r : Option ℕ) : Type 0 where
   pub within : k ≤ length stack
   pub product : Product w (drop k stack) r
 
 module _ {w : ℕ → ℕ} {stack : List ℕ} where
-  pub on-start : {k : ℕ} → k ≡ length stack → ProductOn w stack k (Number 1)
+  pub on-start : {k : ℕ} → k ≡ length stack → ProductOn w stack k (Some 1)
   on-start {k} e = record { within = omega arith; product = none (drop_of_length-le stack {i = k} (omega arith)) }
 
   -- t is the number of the state below index k
-  pub on-next : {k p : ℕ} {r r' t : Total} → ProductOn w stack k r → 0 < k → p ≡ get_or stack (k - 1) 0 →
+  pub on-next : {k p : ℕ} {r r' t : Option ℕ} → ProductOn w stack k r → 0 < k → p ≡ get_or stack (k - 1) 0 →
       t ≡ total_of (w p) → r' ≡ total_of (worth t * worth r) → ProductOn w stack (k - 1) r'
   on-next {k} x l d e g =
       let z : suc (k - 1) ≡ k = omega arith in
@@ -78,6 +78,6 @@ module _ {w : ℕ → ℕ} {stack : List ℕ} where
             (e ∙ ap (λ (q : ℕ). total_of (w q)) d) g;
       }
 
-  pub on-end : {k from : ℕ} {r : Total} → ProductOn w stack k r → k ≡ from →
+  pub on-end : {k from : ℕ} {r : Option ℕ} → ProductOn w stack k r → k ≡ from →
       r ≡ total_of (product_over w (drop from stack))
   on-end x e = x.product.is ∙ ap (λ (k : ℕ). total_of (product_over w (drop k stack))) e

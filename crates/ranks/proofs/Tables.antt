@@ -5,6 +5,8 @@ use mathlib.Core.List.{List, []}
 use mathlib.Core.Path.{◌∙◌, ◌≡◌, ap, ap₂, refl, subst, sym}
 use Prim.Native.Nat.{◌+◌, ◌-◌, ◌<◌, ◌≤◌, ℕ}
 use native.Mathlib.Omega.{arith}
+use Rattle.std.specs.declared.option.Option.{Option}
+use Rattle.std.specs.declared.option.Option.TheVariants.{Some}
 use Rattle.automata.specs.Automaton.{Automaton, IsState, Transition, accepting, accepts, run, states}
 use Rattle.automata.specs.Ranks.{Chosen, rank, rank_in, state_of, transition_of, tree_of, unrank}
 use Rattle.automata.specs.Totals.{sum_accepting, sum_into, total, trees_of}
@@ -27,8 +29,7 @@ use Rattle.table.specs.Layout.{body, class_at, decode, state_count, transition_c
 use Rattle.table.proofs.Intake.{Passes, unrefused-passes}
 use Rattle.totals.specs.Limited.{limit, total_of, worth}
 use Rattle.totals.specs.Numbers.{NumbersOf, number_in}
-use Rattle.totals.specs.declared.limited.Total.{Total}
-use Rattle.totals.proofs.Limits.{total-plus, worth-total}
+use Rattle.totals.proofs.Limits.{total-number, total-plus}
 use Rattle.trees.specs.Tree.{Tree, node}
 use Rattle.ranks.specs.Steps.{Grows, Lawful, Listed, StateChosen, grown_at}
 use Rattle.ranks.specs.declared.choosing.Choice.{Choice}
@@ -102,7 +103,7 @@ module _ (b : List ℕ) (passed : table_refusal b ≡ 0) {m : List ℕ} (x : Num
     pub root-state : run A t ≤ state_count b
     root-state = omega (arith, root.1, decoded-states b)
 
-    module _ {q : ℕ} {before within sum : Total} (d : q ≡ run A t)
+    module _ {q : ℕ} {before within sum : Option ℕ} (d : q ≡ run A t)
         (f : before ≡ total_of (sum_accepting (viewed b [] (q - 1) 0) w (up_from 1 (q - 1))))
         (g : within ≡ total_of (rank_in A w t)) (h : sum ≡ total_of (worth before + worth within)) where
       summed : sum ≡ total_of (rank A t)
@@ -114,11 +115,8 @@ module _ (b : List ℕ) (passed : table_refusal b ≡ 0) {m : List ℕ} (x : Num
           (rank_same A p.valid.ranged w v exact t (finite-accepted A p.valid.ranged
           (accepting-many A p.valid.ranged p.valid.rises p.acyclic) t e)))
 
-      pub rank-worth : worth sum ≡ rank A t
-      rank-worth = omega (arith, ap worth summed, worth-total (rank A t), rank-small)
-
-      pub rank-fits : worth sum < limit
-      rank-fits = omega (arith, rank-worth, rank-small)
+      pub rank-fits : sum ≡ Some (rank A t)
+      rank-fits = summed ∙ sym (total-number rank-small)
 
   -- ---- the tree of a number
 

@@ -7,30 +7,13 @@ use native.Mathlib.Nat.{div-eq_of_lt, mod-eq_of_lt}
 use native.Mathlib.Omega.{arith}
 use lib.Dec.{ltb}
 use borrow.Author.Tests.{ltb-false, ltb-true}
+use Rattle.std.specs.declared.option.Option.{Option}
 use Rattle.totals.specs.Limited.{limit, total_of, worth}
-use Rattle.totals.specs.declared.limited.Total.{Total}
 use Rattle.totals.proofs.Limits.{worth-total}
 
--- a number that is not above one of 64 bits has 64 bits
-module _ (k x : ℕ) {r : Bool} (e : r ≡ ltb k x) (d : r ≡ false) where
-  pub above-least : x ≤ k
-  above-least = ltb-false k x (sym e ∙ d)
-
-  pub above-fits : k < limit → x < limit
-  above-fits fits = omega (arith, above-least)
-
-module _ (k x : ℕ) {h : Total} (fits : k < limit) (e : h ≡ total_of x) where
+module _ (k x : ℕ) {h : Option ℕ} (fits : k < limit) (e : h ≡ total_of x) where
   is-worth : worth h ≡ worth (total_of x)
   is-worth = ap worth e
-
-  pub below-number : ltb k (worth h) ≡ true → k < x
-  below-number l = omega (arith, ltb-true k (worth h) l, is-worth, worth-total x)
-
-  pub above-number : ltb k (worth h) ≡ false → x ≤ k
-  above-number l = omega (arith, ltb-false k (worth h) l, is-worth, worth-total x)
-
-  pub above-worth : ltb k (worth h) ≡ false → worth h ≡ x
-  above-worth l = omega (arith, ltb-false k (worth h) l, is-worth, worth-total x)
 
   pub some-worth : 1 ≤ x → 1 ≤ worth h
   some-worth l = omega (arith, is-worth, worth-total x)

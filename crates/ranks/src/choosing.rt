@@ -9,7 +9,6 @@ ghost use Rattle.table.specs.Layout.{transitions_in};
 ghost use Rattle.totals.specs.Numbers.{number_in};
 ghost use Rattle.ranks.specs.Steps.{StateChosen, TransitionChosen};
 
-use crate::exact::{below, value_of};
 use crate::weights::trees_into;
 use format::TRANSITION_BYTES;
 use totals::{SLOTS, accepting_number};
@@ -30,22 +29,13 @@ pub fn choose_state(classes: &[u8], n: usize, number: u64, numbers: &[u64; SLOTS
         result }
 {
     let mut left = number;
-    let mut q = 1;
-    while q <= n {
-        let here = accepting_number(classes, q, numbers);
-        if below(left, here) {
-            return Choice {
-                place: q,
-                left: left,
-            };
+    for q in 1..n + 1 {
+        match accepting_number(classes, q, numbers) {
+            Some(here) if here <= left => left -= here,
+            _ => return Choice { place: q, left },
         }
-        left -= value_of(here);
-        q += 1;
     }
-    Choice {
-        place: q,
-        left: left,
-    }
+    unreachable!()
 }
 
 // The transition into state q that has the state's tree of a number.
@@ -61,20 +51,11 @@ pub fn choose_transition(
     ensures { TransitionChosen (number_in numbers.now) transitions.now count q number result }
 {
     let mut left = number;
-    let mut i = 0;
-    while i < count {
-        let here = trees_into(transitions, TRANSITION_BYTES * i, q, numbers);
-        if below(left, here) {
-            return Choice {
-                place: i,
-                left: left,
-            };
+    for i in 0..count {
+        match trees_into(transitions, TRANSITION_BYTES * i, q, numbers) {
+            Some(here) if here <= left => left -= here,
+            _ => return Choice { place: i, left },
         }
-        left -= value_of(here);
-        i += 1;
     }
-    Choice {
-        place: i,
-        left: left,
-    }
+    unreachable!()
 }

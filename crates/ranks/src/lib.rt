@@ -21,7 +21,6 @@ ghost use Rattle.trees.specs.Listing.{listing_refusal, read_tree};
 ghost use Rattle.calls.specs.Calls.{fits_listing, padded_listing};
 
 use choosing::choose_state;
-use exact::value_of;
 use fields::transition_count;
 use format::{HEAD_BYTES, MAX_LISTING, MAX_NODES, wide};
 use ranking::rank_within;
@@ -43,18 +42,7 @@ pub fn rank(tree: &[u8], reached: &[u8; MAX_NODES], table: &[u8], numbers: &[u64
     let q = wide(reached[0]);
     let before = sum_accepting(table, q - 1, numbers);
     let within = rank_within(tree, reached, &table[HEAD_BYTES..], count, numbers);
-    value_of(plus(before, within))
-}
-
-// Copies a listing and the zeros after it.
-fn copy(from: &[u8; MAX_LISTING], to: &mut [u8])
-    requires from_len { length from.now ≡ max_listing }
-    requires to_len { length to.old ≡ max_listing }
-    ensures { to.new ≡ from.now }
-{
-    for i in 0..MAX_LISTING {
-        to[i] = from[i];
-    }
+    plus(before, within).unwrap()
 }
 
 // Writes the listing of the tree of a number, and zeros after it, if the tree has at most 48 nodes; else nothing.
@@ -72,12 +60,18 @@ pub fn unrank(number: u64, table: &[u8], numbers: &[u64; SLOTS], listing: &mut [
     let count = transition_count(table);
     let n = wide(table[0]);
     let choice = choose_state(table, n, number, numbers);
-    let q = choice.place;
-    let left = choice.left;
     let mut bytes = [0u8; MAX_LISTING];
-    if !list_tree(q, left, &table[HEAD_BYTES..], count, n, numbers, &mut bytes) {
+    if !list_tree(
+        choice.place,
+        choice.left,
+        &table[HEAD_BYTES..],
+        count,
+        n,
+        numbers,
+        &mut bytes,
+    ) {
         return false;
     }
-    copy(&bytes, listing);
+    listing.copy_from_slice(&bytes);
     true
 }

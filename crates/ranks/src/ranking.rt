@@ -16,7 +16,7 @@ use crate::weights::{product_of_stack, trees_into};
 use fields::{arg_of, arity_of, label_of};
 use format::{MAX_NODES, NODE_BYTES, TRANSITION_BYTES, wide};
 use listing::{children_at, label_at};
-use totals::{SLOTS, Total, plus, times};
+use totals::{SLOTS, plus, times};
 
 // Whether the transition that starts at a byte has this label and the states on top of a stack as its arguments.
 fn is_own(
@@ -59,7 +59,7 @@ fn sum_before(
     arity: usize,
     q: usize,
     numbers: &[u64; SLOTS],
-) -> Total
+) -> Option<u64>
     requires holds_transitions { HoldsTransitions transitions.now count }
     requires stack_len { length stack.now ≡ max_nodes }
     requires arity_bound { top + arity ≤ max_nodes }
@@ -67,7 +67,7 @@ fn sum_before(
     ensures { result ≡ total_of (sum_before (number_in numbers.now) q label
         (take arity (drop top stack.now)) (transitions_in transitions.now count)) }
 {
-    let mut sum = Total::Number { value: 0 };
+    let mut sum = Some(0);
     for i in 0..count {
         let at = TRANSITION_BYTES * i;
         if is_own(transitions, at, label, stack, top, arity) {
@@ -85,19 +85,17 @@ pub fn rank_within(
     transitions: &[u8],
     count: usize,
     numbers: &[u64; SLOTS],
-) -> Total
+) -> Option<u64>
     requires tree_value { listing_refusal tree.now ≡ 0 }
     requires holds_transitions { HoldsTransitions transitions.now count }
     ensures { (A : Automaton) → A.transitions ≡ transitions_in transitions.now count →
         HoldsStates A (read_tree tree.now) reached.now →
         result ≡ total_of (rank_in A (number_in numbers.now) (read_tree tree.now)) }
 {
-    let mut number = Total::Number { value: 0 };
+    let mut number = Some(0);
     let mut stack = [0u8; MAX_NODES];
     let mut top = MAX_NODES;
-    let mut i = tree.len() / NODE_BYTES;
-    while i > 0 {
-        i -= 1;
+    for i in (0..tree.len() / NODE_BYTES).rev() {
         let label = label_at(tree, i);
         let arity = wide(children_at(tree, i));
         let q = reached[i];

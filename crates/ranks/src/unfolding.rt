@@ -13,7 +13,7 @@ ghost use Rattle.trees.specs.Tree.{Tree};
 ghost use Rattle.ranks.specs.Steps.{ChildrenPut, Grows, Lawful, Listed};
 
 use crate::choosing::choose_transition;
-use crate::exact::{divided, remainder};
+use crate::exact::divided;
 use crate::weights::product_of_args;
 use fields::{arg_of, arity_of, label_of};
 use format::{
@@ -58,8 +58,7 @@ fn put_children(
     let mut left = number;
     for k in 0..arity {
         let weight = product_of_args(transitions, at, k + 1, arity, numbers);
-        let mine = divided(left, weight);
-        let others = remainder(left, weight);
+        let (mine, others) = divided(left, weight);
         states[top + k] = arg_of(transitions, at, k) as u8;
         lefts[top + k] = mine;
         left = others;

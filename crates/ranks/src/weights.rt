@@ -10,16 +10,16 @@ ghost use Rattle.totals.specs.Numbers.{number_in};
 
 use fields::{arg_of, out_of};
 use format::MAX_NODES;
-use totals::{SLOTS, Total, number_of, product, times};
+use totals::{SLOTS, number_of, product, times};
 
 // The number of trees at the transition that starts at a byte, if it leads to state q; else none.
-pub fn trees_into(transitions: &[u8], at: usize, q: usize, numbers: &[u64; SLOTS]) -> Total
+pub fn trees_into(transitions: &[u8], at: usize, q: usize, numbers: &[u64; SLOTS]) -> Option<u64>
     requires { Readable transitions.now at }
     ensures { result ≡ total_of (cond (eqb (out_of transitions.now at) q)
         (product_over (number_in numbers.now) (transition_at transitions.now at).args) 0) }
 {
     if out_of(transitions, at) != q {
-        return Total::Number { value: 0 };
+        return Some(0);
     }
     product(transitions, at, numbers)
 }
@@ -32,17 +32,15 @@ pub fn product_of_args(
     from: usize,
     end: usize,
     numbers: &[u64; SLOTS],
-) -> Total
+) -> Option<u64>
     requires readable { Readable transitions.now at }
     requires from_le_end { from ≤ end }
     requires end_bound { end ≤ arity_of transitions.now at }
     ensures { result ≡ total_of (product_over (number_in numbers.now)
         (map (arg_of transitions.now at) (up_from from (end - from)))) }
 {
-    let mut number = Total::Number { value: 1 };
-    let mut k = end;
-    while k > from {
-        k -= 1;
+    let mut number = Some(1);
+    for k in (from..end).rev() {
         number = times(number_of(numbers, arg_of(transitions, at, k)), number);
     }
     number
@@ -57,16 +55,14 @@ fn state(x: u8) -> usize
 }
 
 // The number of rows of trees over the states that stand on a stack from an index on.
-pub fn product_of_stack(stack: &[u8; MAX_NODES], from: usize, numbers: &[u64; SLOTS]) -> Total
+pub fn product_of_stack(stack: &[u8; MAX_NODES], from: usize, numbers: &[u64; SLOTS]) -> Option<u64>
     requires stack_len { length stack.now ≡ max_nodes }
     requires from_le_max_nodes { from ≤ max_nodes }
     ensures { result ≡ total_of (product_over (number_in numbers.now)
         (drop from stack.now)) }
 {
-    let mut number = Total::Number { value: 1 };
-    let mut k = MAX_NODES;
-    while k > from {
-        k -= 1;
+    let mut number = Some(1);
+    for k in (from..MAX_NODES).rev() {
         number = times(number_of(numbers, state(stack[k])), number);
     }
     number

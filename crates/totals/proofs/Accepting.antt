@@ -2,9 +2,10 @@
 use mathlib.Core.Bool.{Bool, cond, true}
 use mathlib.Core.List.{List, [], ◌∷◌}
 use mathlib.Core.Path.{◌∙◌, ◌≡◌, ap, ap₂, refl, sym}
-use Prim.Native.Nat.{◌+◌, min, suc, zero, ℕ}
-use native.Mathlib.Numerals.{add-one}
+use Prim.Native.Nat.{◌+◌, ◌-◌, ◌≤◌, min, suc, zero, ℕ}
 use native.Mathlib.Omega.{arith}
+use Rattle.std.specs.declared.option.Option.{Option}
+use Rattle.std.specs.declared.option.Option.TheVariants.{Some}
 use Rattle.automata.specs.Acyclic.{acyclic}
 use Rattle.automata.specs.Automaton.{Automaton, IsState, accepting, states}
 use Rattle.automata.specs.Order.{rising}
@@ -18,8 +19,6 @@ use Rattle.lists.specs.Positions.{up_from}
 use Rattle.table.specs.Layout.{transitions_in}
 use Rattle.totals.specs.Limited.{limit, total_of, worth}
 use Rattle.totals.specs.Numbers.{NumbersOf, number_in}
-use Rattle.totals.specs.declared.limited.Total.{Total}
-use Rattle.totals.specs.declared.limited.Total.TheVariants.{Number}
 use Rattle.totals.proofs.Depths.{round-limited}
 use Rattle.totals.proofs.Limits.{total-is, total-plus, total-same}
 
@@ -35,30 +34,34 @@ module _ (A : Automaton) (w : ℕ → ℕ) where
       let z : k + suc n ≡ suc k + n = omega arith in
       rw z (omega (arith, accepting-last n (suc k)))
 
--- r is the sum over the accepting ones of the states 1 to q
-pub record AcceptedTo (A : Automaton) (w : ℕ → ℕ) (q : ℕ) (r : Total) : Type 0 where
-  pub so_far : r ≡ total_of (sum_accepting A w (up_from 1 q))
+-- r is the sum over the accepting ones of the states from 1 on, before state q
+pub record AcceptedTo (A : Automaton) (w : ℕ → ℕ) (q : ℕ) (r : Option ℕ) : Type 0 where
+  pub so_far : r ≡ total_of (sum_accepting A w (up_from 1 (q - 1)))
 
 module _ {A : Automaton} {w : ℕ → ℕ} where
-  pub accepted-start : AcceptedTo A w 0 (Number 0)
+  pub accepted-start : AcceptedTo A w 1 (Some 0)
   accepted-start = record { so_far = total-is refl (omega arith) }
 
-  -- t is the number of the next state if it is accepting
-  pub accepted-next : {q : ℕ} {b : Bool} {r r' t : Total} → AcceptedTo A w q r → accepting A (q + 1) ≡ b →
-      t ≡ total_of (cond b (w (q + 1)) 0) → r' ≡ total_of (worth r + worth t) → AcceptedTo A w (q + 1) r'
-  accepted-next {q} {b} x e f g = record {
+  -- t is the number of state q if it is accepting
+  pub accepted-next : {q : ℕ} {b : Bool} {r r' t : Option ℕ} → AcceptedTo A w q r → 1 ≤ q → accepting A q ≡ b →
+      t ≡ total_of (cond b (w q) 0) → r' ≡ total_of (worth r + worth t) → AcceptedTo A w (q + 1) r'
+  accepted-next {q} {b} x h e f g = record {
     so_far =
-        g ∙ total-plus (sum_accepting A w (up_from 1 q)) (cond b (w (q + 1)) 0) x.so_far f
+        g ∙ total-plus (sum_accepting A w (up_from 1 (q - 1))) (cond b (w q) 0) x.so_far f
         ∙ ap total_of (sym longer);
   }
     where
-      longer : sum_accepting A w (up_from 1 (q + 1)) ≡ sum_accepting A w (up_from 1 q) + cond b (w (q + 1)) 0
+      longer : sum_accepting A w (up_from 1 (q + 1 - 1)) ≡ sum_accepting A w (up_from 1 (q - 1)) + cond b (w q) 0
       longer =
-          let z : 1 + q ≡ q + 1 = omega arith in
-          ap (λ (k : ℕ). sum_accepting A w (up_from 1 k)) (add-one q) ∙ accepting-last A w q 1 ∙ rw (z, e)
+          let y : q + 1 - 1 ≡ suc (q - 1) = omega arith in
+          let z : 1 + (q - 1) ≡ q = omega arith in
+          ap (λ (k : ℕ). sum_accepting A w (up_from 1 k)) y ∙ accepting-last A w (q - 1) 1 ∙ rw (z, e)
 
-  pub accepted-end : {q n : ℕ} {r : Total} → AcceptedTo A w q r → q ≡ n → r ≡ total_of (sum_accepting A w (up_from 1 n))
-  accepted-end x e = x.so_far ∙ ap (λ (k : ℕ). total_of (sum_accepting A w (up_from 1 k))) e
+  pub accepted-end : {q n : ℕ} {r : Option ℕ} → AcceptedTo A w q r → q ≡ suc n →
+      r ≡ total_of (sum_accepting A w (up_from 1 n))
+  accepted-end {q} {n} x e =
+      let z : q - 1 ≡ n = omega arith in
+      x.so_far ∙ ap (λ (k : ℕ). total_of (sum_accepting A w (up_from 1 k))) z
 
 -- ---- the total
 
@@ -82,7 +85,7 @@ module _ (cl s : List ℕ) (n c : ℕ) (over : HoldsTransitionsOver s c n) (rise
       x.each q h l ∙ ap (min limit) (acyclic-sum A ranged rises ac q (h, l))
       ∙ sym (round-limited A ranged (trees_of A) (number_in m) (λ p (a, b). x.each p a b) q)
 
-  pub viewed-total : {m : List ℕ} {r : Total} → NumbersOf A m →
+  pub viewed-total : {m : List ℕ} {r : Option ℕ} → NumbersOf A m →
       r ≡ total_of (sum_accepting (viewed cl [] n 0) (number_in m) (up_from 1 n)) → r ≡ total_of (total A)
   viewed-total {m} x e =
       e ∙ ap total_of (accepting-classes (viewed cl [] n 0) A (viewed-classes cl s n c) (number_in m) (up_from 1 n))

@@ -1,24 +1,25 @@
 -- What is said of a number, and what it is worth: sums and products up to the limit.
-use mathlib.Core.Bool.{Bool, false, true}
+use mathlib.Core.Bool.{Bool, false, false≢true, true, true≢false}
 use mathlib.Core.Path.{◌∙◌, ◌≡◌, ap, ap₂, refl, sym}
-use Prim.Native.Nat.{◌*◌, ◌+◌, ◌/◌, ◌<◌, ◌≤◌, min, ℕ}
-use native.Mathlib.Nat.{div-lt_iff_lt-mul, le-div_iff_mul-le, mul_comm}
+use Prim.Native.Nat.{◌*◌, ◌+◌, ◌<◌, ◌≤◌, min, ℕ}
 use native.Mathlib.Omega.{arith}
 use lib.Dec.{ltb}
-use borrow.Author.Tests.{le-ltb, lt-ltb, ltb-false, ltb-true}
+use borrow.Author.Tests.{eqb-false, eqb-true, le-ltb, lt-ltb, ltb-false, ltb-true}
+use Rattle.std.specs.Option.{SomeIff, is_some, option_eq}
+use Rattle.std.specs.declared.option.Option.{Option}
+use Rattle.std.specs.declared.option.Option.TheVariants.{None, Some}
 use Rattle.lists.proofs.Limits.{min-product}
 use Rattle.totals.specs.Limited.{limit, total_of, worth}
-use Rattle.totals.specs.declared.limited.Total.{Total}
-use Rattle.totals.specs.declared.limited.Total.TheVariants.{Number, Over}
+use Rattle.std.specs.Prelude.{nat_eq}
 
-pub total-number : {n : ℕ} → n < limit → Number n ≡ total_of n
+pub total-number : {n : ℕ} → n < limit → Some n ≡ total_of n
 unfolding total_of
 total-number {n} h = rw (lt-ltb n limit h)
 
-pub total-is : {n k : ℕ} → n ≡ k → k < limit → Number n ≡ total_of k
-total-is e h = ap (λ (m : ℕ). Number m) e ∙ total-number h
+pub total-is : {n k : ℕ} → n ≡ k → k < limit → Some n ≡ total_of k
+total-is e h = ap (λ (m : ℕ). Some m) e ∙ total-number h
 
-pub total-over : {n : ℕ} → limit ≤ n → Over ≡ total_of n
+pub total-over : {n : ℕ} → limit ≤ n → None ≡ total_of n
 unfolding total_of
 total-over {n} h = rw (le-ltb n limit h)
 
@@ -29,13 +30,30 @@ worth-total n = go (ltb n limit) refl
     go true e = let h = ltb-true n limit e in ap worth (sym (total-number h)) ∙ omega arith
     go false e = let h = ltb-false n limit e in ap worth (sym (total-over h)) ∙ omega arith
 
--- ---- what fits, by division
+-- what a number that fits, or none, says of the number itself
+pub total-some : {v : ℕ} (x : ℕ) → Some v ≡ total_of x → v ≡ x
+total-some {v} x e = go (ltb x limit) refl
+  where
+    go : (b : Bool) → ltb x limit ≡ b → v ≡ x
+    go true d = omega (arith, ltb-true x limit d, ap worth e, worth-total x)
+    go false d = absurd (true≢false (ap is_some (e ∙ sym (total-over (ltb-false x limit d)))))
 
-pub product-over : (m x y : ℕ) → (x ≡ 0 → ⊥) → m / x < y → m < x * y
-product-over m x y h l = rw (mul_comm x y) ((div-lt_iff_lt-mul {k = x} {x = m} {y = y} (omega arith)).0 l)
+pub total-none : (x : ℕ) → None ≡ total_of x → limit ≤ x
+total-none x e = omega (arith, ap worth e, worth-total x)
 
-pub product-fits : (m x y : ℕ) → (x ≡ 0 → ⊥) → y ≤ m / x → x * y ≤ m
-product-fits m x y h l = rw (mul_comm x y) ((le-div_iff_mul-le {k = x} {x = y} {y = m} (omega arith)).0 l)
+-- a result of checked arithmetic
+pub total-checked : (n : ℕ) (r : Option ℕ) → SomeIff r (n < limit) n → r ≡ total_of n
+total-checked n None h = total-over (omega (arith, h))
+total-checked n (Some v) (h, e) = total-is e (omega (arith, h, e))
+
+-- whether a number is 0
+pub none-zero : (a : Option ℕ) → option_eq nat_eq a (Some 0) ≡ true → worth a ≡ 0
+none-zero None e = absurd (false≢true e)
+none-zero (Some v) e = eqb-true v 0 e
+
+pub some-not-zero : (a : Option ℕ) → option_eq nat_eq a (Some 0) ≡ false → 1 ≤ worth a
+some-not-zero None e = omega arith
+some-not-zero (Some v) e = omega (arith, eqb-false v 0 e)
 
 -- ---- the same up to the limit
 
@@ -46,12 +64,12 @@ total-same x y e = go (ltb x limit) refl
     go true d = let h = ltb-true x limit d in let f : x ≡ y = omega arith in ap total_of f
     go false d = let h = ltb-false x limit d in sym (total-over h) ∙ total-over (omega arith)
 
-pub total-plus : (x y : ℕ) {s t : Total} → s ≡ total_of x → t ≡ total_of y →
+pub total-plus : (x y : ℕ) {s t : Option ℕ} → s ≡ total_of x → t ≡ total_of y →
     total_of (worth s + worth t) ≡ total_of (x + y)
 total-plus x y {s} {t} e f =
     total-same (worth s + worth t) (x + y) (omega (arith, ap worth e, worth-total x, ap worth f, worth-total y))
 
-pub total-times : (x y : ℕ) {s t : Total} → s ≡ total_of x → t ≡ total_of y →
+pub total-times : (x y : ℕ) {s t : Option ℕ} → s ≡ total_of x → t ≡ total_of y →
     total_of (worth s * worth t) ≡ total_of (x * y)
 total-times x y {s} {t} e f =
     total-same (worth s * worth t) (x * y)

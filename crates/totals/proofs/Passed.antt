@@ -5,6 +5,7 @@ use mathlib.Core.Path.{◌∙◌, ◌≡◌, ap, ap₂, refl, subst, sym}
 use Prim.Native.Nat.{◌≤◌, ℕ}
 use native.Mathlib.Omega.{arith}
 use lib.ListN.{length}
+use Rattle.std.specs.declared.option.Option.{Option}
 use Rattle.automata.specs.Acyclic.{acyclic}
 use Rattle.automata.specs.Automaton.{Automaton}
 use Rattle.automata.specs.Order.{rising}
@@ -19,7 +20,6 @@ use Rattle.table.specs.Layout.{body, decode, state_count, transition_count, tran
 use Rattle.table.proofs.Intake.{unrefused-passes}
 use Rattle.totals.specs.Limited.{total_of}
 use Rattle.totals.specs.Numbers.{NumbersOf, number_in}
-use Rattle.totals.specs.declared.limited.Total.{Total}
 use Rattle.totals.proofs.Accepting.{viewed-total}
 
 pub passed_length : (b : List ℕ) → table_refusal b ≡ 0 → length b ≡ table_bytes
@@ -49,7 +49,7 @@ module _ (b : List ℕ) {n k : ℕ} (count : k ≡ transition_count b) (states :
       )
 
 -- the sum over the accepting states of a table is its total
-pub passed-total : (b : List ℕ) {n : ℕ} {m : List ℕ} {r : Total} → table_refusal b ≡ 0 → n ≡ state_count b →
+pub passed-total : (b : List ℕ) {n : ℕ} {m : List ℕ} {r : Option ℕ} → table_refusal b ≡ 0 → n ≡ state_count b →
     NumbersOf (decode b) m → r ≡ total_of (sum_accepting (viewed b [] n 0) (number_in m) (up_from 1 n)) →
     r ≡ total_of (total (decode b))
 passed-total b {n} {m} {r} passed states x e =

@@ -9,6 +9,8 @@ use native.Mathlib.Omega.{arith}
 use lib.Dec.{eqb}
 use lib.ListN.{length-replicate, replicate}
 use borrow.Author.Tests.{eqb-false, eqb-true}
+use Rattle.std.specs.declared.option.Option.{Option}
+use Rattle.std.specs.declared.option.Option.TheVariants.{Some}
 use Rattle.automata.specs.Automaton.{Transition}
 use Rattle.automata.specs.Totals.{product_over, sum_into}
 use Rattle.fields.proofs.Transitions.{transitions_in-suc}
@@ -18,8 +20,6 @@ use Rattle.lists.proofs.Intervals.{tabulated-suc}
 use Rattle.table.specs.Layout.{arg_of, arity_of, nth_transition, transition_at, transitions_in}
 use Rattle.totals.specs.Limited.{limit, total_of, worth}
 use Rattle.totals.specs.Numbers.{Added, Put, Sums, number_in, slots}
-use Rattle.totals.specs.declared.limited.Total.{Total}
-use Rattle.totals.specs.declared.limited.Total.TheVariants.{Number}
 use Rattle.totals.proofs.Limits.{total-is, total-times, worth-total}
 use Rattle.totals.proofs.Tables.{number-none}
 
@@ -31,16 +31,16 @@ product-last w (p ∷ qs) q =
     ap (λ (x : ℕ). w p * x) (product-last w qs q) ∙ sym (mul_assoc (w p) (product_over w qs) (w q))
 
 -- r is the product over the arguments before place k of the transition that starts at a byte
-pub record ProductTo (w : ℕ → ℕ) (s : List ℕ) (at k : ℕ) (r : Total) : Type 0 where
+pub record ProductTo (w : ℕ → ℕ) (s : List ℕ) (at k : ℕ) (r : Option ℕ) : Type 0 where
   pub within : k ≤ arity_of s at
   pub so_far : r ≡ total_of (product_over w (map (arg_of s at) (up_from 0 k)))
 
 module _ {w : ℕ → ℕ} {s : List ℕ} {at : ℕ} where
-  pub product-start : ProductTo w s at 0 (Number 1)
+  pub product-start : ProductTo w s at 0 (Some 1)
   product-start = record { within = omega arith; so_far = total-is refl (omega arith) }
 
   -- t is the number of argument k
-  pub product-next : {k q : ℕ} {r r' t : Total} → ProductTo w s at k r → k < arity_of s at → q ≡ arg_of s at k →
+  pub product-next : {k q : ℕ} {r r' t : Option ℕ} → ProductTo w s at k r → k < arity_of s at → q ≡ arg_of s at k →
       t ≡ total_of (w q) → r' ≡ total_of (worth r * worth t) → ProductTo w s at (k + 1) r'
   product-next {k} {q} {r} {r'} {t} x h e f g = record {
     within = omega arith;
@@ -58,7 +58,7 @@ module _ {w : ℕ → ℕ} {s : List ℕ} {at : ℕ} where
           ap (λ (n : ℕ). map (arg_of s at) (up_from 0 n)) d ∙ tabulated-suc (arg_of s at) 0 k
           ∙ ap (λ (j : ℕ). map (arg_of s at) (up_from 0 k) ++ (arg_of s at j ∷ [])) z
 
-  pub product-end : {k : ℕ} {r : Total} → ProductTo w s at k r → arity_of s at ≤ k →
+  pub product-end : {k : ℕ} {r : Option ℕ} → ProductTo w s at k r → arity_of s at ≤ k →
       r ≡ total_of (product_over w (transition_at s at).args)
   product-end {k} x h =
       let e : k ≡ arity_of s at = omega (arith, x.within) in
@@ -79,7 +79,7 @@ sums-start {w} s = record {
 }
 
 -- t is the product x that is added to the sum of state o
-pub put-product : (x : ℕ) {o q : ℕ} {t : Total} {m m' : List ℕ} → Added o (worth t) m m' →
+pub put-product : (x : ℕ) {o q : ℕ} {t : Option ℕ} {m m' : List ℕ} → Added o (worth t) m m' →
     o ≡ q → t ≡ total_of x → Added q x m m'
 put-product x {o} {q} {t} {m} {m'} p e f =
     subst (λ (o : ℕ). Added o x m m') e

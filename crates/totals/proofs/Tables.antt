@@ -8,12 +8,12 @@ use lib.Dec.{eqb}
 use lib.ListN.{get_or, length, length-set, replicate, set}
 use lib.Seq.{get_or-set_other, get_or-set_same}
 use borrow.Author.Tests.{eq-eqb, eqb-true, ne_eqb}
+use Rattle.std.specs.declared.option.Option.{Option}
 use Rattle.format.specs.Format.{byte_values}
 use Rattle.lists.proofs.Intervals.{get_d-zeros}
 use Rattle.lists.proofs.Tests.{and_left, and_right}
 use Rattle.totals.specs.Limited.{limit, total_of, worth}
 use Rattle.totals.specs.Numbers.{Added, Put, number_in, same_in, slots}
-use Rattle.totals.specs.declared.limited.Total.{Total}
 use Rattle.totals.proofs.Limits.{worth-total}
 
 pub number-itself : (m : List ℕ) (q : ℕ) → get_or m (byte_values + q) 0 ≡ 0 → number_in m q ≡ get_or m q 0
@@ -53,7 +53,7 @@ put_entries m q v o size h e = record {
 }
 
 -- r is s, the number of state q, and y more
-pub put-sum : (y : ℕ) {q : ℕ} {r s : Total} {m m' : List ℕ} → Put q (worth r) m m' → s ≡ total_of (number_in m q) →
+pub put-sum : (y : ℕ) {q : ℕ} {r s : Option ℕ} {m m' : List ℕ} → Put q (worth r) m m' → s ≡ total_of (number_in m q) →
     r ≡ total_of (worth s + y) → Added q y m m'
 put-sum y {q} {r} {s} {m} {m'} p e f =
     let n = number_in m q in

@@ -22,7 +22,7 @@ ghost use Rattle.totals.specs.Numbers.{NumbersOf, number_in};
 
 use fields::transition_count;
 use format::{HEAD_BYTES, wide};
-pub use limited::{Total, plus, times};
+pub use limited::{plus, times};
 use numbers::same;
 pub use numbers::{SLOTS, number_of};
 pub use rounds::product;
@@ -41,9 +41,7 @@ fn numbers_of(transitions: &[u8], count: usize, n: usize) -> [u64; SLOTS]
     let mut links = [0u16; LINKS];
     link(transitions, count, &mut links);
     let mut numbers = [0u64; SLOTS];
-    let mut left = n;
-    while left > 0 {
-        left -= 1;
+    for _ in 0..n {
         settle_all(transitions, count, n, &links, &mut numbers);
         let next = round(transitions, count, &numbers);
         if same(&numbers, &next, n) {
@@ -54,7 +52,7 @@ fn numbers_of(transitions: &[u8], count: usize, n: usize) -> [u64; SLOTS]
 }
 
 // The number of state q if it is accepting, else none. `classes` has the class of state q at byte q.
-pub fn accepting_number(classes: &[u8], q: usize, numbers: &[u64; SLOTS]) -> Total
+pub fn accepting_number(classes: &[u8], q: usize, numbers: &[u64; SLOTS]) -> Option<u64>
     requires q_in_bounds { q < length classes.now }
     requires q_lt_byte_values { q < byte_values }
     ensures { result ≡ total_of (cond (class_at classes.now q) (number_in numbers.now q) 0) }
@@ -62,19 +60,17 @@ pub fn accepting_number(classes: &[u8], q: usize, numbers: &[u64; SLOTS]) -> Tot
     if classes[q] == 1 {
         return number_of(numbers, q);
     }
-    Total::Number { value: 0 }
+    Some(0)
 }
 
 // The sum of the numbers of those of the states 1 to n that are accepting.
-pub fn sum_accepting(classes: &[u8], n: usize, numbers: &[u64; SLOTS]) -> Total
+pub fn sum_accepting(classes: &[u8], n: usize, numbers: &[u64; SLOTS]) -> Option<u64>
     requires n_in_bounds { n < length classes.now }
     requires n_lt_byte_values { n < byte_values }
     ensures { result ≡ total_of (sum_accepting (viewed classes.now [] n 0) (number_in numbers.now) (up_from 1 n)) }
 {
-    let mut sum = Total::Number { value: 0 };
-    let mut q = 0;
-    while q < n {
-        q += 1;
+    let mut sum = Some(0);
+    for q in 1..n + 1 {
         sum = plus(sum, accepting_number(classes, q, numbers));
     }
     sum
@@ -91,7 +87,7 @@ pub fn state_numbers(table: &[u8]) -> [u64; SLOTS]
 }
 
 // The number of trees that a table accepts, from those of its states.
-pub fn total_of(table: &[u8], numbers: &[u64; SLOTS]) -> Total
+pub fn total_of(table: &[u8], numbers: &[u64; SLOTS]) -> Option<u64>
     requires table_value { table_refusal table.now ≡ 0 }
     requires numbers_of { NumbersOf (decode table.now) numbers.now }
     ensures { result ≡ total_of (total (decode table.now)) }
@@ -101,7 +97,7 @@ pub fn total_of(table: &[u8], numbers: &[u64; SLOTS]) -> Total
 }
 
 // The number of trees that a table accepts.
-pub fn total(table: &[u8]) -> Total
+pub fn total(table: &[u8]) -> Option<u64>
     requires { table_refusal table.now ≡ 0 }
     ensures { result ≡ total_of (total (decode table.now)) }
 {

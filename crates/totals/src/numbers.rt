@@ -6,27 +6,27 @@ ghost use Rattle.lists.specs.Tests.{every};
 ghost use Rattle.totals.specs.Limited.{total_of, worth};
 ghost use Rattle.totals.specs.Numbers.{Added, Put, number_in, same_in, slots};
 
-use crate::limited::{Total, number, plus};
+use crate::limited::plus;
 use format::BYTE_VALUES;
 
 pub const SLOTS: usize = 2 * BYTE_VALUES;
 
-pub fn number_of(numbers: &[u64; SLOTS], q: usize) -> Total
+pub fn number_of(numbers: &[u64; SLOTS], q: usize) -> Option<u64>
     requires { q < byte_values }
     ensures { result ≡ total_of (number_in numbers.now q) }
 {
     if numbers[BYTE_VALUES + q] != 0 {
-        return Total::Over;
+        return None;
     }
-    number(numbers[q])
+    Some(numbers[q])
 }
 
-pub fn put(numbers: &mut [u64; SLOTS], q: usize, number: Total)
+pub fn put(numbers: &mut [u64; SLOTS], q: usize, number: Option<u64>)
     requires numbers_len { length numbers.old ≡ slots }
     requires q_lt_byte_values { q < byte_values }
     ensures { Put q (worth number) numbers.old numbers.new }
 {
-    let Total::Number { value } = number else {
+    let Some(value) = number else {
         numbers[q] = 0;
         numbers[BYTE_VALUES + q] = 1;
         return;
@@ -36,7 +36,7 @@ pub fn put(numbers: &mut [u64; SLOTS], q: usize, number: Total)
 }
 
 // State q gets so many more.
-pub fn add(numbers: &mut [u64; SLOTS], q: usize, more: Total)
+pub fn add(numbers: &mut [u64; SLOTS], q: usize, more: Option<u64>)
     requires numbers_len { length numbers.old ≡ slots }
     requires q_lt_byte_values { q < byte_values }
     ensures { Added q (worth more) numbers.old numbers.new }

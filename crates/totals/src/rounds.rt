@@ -9,19 +9,19 @@ ghost use Rattle.table.specs.Layout.{out_of, transition_at, transitions_in};
 ghost use Rattle.totals.specs.Limited.{total_of};
 ghost use Rattle.totals.specs.Numbers.{Added, NumbersOf, Sums, number_in, slots};
 
-use crate::limited::{Total, times};
+use crate::limited::times;
 use crate::numbers::{SLOTS, add, number_of};
 use fields::{arg_of, arity_of, out_of};
 use format::TRANSITION_BYTES;
 
 // The product of the numbers of the arguments of the transition that starts at a byte.
-pub fn product(transitions: &[u8], at: usize, numbers: &[u64; SLOTS]) -> Total
+pub fn product(transitions: &[u8], at: usize, numbers: &[u64; SLOTS]) -> Option<u64>
     requires { Readable transitions.now at }
     ensures { result ≡ total_of (product_over (number_in numbers.now)
         (transition_at transitions.now at).args) }
 {
     let arity = arity_of(transitions, at);
-    let mut number = Total::Number { value: 1 };
+    let mut number = Some(1);
     for k in 0..arity {
         let q = arg_of(transitions, at, k);
         number = times(number, number_of(numbers, q));

@@ -5,7 +5,7 @@ ghost use Rattle.fields.specs.Fields.{HoldsTransitions};
 ghost use Rattle.format.specs.Format.{byte_values, max_transitions};
 ghost use Rattle.totals.specs.Numbers.{slots};
 
-use crate::limited::{Total, plus};
+use crate::limited::plus;
 use crate::numbers::{SLOTS, put};
 use crate::rounds::product;
 use fields::out_of;
@@ -20,12 +20,10 @@ pub fn link(transitions: &[u8], count: usize, links: &mut [u16; LINKS])
     requires count_le_max_transitions { count ≤ max_transitions }
 {
     *links = [0u16; LINKS];
-    let mut i = 0;
-    while i < count {
+    for i in 0..count {
         let out = out_of(transitions, TRANSITION_BYTES * i);
         links[BYTE_VALUES + i] = links[out];
-        i += 1;
-        links[out] = i as u16;
+        links[out] = (i + 1) as u16;
     }
 }
 
@@ -54,7 +52,7 @@ fn settle(
     requires numbers_len { length numbers.old ≡ slots }
     ensures { length numbers.new ≡ slots }
 {
-    let mut sum = Total::Number { value: 0 };
+    let mut sum = Some(0);
     let mut i = within(links[q], count);
     while i > 0 {
         i -= 1;

@@ -1,13 +1,17 @@
 -- `ranks::rank` meets its contract: the trees of accepting states before its own, then those before it in its state.
 use native.Mathlib.Omega.{arith}
-use mathlib.Core.Path.{◌∙◌, ap₂, refl, sym}
+use mathlib.Core.Path.{◌∙◌, ◌≡◌, ap, ap₂, refl, sym}
+use Rattle.std.specs.declared.option.Option.TheVariants.{Some}
 use Rattle.fields.proofs.Transitions.{part_body}
 use Rattle.running.proofs.Tables.{root-byte}
+use Rattle.automata.specs.Ranks.{rank}
 use Rattle.table.specs.Layout.{decode, transitions_in}
+use Rattle.totals.specs.Limited.{worth}
 use Rattle.totals.proofs.Passed.{passed_length, passed-seen}
 use Rattle.trees.specs.Listing.{read_tree}
-use Rattle.ranks.proofs.Tables.{decoded-transitions, rank-fits, rank-worth, root-some, root-state}
+use Rattle.ranks.proofs.Tables.{decoded-transitions, rank-fits, root-some, root-state}
 use borrow.Author.Rules.{rules}
+use Rattle.ranks.proofs.rank.Goals.{After-plus}
 use Rattle.ranks.proofs.rank.Goals as goal
 
 pub transition_count-count-requires : goal.transition_count-count-requires
@@ -52,8 +56,9 @@ rank_within-within-requires c =
       holds_transitions = (passed-seen c.args.table.now count refl c.requires.table_value).0.over.runs;
     }
 
-pub value_of-requires : goal.value_of-requires
-value_of-requires c =
+-- the sum is the tree's number
+summed : (c : After-plus) → c.plus.result ≡ Some (rank (decode c.args.table.now) (read_tree c.args.tree.now))
+summed c =
     let b = c.args.table.now in
     let count = c.transition_count-count.ensures.value in
     rank-fits b c.requires.table_value c.requires.numbers_of c.requires.table_bound (read_tree c.args.tree.now) c.requires.tree_value_2
@@ -63,14 +68,8 @@ value_of-requires c =
     (decoded-transitions b ∙ sym (ap₂ transitions_in (part_body b) count)) c.requires.holds_states)
     c.plus.ensures
 
+pub unwrap-requires : goal.unwrap-requires
+unwrap-requires c = rw (summed (goal.at.unwrap-requires c).After-plus) refl
+
 pub returns : goal.returns
-returns c =
-    let b = c.args.table.now in
-    let count = c.transition_count-count.ensures.value in
-    c.value_of.ensures
-    ∙ rank-worth b c.requires.table_value c.requires.numbers_of c.requires.table_bound (read_tree c.args.tree.now) c.requires.tree_value_2
-    (c.wide-q.ensures ∙ root-byte c.requires.holds_states)
-    c.sum_accepting-before.ensures
-    (c.rank_within-within.ensures (decode b)
-    (decoded-transitions b ∙ sym (ap₂ transitions_in (part_body b) count)) c.requires.holds_states)
-    c.plus.ensures
+returns c = ap worth (sym c.unwrap.ensures ∙ summed (goal.at.returns c).After-plus)

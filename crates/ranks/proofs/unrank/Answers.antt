@@ -56,8 +56,8 @@ returns-then-not-list_tree c =
     c.list_tree.ensures.by_index in
     record { value = sym c.if-not-list_tree.true ∙ listed.fits; listing_after = refl }
 
-pub copy-requires : goal.copy-requires
-copy-requires c = record { from_len = c.list_tree.ensures.bytes_len; to_len = c.requires.listing_len }
+pub copy_from_slice-requires : goal.copy_from_slice-requires
+copy_from_slice-requires c = c.requires.listing_len ∙ sym c.list_tree.ensures.bytes_len
 
 pub returns : goal.returns
 returns c =
@@ -66,4 +66,4 @@ returns c =
     c.choose_state-choice.ensures
     c.list_tree.ensures.by_index in
     let yes = c.if-not-list_tree.false in
-    record { value = sym yes ∙ listed.fits; listing_after = c.copy.ensures ∙ listed.written yes }
+    record { value = sym yes ∙ listed.fits; listing_after = c.copy_from_slice.ensures.after ∙ listed.written yes }

@@ -1,5 +1,4 @@
 -- `ranks::ranking::is_own` meets its contract: the arguments before `k` agree.
-use Prim.Native.Nat.{◌-◌}
 use lib.ListN.{drop}
 use Rattle.fields.proofs.Searching.{AgreeTo}
 use Rattle.ranks.proofs.ranking.is_own.Given as goal

@@ -21,60 +21,50 @@ bounds-reached-i c =
 pub sum_before-before-requires : goal.sum_before-before-requires
 sum_before-before-requires c =
     let ok = passed c.args.tree.now c.requires.tree_value in
-    let more = c.loop-i-test.true in
     let width = c.wide-arity.ensures
     ∙ c.children_at.ensures in
     record {
       holds_transitions = c.requires.holds_transitions;
       stack_len = c.loop-i.invariant.stacked;
-      arity_bound = omega (arith, pop-room ok c.loop-i.invariant more, width);
-      arity_le_max_arity = omega (arith, pop-narrow ok c.loop-i.invariant more, width);
+      arity_bound = omega (arith, pop-room ok c.loop-i.invariant (omega arith), width);
+      arity_le_max_arity = omega (arith, pop-narrow ok c.loop-i.invariant (omega arith), width);
     }
 
 pub product_of_stack-weight-requires : goal.product_of_stack-weight-requires
 product_of_stack-weight-requires c =
     let ok = passed c.args.tree.now c.requires.tree_value in
-    let more = c.loop-i-test.true in
     let width = c.wide-arity.ensures
     ∙ c.children_at.ensures in
     record {
       stack_len = c.loop-i.invariant.stacked;
-      from_le_max_nodes = omega (arith, pop-room ok c.loop-i.invariant more, width);
+      from_le_max_nodes = omega (arith, pop-room ok c.loop-i.invariant (omega arith), width);
     }
 
 pub overflow_add-top-in-loop-i : goal.overflow_add-top-in-loop-i
 overflow_add-top-in-loop-i c =
     let ok = passed c.args.tree.now c.requires.tree_value in
-    let more = c.loop-i-test.true in
     let width = c.wide-arity.ensures ∙ c.children_at.ensures in
-    omega (arith, pop-room ok c.loop-i.invariant more, width)
+    omega (arith, pop-room ok c.loop-i.invariant (omega arith), width)
 
 pub overflow_sub-top : goal.overflow_sub-top
 overflow_sub-top c =
     let ok = passed c.args.tree.now c.requires.tree_value in
-    let more = c.loop-i-test.true in
     let width = c.wide-arity.ensures ∙ c.children_at.ensures in
-    omega (arith, push-room ok c.loop-i.invariant more, width)
+    omega (arith, push-room ok c.loop-i.invariant (omega arith), width)
 
 pub bounds-stack-top : goal.bounds-stack-top
 bounds-stack-top c =
     let ok = passed c.args.tree.now c.requires.tree_value in
-    let more = c.loop-i-test.true in
     let width = c.wide-arity.ensures ∙ c.children_at.ensures in
-    omega (arith, pop-room ok c.loop-i.invariant more, push-room ok c.loop-i.invariant more, width)
-
-pub loop-i-smaller : goal.loop-i-smaller
-loop-i-smaller c =
-    omega (arith, c.loop-i-test.true)
+    omega (arith, pop-room ok c.loop-i.invariant (omega arith), push-room ok c.loop-i.invariant (omega arith), width)
 
 pub loop-i-preserved : goal.loop-i-preserved
 loop-i-preserved c =
     let ok = passed c.args.tree.now c.requires.tree_value in
-    let more = c.loop-i-test.true in
     let width = c.wide-arity.ensures ∙ c.children_at.ensures in
     let label = c.label_at-label.ensures.value in
     rw width
-    (ranking-next ok c.loop-i.invariant more refl
+    (ranking-next ok c.loop-i.invariant (omega arith) refl
     (rw (label, width, c.wide.ensures) at c.sum_before-before.ensures)
     (rw width at c.product_of_stack-weight.ensures) c.times.ensures c.plus-number.ensures)
 

@@ -6,6 +6,3 @@ use Rattle.ranks.proofs.ranking.rank_within.Given as goal
 
 abbrev pub invariant-loop-i : goal.invariant-loop-i
 invariant-loop-i l = Ranking (transitions_in l.transitions l.count) (number_in l.numbers) l.tree l.reached l.stack l.top l.i l.number
-
-abbrev pub decreases-loop-i : goal.decreases-loop-i
-decreases-loop-i l = l.i

@@ -1,5 +1,4 @@
 -- `ranks::ranking::sum_before` meets its contract: what is left to count stands from `i` on.
-use Prim.Native.Nat.{◌-◌}
 use lib.ListN.{drop, take}
 use Rattle.totals.specs.Numbers.{number_in}
 use Rattle.ranks.proofs.Before.{CountedTo}

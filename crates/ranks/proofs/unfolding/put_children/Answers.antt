@@ -12,19 +12,13 @@ divided-mine-requires c =
     weight-some c.loop-k.invariant.1 (omega (arith, c.loop-k.invariant.0))
     c.loop-k.invariant.0 c.product_of_args-weight.ensures
 
-pub remainder-others-requires : goal.remainder-others-requires
-remainder-others-requires c =
-    let more = c.loop-k-test.true in
-    weight-some c.loop-k.invariant.1 (omega (arith, c.loop-k.invariant.0))
-    c.loop-k.invariant.0 c.product_of_args-weight.ensures
-
 pub loop-k-preserved : goal.loop-k-preserved
 loop-k-preserved c =
     let more = c.loop-k-test.true in (
       c.loop-k.invariant.0,
       put_next c.loop-k.invariant.1 (omega (arith, c.loop-k.invariant.0))
           c.loop-k.invariant.0 c.product_of_args-weight.ensures c.requires.at_bound
-          c.arg_of.ensures.value c.divided-mine.ensures c.remainder-others.ensures,
+          c.arg_of.ensures.value c.divided-mine.ensures.quotient c.divided-mine.ensures.rest,
     )
 
 pub returns : goal.returns

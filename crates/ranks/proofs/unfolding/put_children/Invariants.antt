@@ -1,6 +1,5 @@
 -- `ranks::unfolding::put_children` meets its contract: the first `k` children are put.
 use mathlib.Core.Path.{◌≡◌}
-use Prim.Native.Nat.{◌-◌}
 use Rattle.table.specs.Layout.{arity_of}
 use Rattle.totals.specs.Numbers.{number_in}
 use Rattle.ranks.proofs.Pending.{PutTo}

@@ -7,6 +7,3 @@ use Rattle.ranks.proofs.weights.product_of_args.Given as goal
 
 abbrev pub invariant-loop-k : goal.invariant-loop-k
 invariant-loop-k l = (l.from ≤ l.k) × ProductFrom (number_in l.numbers) (arg_of l.transitions l.at) l.end l.k l.number
-
-abbrev pub decreases-loop-k : goal.decreases-loop-k
-decreases-loop-k l = l.k

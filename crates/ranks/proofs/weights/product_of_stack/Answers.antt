@@ -9,17 +9,11 @@ loop-k-init c = (c.requires.from_le_max_nodes, on-start (sym c.requires.stack_le
 pub number_of-requires : goal.number_of-requires
 number_of-requires c = c.state.ensures.upper_bound
 
-pub loop-k-smaller : goal.loop-k-smaller
-loop-k-smaller c = omega (arith, c.loop-k-test.true)
-
 pub loop-k-preserved : goal.loop-k-preserved
-loop-k-preserved c =
-    let more = c.loop-k-test.true in (
-      omega (arith, c.loop-k.invariant.0),
-      on-next c.loop-k.invariant.1 (omega (arith, c.loop-k.invariant.0)) c.state.ensures.value
-          c.number_of.ensures c.times-number.ensures,
-    )
+loop-k-preserved c = (
+  omega arith,
+  on-next c.loop-k.invariant.1 (omega arith) c.state.ensures.value c.number_of.ensures c.times-number.ensures,
+)
 
 pub returns : goal.returns
-returns c =
-    on-end {from = c.args.from} c.loop-k.invariant.1 (omega (arith, c.loop-k.invariant.0))
+returns c = on-end {from = c.args.from} c.loop-k.invariant.1 (omega arith)

@@ -6,6 +6,3 @@ use Rattle.ranks.proofs.weights.product_of_stack.Given as goal
 
 abbrev pub invariant-loop-k : goal.invariant-loop-k
 invariant-loop-k l = (l.from ≤ l.k) × ProductOn (number_in l.numbers) l.stack l.k l.number
-
-abbrev pub decreases-loop-k : goal.decreases-loop-k
-decreases-loop-k l = l.k

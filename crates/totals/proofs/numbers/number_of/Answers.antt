@@ -1,8 +1,7 @@
 -- `totals::numbers::number_of` meets its contract: the second entry says whether the number is over.
-use mathlib.Core.Path.{◌∙◌, ap, sym}
+use mathlib.Core.Path.{sym}
 use native.Mathlib.Omega.{arith}
-use Rattle.totals.specs.Limited.{total_of}
-use Rattle.totals.proofs.Limits.{total-over}
+use Rattle.totals.proofs.Limits.{total-is, total-over}
 use Rattle.totals.proofs.Tables.{number-itself, number-over}
 use Rattle.totals.proofs.numbers.number_of.Goals as goal
 
@@ -12,4 +11,5 @@ returns-then-numbers-q-ne0 c =
 
 pub returns : goal.returns
 returns c =
-    c.number.ensures ∙ ap total_of (sym (number-itself c.args.numbers.now c.args.q (omega arith)))
+    let n = number-itself c.args.numbers.now c.args.q c.if-numbers-q-ne0.false in
+    total-is (sym n) (rw n (omega arith))

@@ -11,5 +11,5 @@ returns-in_default c =
 
 pub returns : goal.returns
 returns c =
-    put_entries c.args.numbers.now c.args.q c.in-Number.value 0 c.requires.numbers_len
-    c.requires.q_lt_byte_values (sym (ap worth c.in-Number.is))
+    put_entries c.args.numbers.now c.args.q c.in-Some.value 0 c.requires.numbers_len
+    c.requires.q_lt_byte_values (sym (ap worth c.in-Some.is))

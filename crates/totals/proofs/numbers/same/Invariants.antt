@@ -1,5 +1,5 @@
 -- `totals::numbers::same` meets its contract: the answer is that of the states left.
-use Prim.Native.Nat.{◌+◌, ◌-◌, ◌≤◌}
+use Prim.Native.Nat.{◌+◌, ◌≤◌}
 use Rattle.lists.specs.Positions.{up_from}
 use Rattle.lists.specs.Tests.{every}
 use Rattle.lists.proofs.Loops.{EveryFrom}

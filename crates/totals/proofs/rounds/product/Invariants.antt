@@ -1,6 +1,5 @@
 -- `totals::rounds::product` meets its contract: the number is the product over the arguments before `k`.
 use mathlib.Core.Path.{◌≡◌}
-use Prim.Native.Nat.{◌-◌}
 use Rattle.table.specs.Layout.{arity_of}
 use Rattle.totals.specs.Numbers.{number_in}
 use Rattle.totals.proofs.Sums.{ProductTo}

@@ -1,5 +1,5 @@
 -- `totals::rounds::round` meets its contract: the sums are those over the transitions before `i`.
-use Prim.Native.Nat.{◌-◌, ◌≤◌}
+use Prim.Native.Nat.{◌≤◌}
 use Rattle.table.specs.Layout.{transitions_in}
 use Rattle.totals.specs.Numbers.{Sums, number_in}
 use Rattle.totals.proofs.rounds.round.Given as goal

@@ -1,12 +1,9 @@
 -- `totals::search::link` meets its contract: every link stays within the table.
 use mathlib.Core.Path.{◌≡◌}
-use Prim.Native.Nat.{◌-◌, ◌≤◌, ◌+◌}
+use Prim.Native.Nat.{◌+◌}
 use lib.ListN.{length}
 use Rattle.format.specs.Format.{byte_values, max_transitions}
 use Rattle.totals.proofs.search.link.Given as goal
 
 abbrev pub invariant-loop-i : goal.invariant-loop-i
-invariant-loop-i l = (l.i ≤ l.count) × (length l.links ≡ byte_values + max_transitions)
-
-abbrev pub decreases-loop-i : goal.decreases-loop-i
-decreases-loop-i l = l.count - l.i
+invariant-loop-i l = length l.links ≡ byte_values + max_transitions

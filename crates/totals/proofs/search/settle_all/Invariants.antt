@@ -1,6 +1,6 @@
 -- `totals::search::settle_all` meets its contract: every state stays within the table.
 use mathlib.Core.Path.{◌≡◌}
-use Prim.Native.Nat.{◌+◌, ◌-◌, ◌≤◌}
+use Prim.Native.Nat.{◌≤◌}
 use lib.ListN.{length}
 use Rattle.totals.specs.Numbers.{slots}
 use Rattle.totals.proofs.search.settle_all.Given as goal

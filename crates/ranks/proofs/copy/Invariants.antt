@@ -1,9 +1,0 @@
--- `ranks::copy` meets its contract: the first `i` bytes are copied.
-use Prim.Native.Nat.{◌-◌}
-use lib.ListN.{get_or}
-use Rattle.format.specs.Format.{max_listing}
-use Rattle.lists.proofs.Filling.{FilledTo}
-use Rattle.ranks.proofs.copy.Given as goal
-
-abbrev pub invariant-loop-i : goal.invariant-loop-i
-invariant-loop-i l = FilledTo max_listing (λ j. get_or l.from j 0) l.to l.i
