@@ -121,7 +121,7 @@ module _ {A : Automaton} {w : ℕ → ℕ} {n k : ℕ} where
     pub state-more : n < q → ⊥
     state-more h = omega (arith, x.below, ap (sum_accepting A w) (up_from-none q (1 + n) (omega arith)))
 
-    module _ (more : q ≤ n) {b : Bool} (class : accepting A q ≡ b) {h : Option ℕ} (e : h ≡ total_of (cond b (w q) 0)) where
+    module _ (more : q ≤ n) where
       abbrev mine : ℕ
       mine = trees_of_state A w q
 
@@ -135,34 +135,39 @@ module _ {A : Automaton} {w : ℕ → ℕ} {n k : ℕ} where
       state-sum : l < mine + sum_accepting A w (later_states n (q + 1))
       state-sum = omega (arith, x.below, ap (sum_accepting A w) next-state)
 
-      numbered : h ≡ total_of mine
-      numbered = e ∙ ap (λ (b : Bool). total_of (cond b (w q) 0)) (sym class)
+      -- the state is accepting, and v is its number
+      module _ (yes : accepting A q ≡ true) {v : ℕ} (e : v ≡ w q) where
+        its-own : mine ≡ v
+        its-own = rw yes (sym e)
 
-      chosen-state : l < mine → StateChosen A w n k (record { place = q; left = l })
-      chosen-state less = record {
-        some = x.some;
-        state = more;
-        chosen = state-step ∙ rw (lt-ltb l mine less);
-        below = inside (accepting A q) less;
-      }
-        where
-          inside : (b : Bool) → l < cond b (w q) 0 → l < w q
-          inside true p = p
-          inside false p = absurd (omega arith)
+        pub state-found : l < v → StateChosen A w n k (record { place = q; left = l })
+        state-found less =
+            let inside : l < mine = omega (arith, its-own) in
+            record {
+              some = x.some;
+              state = more;
+              chosen = state-step ∙ rw (lt-ltb l mine inside);
+              below = omega (arith, e);
+            }
 
-      pub state-found : {v : ℕ} → h ≡ Some v → l < v → StateChosen A w n k (record { place = q; left = l })
-      state-found d less = chosen-state (omega (arith, total-some mine (sym d ∙ numbered)))
+        pub state-next : v ≤ l → StateFrom A w n k (l - v) (q + 1)
+        state-next less =
+            rw (sym its-own) (record {
+              some = omega arith;
+              within = omega arith;
+              fits = omega (arith, x.fits);
+              same = state-step ∙ rw (le-ltb l mine (omega (arith, its-own)));
+              below = omega (arith, state-sum, its-own);
+            })
 
-      pub state-over : h ≡ None → StateChosen A w n k (record { place = q; left = l })
-      state-over d = chosen-state (omega (arith, x.fits, total-none mine (sym d ∙ numbered)))
-
-      pub state-next : {v : ℕ} → h ≡ Some v → v ≤ l → StateFrom A w n k (l - v) (q + 1)
-      state-next {v} d less =
-          let same = total-some mine (sym d ∙ numbered) in
-          rw same (record {
+      pub state-skip : accepting A q ≡ false → StateFrom A w n k l (q + 1)
+      state-skip other =
+          let none : mine ≡ 0 = rw other in
+          let z : l - mine ≡ l = omega arith in
+          record {
             some = omega arith;
             within = omega arith;
-            fits = omega (arith, x.fits);
-            same = state-step ∙ rw (le-ltb l mine (omega arith));
+            fits = x.fits;
+            same = state-step ∙ rw (le-ltb l mine (omega arith), z);
             below = omega (arith, state-sum);
-          })
+          }

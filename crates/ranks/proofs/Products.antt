@@ -2,6 +2,7 @@
 use mathlib.Core.List.{List, [], ◌∷◌, map}
 use mathlib.Core.Path.{◌∙◌, ◌≡◌, ap, sym}
 use Prim.Native.Nat.{◌*◌, ◌+◌, ◌-◌, ◌<◌, ◌≤◌, suc, ℕ}
+use native.Mathlib.Nat.{mul_comm}
 use native.Mathlib.Omega.{arith}
 use lib.ListN.{drop, drop_of_length-le, get_or, length}
 use lib.Seq.{drop-cons}
@@ -11,7 +12,7 @@ use Rattle.automata.specs.Totals.{product_over}
 use Rattle.lists.specs.Positions.{up_from}
 use Rattle.lists.proofs.Loops.{up_from-next, up_from-none}
 use Rattle.totals.specs.Limited.{total_of, worth}
-use Rattle.totals.proofs.Limits.{total-is, total-times}
+use Rattle.totals.proofs.Limits.{total-is, total-times-by}
 
 -- r is the product over some states
 pub record Product (w : ℕ → ℕ) (qs : List ℕ) (r : Option ℕ) : Type 0 where
@@ -22,10 +23,13 @@ module _ {w : ℕ → ℕ} where
   none e = record { is = total-is (ap (product_over w) (sym e)) (rw e (omega arith)) }
 
   -- t is the number of the state before them
-  more : {qs ps : List ℕ} {q : ℕ} {r r' t : Option ℕ} → Product w qs r → ps ≡ q ∷ qs → t ≡ total_of (w q) →
-      r' ≡ total_of (worth t * worth r) → Product w ps r'
-  more {qs} {ps} {q} x e f g = record {
-    is = g ∙ total-times (w q) (product_over w qs) f x.is ∙ ap (λ (l : List ℕ). total_of (product_over w l)) (sym e);
+  more : {qs ps : List ℕ} {q t : ℕ} {r r' : Option ℕ} → Product w qs r → ps ≡ q ∷ qs → t ≡ w q →
+      r' ≡ total_of (t * worth r) → Product w ps r'
+  more {qs} {ps} {q} {t} {r} x e f g = record {
+    is =
+        g ∙ ap total_of (mul_comm t (worth r)) ∙ total-times-by (product_over w qs) t x.is
+        ∙ ap total_of (mul_comm (product_over w qs) t) ∙ ap (λ (n : ℕ). total_of (n * product_over w qs)) f
+        ∙ ap (λ (l : List ℕ). total_of (product_over w l)) (sym e);
   }
 
 -- ---- states by index, from k up to n
@@ -39,16 +43,16 @@ module _ {w f : ℕ → ℕ} {n : ℕ} where
   from_start {k} e = record { within = omega arith; product = none (ap (map f) (up_from-none k n (omega arith))) }
 
   -- t is the number of the state before place k
-  pub from_next : {k p : ℕ} {r r' t : Option ℕ} → ProductFrom w f n k r → 0 < k → p ≡ f (k - 1) → t ≡ total_of (w p) →
-      r' ≡ total_of (worth t * worth r) → ProductFrom w f n (k - 1) r'
-  from_next {k} x l d e g =
+  pub from_next : {k t : ℕ} {r r' : Option ℕ} → ProductFrom w f n k r → 0 < k → t ≡ w (f (k - 1)) →
+      r' ≡ total_of (t * worth r) → ProductFrom w f n (k - 1) r'
+  from_next {k} x l e g =
       let z : k - 1 + 1 ≡ k = omega arith in
       record {
         within = omega (arith, x.within);
         product =
             more x.product (ap (map f) (up_from-next (k - 1) n (omega (arith, x.within)))
             ∙ ap (λ (j : ℕ). f (k - 1) ∷ map f (up_from j (n - j))) z)
-            (e ∙ ap (λ (q : ℕ). total_of (w q)) d) g;
+            e g;
       }
 
   pub from_end : {k from : ℕ} {r : Option ℕ} → ProductFrom w f n k r → k ≡ from →
@@ -66,16 +70,16 @@ module _ {w : ℕ → ℕ} {stack : List ℕ} where
   on-start {k} e = record { within = omega arith; product = none (drop_of_length-le stack {i = k} (omega arith)) }
 
   -- t is the number of the state below index k
-  pub on-next : {k p : ℕ} {r r' t : Option ℕ} → ProductOn w stack k r → 0 < k → p ≡ get_or stack (k - 1) 0 →
-      t ≡ total_of (w p) → r' ≡ total_of (worth t * worth r) → ProductOn w stack (k - 1) r'
-  on-next {k} x l d e g =
+  pub on-next : {k t : ℕ} {r r' : Option ℕ} → ProductOn w stack k r → 0 < k → t ≡ w (get_or stack (k - 1) 0) →
+      r' ≡ total_of (t * worth r) → ProductOn w stack (k - 1) r'
+  on-next {k} x l e g =
       let z : suc (k - 1) ≡ k = omega arith in
       record {
         within = omega (arith, x.within);
         product =
             more x.product (drop-cons stack (k - 1) 0 (omega (arith, x.within))
             ∙ ap (λ (j : ℕ). get_or stack (k - 1) 0 ∷ drop j stack) z)
-            (e ∙ ap (λ (q : ℕ). total_of (w q)) d) g;
+            e g;
       }
 
   pub on-end : {k from : ℕ} {r : Option ℕ} → ProductOn w stack k r → k ≡ from →

@@ -49,7 +49,7 @@ module _ (b : List ℕ) where
   unfolding decode
   decoded-transitions = refl
 
-module _ (b : List ℕ) (passed : table_refusal b ≡ 0) {m : List ℕ} (x : NumbersOf (decode b) m)
+module _ (b : List ℕ) (passed : table_refusal b ≡ 0) {m : List (Option ℕ)} (x : NumbersOf (decode b) m)
     (small : total (decode b) < number_limit) where
   abbrev A : Automaton
   A = decode b

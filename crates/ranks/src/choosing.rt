@@ -11,7 +11,7 @@ ghost use Rattle.ranks.specs.Steps.{StateChosen, TransitionChosen};
 
 use crate::weights::trees_into;
 use format::TRANSITION_BYTES;
-use totals::{SLOTS, accepting_number};
+use totals::Numbers;
 
 // A place, and the number that is left within it.
 #[derive(Drop)]
@@ -21,7 +21,7 @@ pub struct Choice {
 }
 
 // The accepting state, of 1 to n, that has the tree of a number. `classes` has the class of state q at byte q.
-pub fn choose_state(classes: &[u8], n: usize, number: u64, numbers: &[u64; SLOTS]) -> Choice
+pub fn choose_state(classes: &[u8], n: usize, number: u64, numbers: &Numbers) -> Choice
     requires n_in_bounds { n < length classes.now }
     requires n_lt_byte_values { n < byte_values }
     requires number_bound { number < sum_accepting (viewed classes.now [] n 0) (number_in numbers.now) (up_from 1 n) }
@@ -30,9 +30,11 @@ pub fn choose_state(classes: &[u8], n: usize, number: u64, numbers: &[u64; SLOTS
 {
     let mut left = number;
     for q in 1..n + 1 {
-        match accepting_number(classes, q, numbers) {
-            Some(here) if here <= left => left -= here,
-            _ => return Choice { place: q, left },
+        if classes[q] == 1 {
+            match numbers[q] {
+                Some(here) if here <= left => left -= here,
+                _ => return Choice { place: q, left },
+            }
         }
     }
     unreachable!()
@@ -44,7 +46,7 @@ pub fn choose_transition(
     count: usize,
     q: usize,
     number: u64,
-    numbers: &[u64; SLOTS],
+    numbers: &Numbers,
 ) -> Choice
     requires holds_transitions { HoldsTransitions transitions.now count }
     requires number_bound { number < sum_into (number_in numbers.now) q (transitions_in transitions.now count) }

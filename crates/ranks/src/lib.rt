@@ -24,12 +24,12 @@ use choosing::choose_state;
 use fields::transition_count;
 use format::{HEAD_BYTES, MAX_LISTING, MAX_NODES, wide};
 use ranking::rank_within;
-use totals::{SLOTS, plus, sum_accepting};
+use totals::{Numbers, plus, sum_accepting};
 use unfolding::list_tree;
 
 // The number of a tree that the table accepts. `reached` has the states of the tree's nodes, `numbers` the numbers of
 // the trees of the table's states.
-pub fn rank(tree: &[u8], reached: &[u8; MAX_NODES], table: &[u8], numbers: &[u64; SLOTS]) -> u64
+pub fn rank(tree: &[u8], reached: &[u8; MAX_NODES], table: &[u8], numbers: &Numbers) -> u64
     requires tree_value { listing_refusal tree.now ≡ 0 }
     requires table_value { table_refusal table.now ≡ 0 }
     requires holds_states { HoldsStates (decode table.now) (read_tree tree.now) reached.now }
@@ -47,7 +47,7 @@ pub fn rank(tree: &[u8], reached: &[u8; MAX_NODES], table: &[u8], numbers: &[u64
 
 // Writes the listing of the tree of a number, and zeros after it, if the tree has at most 48 nodes; else nothing.
 // Returns whether it has.
-pub fn unrank(number: u64, table: &[u8], numbers: &[u64; SLOTS], listing: &mut [u8]) -> bool
+pub fn unrank(number: u64, table: &[u8], numbers: &Numbers, listing: &mut [u8]) -> bool
     requires table_value { table_refusal table.now ≡ 0 }
     requires numbers_of { NumbersOf (decode table.now) numbers.now }
     requires table_bound { total (decode table.now) < number_limit }

@@ -16,7 +16,7 @@ use crate::weights::{product_of_stack, trees_into};
 use fields::{arg_of, arity_of, label_of};
 use format::{MAX_NODES, NODE_BYTES, TRANSITION_BYTES, wide};
 use listing::{children_at, label_at};
-use totals::{SLOTS, plus, times};
+use totals::{Numbers, plus, times};
 
 // Whether the transition that starts at a byte has this label and the states on top of a stack as its arguments.
 fn is_own(
@@ -58,7 +58,7 @@ fn sum_before(
     top: usize,
     arity: usize,
     q: usize,
-    numbers: &[u64; SLOTS],
+    numbers: &Numbers,
 ) -> Option<u64>
     requires holds_transitions { HoldsTransitions transitions.now count }
     requires stack_len { length stack.now ≡ max_nodes }
@@ -84,7 +84,7 @@ pub fn rank_within(
     reached: &[u8; MAX_NODES],
     transitions: &[u8],
     count: usize,
-    numbers: &[u64; SLOTS],
+    numbers: &Numbers,
 ) -> Option<u64>
     requires tree_value { listing_refusal tree.now ≡ 0 }
     requires holds_transitions { HoldsTransitions transitions.now count }

@@ -19,7 +19,7 @@ use fields::{arg_of, arity_of, label_of};
 use format::{
     LABEL_BYTES, MAX_LISTING, MAX_NODES, NODE_BYTES, TRANSITION_BYTES, label_high, label_low, wide,
 };
-use totals::SLOTS;
+use totals::Numbers;
 
 // Writes node `node` of a listing.
 fn put_node(bytes: &mut [u8; MAX_LISTING], node: usize, label: u16, arity: usize)
@@ -41,7 +41,7 @@ fn put_children(
     transitions: &[u8],
     at: usize,
     number: u64,
-    numbers: &[u64; SLOTS],
+    numbers: &Numbers,
     states: &mut [u8; MAX_NODES],
     lefts: &mut [u64; MAX_NODES],
     top: usize,
@@ -73,7 +73,7 @@ pub fn list_tree(
     transitions: &[u8],
     count: usize,
     n: usize,
-    numbers: &[u64; SLOTS],
+    numbers: &Numbers,
     bytes: &mut [u8; MAX_LISTING],
 ) -> bool
     requires holds_transitions_over { HoldsTransitionsOver transitions.now count n }

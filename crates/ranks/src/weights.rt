@@ -10,10 +10,10 @@ ghost use Rattle.totals.specs.Numbers.{number_in};
 
 use fields::{arg_of, out_of};
 use format::MAX_NODES;
-use totals::{SLOTS, number_of, product, times};
+use totals::{Numbers, product, times};
 
 // The number of trees at the transition that starts at a byte, if it leads to state q; else none.
-pub fn trees_into(transitions: &[u8], at: usize, q: usize, numbers: &[u64; SLOTS]) -> Option<u64>
+pub fn trees_into(transitions: &[u8], at: usize, q: usize, numbers: &Numbers) -> Option<u64>
     requires { Readable transitions.now at }
     ensures { result ≡ total_of (cond (eqb (out_of transitions.now at) q)
         (product_over (number_in numbers.now) (transition_at transitions.now at).args) 0) }
@@ -31,7 +31,7 @@ pub fn product_of_args(
     at: usize,
     from: usize,
     end: usize,
-    numbers: &[u64; SLOTS],
+    numbers: &Numbers,
 ) -> Option<u64>
     requires readable { Readable transitions.now at }
     requires from_le_end { from ≤ end }
@@ -41,7 +41,7 @@ pub fn product_of_args(
 {
     let mut number = Some(1);
     for k in (from..end).rev() {
-        number = times(number_of(numbers, arg_of(transitions, at, k)), number);
+        number = times(numbers[arg_of(transitions, at, k)], number);
     }
     number
 }
@@ -55,7 +55,7 @@ fn state(x: u8) -> usize
 }
 
 // The number of rows of trees over the states that stand on a stack from an index on.
-pub fn product_of_stack(stack: &[u8; MAX_NODES], from: usize, numbers: &[u64; SLOTS]) -> Option<u64>
+pub fn product_of_stack(stack: &[u8; MAX_NODES], from: usize, numbers: &Numbers) -> Option<u64>
     requires stack_len { length stack.now ≡ max_nodes }
     requires from_le_max_nodes { from ≤ max_nodes }
     ensures { result ≡ total_of (product_over (number_in numbers.now)
@@ -63,7 +63,7 @@ pub fn product_of_stack(stack: &[u8; MAX_NODES], from: usize, numbers: &[u64; SL
 {
     let mut number = Some(1);
     for k in (from..MAX_NODES).rev() {
-        number = times(number_of(numbers, state(stack[k])), number);
+        number = times(numbers[state(stack[k])], number);
     }
     number
 }

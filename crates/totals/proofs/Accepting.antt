@@ -1,5 +1,5 @@
 -- Sums over the accepting states, one state more at a time, and what they are up to the limit.
-use mathlib.Core.Bool.{Bool, cond, true}
+use mathlib.Core.Bool.{Bool, cond, false, true}
 use mathlib.Core.List.{List, [], ◌∷◌}
 use mathlib.Core.Path.{◌∙◌, ◌≡◌, ap, ap₂, refl, sym}
 use Prim.Native.Nat.{◌+◌, ◌-◌, ◌≤◌, min, suc, zero, ℕ}
@@ -20,7 +20,7 @@ use Rattle.table.specs.Layout.{transitions_in}
 use Rattle.totals.specs.Limited.{limit, total_of, worth}
 use Rattle.totals.specs.Numbers.{NumbersOf, number_in}
 use Rattle.totals.proofs.Depths.{round-limited}
-use Rattle.totals.proofs.Limits.{total-is, total-plus, total-same}
+use Rattle.totals.proofs.Limits.{total-is, total-plus-by, total-same}
 
 -- ---- one state more
 
@@ -42,20 +42,25 @@ module _ {A : Automaton} {w : ℕ → ℕ} where
   pub accepted-start : AcceptedTo A w 1 (Some 0)
   accepted-start = record { so_far = total-is refl (omega arith) }
 
-  -- t is the number of state q if it is accepting
-  pub accepted-next : {q : ℕ} {b : Bool} {r r' t : Option ℕ} → AcceptedTo A w q r → 1 ≤ q → accepting A q ≡ b →
-      t ≡ total_of (cond b (w q) 0) → r' ≡ total_of (worth r + worth t) → AcceptedTo A w (q + 1) r'
-  accepted-next {q} {b} x h e f g = record {
-    so_far =
-        g ∙ total-plus (sum_accepting A w (up_from 1 (q - 1))) (cond b (w q) 0) x.so_far f
-        ∙ ap total_of (sym longer);
-  }
-    where
-      longer : sum_accepting A w (up_from 1 (q + 1 - 1)) ≡ sum_accepting A w (up_from 1 (q - 1)) + cond b (w q) 0
-      longer =
-          let y : q + 1 - 1 ≡ suc (q - 1) = omega arith in
-          let z : 1 + (q - 1) ≡ q = omega arith in
-          ap (λ (k : ℕ). sum_accepting A w (up_from 1 k)) y ∙ accepting-last A w (q - 1) 1 ∙ rw (z, e)
+  module _ {q : ℕ} {r : Option ℕ} (x : AcceptedTo A w q r) (h : 1 ≤ q) where
+    longer : {b : Bool} → accepting A q ≡ b →
+        sum_accepting A w (up_from 1 (q + 1 - 1)) ≡ sum_accepting A w (up_from 1 (q - 1)) + cond b (w q) 0
+    longer e =
+        let y : q + 1 - 1 ≡ suc (q - 1) = omega arith in
+        let z : 1 + (q - 1) ≡ q = omega arith in
+        ap (λ (k : ℕ). sum_accepting A w (up_from 1 k)) y ∙ accepting-last A w (q - 1) 1 ∙ rw (z, e)
+
+    -- t is the number of state q
+    pub accepted-next : {t : ℕ} {r' : Option ℕ} → accepting A q ≡ true → t ≡ w q → r' ≡ total_of (worth r + t) →
+        AcceptedTo A w (q + 1) r'
+    accepted-next {t} e f g = record {
+      so_far =
+          g ∙ ap (λ (n : ℕ). total_of (worth r + n)) f
+          ∙ total-plus-by (sum_accepting A w (up_from 1 (q - 1))) (w q) x.so_far ∙ ap total_of (sym (longer e));
+    }
+
+    pub accepted-same : accepting A q ≡ false → AcceptedTo A w (q + 1) r
+    accepted-same e = record { so_far = x.so_far ∙ ap total_of (omega (arith, longer e)) }
 
   pub accepted-end : {q n : ℕ} {r : Option ℕ} → AcceptedTo A w q r → q ≡ suc n →
       r ≡ total_of (sum_accepting A w (up_from 1 n))
@@ -78,14 +83,14 @@ module _ (cl s : List ℕ) (n c : ℕ) (over : HoldsTransitionsOver s c n) (rise
   A = viewed cl s n c
 
   -- the numbers of trees follow the law, up to the limit
-  numbers-lawful : {m : List ℕ} → NumbersOf A m → (q : ℕ) → IsState A q →
+  numbers-lawful : {m : List (Option ℕ)} → NumbersOf A m → (q : ℕ) → IsState A q →
       number_in m q ≡ min limit (sum_into (number_in m) q A.transitions)
   numbers-lawful {m} x q (h, l) =
       let ranged = viewed-ranged cl s n c over in
       x.each q h l ∙ ap (min limit) (acyclic-sum A ranged rises ac q (h, l))
       ∙ sym (round-limited A ranged (trees_of A) (number_in m) (λ p (a, b). x.each p a b) q)
 
-  pub viewed-total : {m : List ℕ} {r : Option ℕ} → NumbersOf A m →
+  pub viewed-total : {m : List (Option ℕ)} {r : Option ℕ} → NumbersOf A m →
       r ≡ total_of (sum_accepting (viewed cl [] n 0) (number_in m) (up_from 1 n)) → r ≡ total_of (total A)
   viewed-total {m} x e =
       e ∙ ap total_of (accepting-classes (viewed cl [] n 0) A (viewed-classes cl s n c) (number_in m) (up_from 1 n))

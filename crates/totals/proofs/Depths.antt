@@ -6,6 +6,8 @@ use Prim.Native.Nat.{◌+◌, ◌<◌, ◌≤◌, min, suc, zero, ℕ}
 use native.Mathlib.Numerals.{add-one}
 use native.Mathlib.Omega.{arith}
 use lib.ListN.{replicate}
+use Rattle.std.specs.declared.option.Option.{Option}
+use Rattle.std.specs.declared.option.Option.TheVariants.{Some}
 use Rattle.automata.specs.Acyclic.{acyclic}
 use Rattle.automata.specs.Automaton.{Automaton, IsState, states}
 use Rattle.automata.specs.Order.{rising}
@@ -24,16 +26,16 @@ use Rattle.lists.specs.Tests.{every}
 use Rattle.lists.proofs.Intervals.{every-at, get_d-zeros}
 use Rattle.table.specs.Layout.{transitions_in}
 use Rattle.totals.specs.Limited.{limit}
-use Rattle.totals.specs.Numbers.{NumbersOf, Sums, number_in, same_in, slots}
+use Rattle.totals.specs.Numbers.{NumbersOf, Sums, number_in, same_in}
 use Rattle.totals.proofs.Tables.{number-none, same_numbers}
 
 -- the numbers are those of the trees that have at most d nodes on the longest way down, up to the limit
-pub record Reached (A : Automaton) (d : ℕ) (m : List ℕ) : Type 0 where
+pub record Reached (A : Automaton) (d : ℕ) (m : List (Option ℕ)) : Type 0 where
   pub each : (q : ℕ) → 1 ≤ q → q ≤ states A → number_in m q ≡ min limit (number_at (trees_within A d) q)
 
-pub reached-start : (A : Automaton) → Reached A 0 (replicate slots 0)
+pub reached-start : (A : Automaton) → states A < byte_values → Reached A 0 (replicate byte_values (Some 0))
 unfolding trees_within
-reached-start A = record { each = λ q h l. number-none q ∙ none q }
+reached-start A few = record { each = λ q h l. number-none q (omega arith) ∙ none q }
   where
     none : (q : ℕ) → 0 ≡ min limit (number_at (replicate (states A) 0) q)
     none zero = refl
@@ -53,7 +55,7 @@ module _ (cl s : List ℕ) (n c : ℕ) (over : HoldsTransitionsOver s c n) (few 
   A = viewed cl s n c
 
   -- one round more
-  pub reached-next : {d : ℕ} {m m' : List ℕ} → Reached A d m → Sums (number_in m) (transitions_in s c) m' →
+  pub reached-next : {d : ℕ} {m m' : List (Option ℕ)} → Reached A d m → Sums (number_in m) (transitions_in s c) m' →
       Reached A (d + 1) m'
   reached-next {d} {m} {m'} x y = subst (λ (k : ℕ). Reached A k m') (sym (add-one d)) deeper
     where
@@ -66,7 +68,7 @@ module _ (cl s : List ℕ) (n c : ℕ) (over : HoldsTransitionsOver s c n) (few 
             ∙ ap (min limit) (sym (trees_within-suc A d q (h, l)));
       }
 
-  pub reached-end : {d : ℕ} {m : List ℕ} → Reached A d m → d ≡ n → NumbersOf A m
+  pub reached-end : {d : ℕ} {m : List (Option ℕ)} → Reached A d m → d ≡ n → NumbersOf A m
   unfolding trees_of
   reached-end {d} {m} x e = record {
     each = λ q h l.
@@ -75,7 +77,7 @@ module _ (cl s : List ℕ) (n c : ℕ) (over : HoldsTransitionsOver s c n) (few 
   }
 
   -- numbers that a round leaves as they are
-  pub lawful-numbers : rising (transitions_in s c) ≡ true → acyclic A ≡ true → {m m' : List ℕ} →
+  pub lawful-numbers : rising (transitions_in s c) ≡ true → acyclic A ≡ true → {m m' : List (Option ℕ)} →
       Sums (number_in m) (transitions_in s c) m' → every (same_in m m') (up_from 1 n) ≡ true → NumbersOf A m
   lawful-numbers rises ac {m} {m'} y e = record {
     each = λ q h l. capped-lawful A (viewed-ranged cl s n c over) rises ac limit (number_in m) law q (h, l);

@@ -75,3 +75,14 @@ total-times x y {s} {t} e f =
     total-same (worth s * worth t) (x * y)
     (ap₂ (λ (u v : ℕ). min limit (u * v)) (ap worth e ∙ worth-total x) (ap worth f ∙ worth-total y)
     ∙ sym (min-product limit x y))
+
+-- the same with a second number as it is
+pub total-plus-by : (x y : ℕ) {s : Option ℕ} → s ≡ total_of x → total_of (worth s + y) ≡ total_of (x + y)
+total-plus-by x y {s} e = total-same (worth s + y) (x + y) (omega (arith, ap worth e, worth-total x))
+
+pub total-times-by : (x y : ℕ) {s : Option ℕ} → s ≡ total_of x → total_of (worth s * y) ≡ total_of (x * y)
+total-times-by x y {s} e =
+    let i : min limit (min limit x) ≡ min limit x = omega arith in
+    total-same (worth s * y) (x * y)
+    (ap (λ (u : ℕ). min limit (u * y)) (ap worth e ∙ worth-total x) ∙ min-product limit (min limit x) y
+    ∙ ap (λ (u : ℕ). min limit (u * min limit y)) i ∙ sym (min-product limit x y))

@@ -49,7 +49,7 @@ module _ (b : List ℕ) {n k : ℕ} (count : k ≡ transition_count b) (states :
       )
 
 -- the sum over the accepting states of a table is its total
-pub passed-total : (b : List ℕ) {n : ℕ} {m : List ℕ} {r : Option ℕ} → table_refusal b ≡ 0 → n ≡ state_count b →
+pub passed-total : (b : List ℕ) {n : ℕ} {m : List (Option ℕ)} {r : Option ℕ} → table_refusal b ≡ 0 → n ≡ state_count b →
     NumbersOf (decode b) m → r ≡ total_of (sum_accepting (viewed b [] n 0) (number_in m) (up_from 1 n)) →
     r ≡ total_of (total (decode b))
 passed-total b {n} {m} {r} passed states x e =

@@ -19,8 +19,8 @@ use Rattle.lists.specs.Positions.{up_from}
 use Rattle.lists.proofs.Intervals.{tabulated-suc}
 use Rattle.table.specs.Layout.{arg_of, arity_of, nth_transition, transition_at, transitions_in}
 use Rattle.totals.specs.Limited.{limit, total_of, worth}
-use Rattle.totals.specs.Numbers.{Added, Put, Sums, number_in, slots}
-use Rattle.totals.proofs.Limits.{total-is, total-times, worth-total}
+use Rattle.totals.specs.Numbers.{Added, Put, Sums, number_in}
+use Rattle.totals.proofs.Limits.{total-is, total-times-by, worth-total}
 use Rattle.totals.proofs.Tables.{number-none}
 
 -- ---- the product over the arguments of a transition
@@ -40,13 +40,13 @@ module _ {w : ℕ → ℕ} {s : List ℕ} {at : ℕ} where
   product-start = record { within = omega arith; so_far = total-is refl (omega arith) }
 
   -- t is the number of argument k
-  pub product-next : {k q : ℕ} {r r' t : Option ℕ} → ProductTo w s at k r → k < arity_of s at → q ≡ arg_of s at k →
-      t ≡ total_of (w q) → r' ≡ total_of (worth r * worth t) → ProductTo w s at (k + 1) r'
-  product-next {k} {q} {r} {r'} {t} x h e f g = record {
+  pub product-next : {k t : ℕ} {r r' : Option ℕ} → ProductTo w s at k r → k < arity_of s at → t ≡ w (arg_of s at k) →
+      r' ≡ total_of (worth r * t) → ProductTo w s at (k + 1) r'
+  product-next {k} {t} {r} {r'} x h e g = record {
     within = omega arith;
     so_far =
-        g ∙ total-times (product_over w (map (arg_of s at) (up_from 0 k))) (w q) x.so_far f
-        ∙ ap (λ (p : ℕ). total_of (product_over w (map (arg_of s at) (up_from 0 k)) * w p)) e
+        g ∙ total-times-by (product_over w (map (arg_of s at) (up_from 0 k))) t x.so_far
+        ∙ ap (λ (y : ℕ). total_of (product_over w (map (arg_of s at) (up_from 0 k)) * y)) e
         ∙ ap total_of (sym (product-last w (map (arg_of s at) (up_from 0 k)) (arg_of s at k)))
         ∙ ap (λ (qs : List ℕ). total_of (product_over w qs)) (sym longer);
   }
@@ -71,21 +71,21 @@ sum-last : (w : ℕ → ℕ) (q : ℕ) (τs : List Transition) (τ : Transition)
 sum-last w q [] τ = omega arith
 sum-last w q (σ ∷ τs) τ = omega (arith, sum-last w q τs τ)
 
-pub sums-start : {w : ℕ → ℕ} (s : List ℕ) → Sums w (transitions_in s 0) (replicate slots 0)
+pub sums-start : {w : ℕ → ℕ} (s : List ℕ) → Sums w (transitions_in s 0) (replicate byte_values (Some 0))
 unfolding transitions_in
 sums-start {w} s = record {
-  size = length-replicate {A = ℕ} slots 0;
-  each = λ q h. number-none q;
+  size = length-replicate {A = Option ℕ} byte_values (Some 0);
+  each = λ q h. number-none q h;
 }
 
 -- t is the product x that is added to the sum of state o
-pub put-product : (x : ℕ) {o q : ℕ} {t : Option ℕ} {m m' : List ℕ} → Added o (worth t) m m' →
+pub put-product : (x : ℕ) {o q : ℕ} {t : Option ℕ} {m m' : List (Option ℕ)} → Added o (worth t) m m' →
     o ≡ q → t ≡ total_of x → Added q x m m'
 put-product x {o} {q} {t} {m} {m'} p e f =
     subst (λ (o : ℕ). Added o x m m') e
     (subst (λ (v : ℕ). Put o v m m') (omega (arith, ap worth f, worth-total x)) p)
 
-sums-more : {w : ℕ → ℕ} {τs : List Transition} {m m' : List ℕ} (τ : Transition) → Sums w τs m →
+sums-more : {w : ℕ → ℕ} {τs : List Transition} {m m' : List (Option ℕ)} (τ : Transition) → Sums w τs m →
     Added τ.out (product_over w τ.args) m m' → Sums w (τs ++ (τ ∷ [])) m'
 sums-more {w} {τs} {m} {m'} τ x p = record { size = p.size; each = λ q l. go q l (eqb τ.out q) refl }
   where
@@ -98,16 +98,16 @@ sums-more {w} {τs} {m} {m'} τ x p = record { size = p.size; each = λ q l. go 
         ap (number_in m') (sym d) ∙ p.here
         ∙ ap (λ (o : ℕ). min limit (number_in m o + product_over w τ.args)) d ∙ omega arith
     go q l false e =
-        p.elsewhere q l (λ d. eqb-false τ.out q e (sym d)) ∙ x.each q l
+        p.elsewhere q (λ d. eqb-false τ.out q e (sym d)) ∙ x.each q l
         ∙ ap (min limit) (sym (sum-last w q τs τ ∙ rw e (omega arith)))
 
 -- the product of transition i is added
-pub sums_next : (s : List ℕ) (i : ℕ) {w : ℕ → ℕ} {m m' : List ℕ} → Sums w (transitions_in s i) m →
+pub sums_next : (s : List ℕ) (i : ℕ) {w : ℕ → ℕ} {m m' : List (Option ℕ)} → Sums w (transitions_in s i) m →
     Added (nth_transition s i).out (product_over w (nth_transition s i).args) m m' → Sums w (transitions_in s (i + 1)) m'
 sums_next s i {w} {m} {m'} x p =
     subst (λ (τs : List Transition). Sums w τs m')
     (sym (ap (transitions_in s) (add-one i) ∙ transitions_in-suc s i)) (sums-more (nth_transition s i) x p)
 
-pub sums-end : (s : List ℕ) (i n : ℕ) {w : ℕ → ℕ} {m : List ℕ} → Sums w (transitions_in s i) m → i ≡ n →
+pub sums-end : (s : List ℕ) (i n : ℕ) {w : ℕ → ℕ} {m : List (Option ℕ)} → Sums w (transitions_in s i) m → i ≡ n →
     Sums w (transitions_in s n) m
 sums-end s i n {w} {m} x e = subst (λ (n : ℕ). Sums w (transitions_in s n) m) e x

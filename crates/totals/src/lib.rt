@@ -7,7 +7,7 @@ mod numbers; // a number for each state
 mod rounds; // the numbers of all states, from those before
 mod search; // numbers that are likely to be right
 
-ghost use Rattle.std.specs.Prelude.{cond, true, List, [], ◌≡◌, ◌<◌, ◌≤◌, ℕ, length};
+ghost use Rattle.std.specs.Prelude.{true, List, [], ◌≡◌, ◌<◌, ◌≤◌, ℕ, length};
 ghost use Rattle.automata.specs.Acyclic.{acyclic};
 ghost use Rattle.automata.specs.Order.{rising};
 ghost use Rattle.automata.specs.Totals.{sum_accepting, total};
@@ -16,21 +16,21 @@ ghost use Rattle.fields.specs.View.{viewed};
 ghost use Rattle.format.specs.Format.{byte_values, max_transitions};
 ghost use Rattle.lists.specs.Positions.{up_from};
 ghost use Rattle.table.specs.Intake.{table_refusal};
-ghost use Rattle.table.specs.Layout.{class_at, decode, transitions_in};
+ghost use Rattle.table.specs.Layout.{decode, transitions_in};
 ghost use Rattle.totals.specs.Limited.{total_of};
 ghost use Rattle.totals.specs.Numbers.{NumbersOf, number_in};
 
 use fields::transition_count;
-use format::{HEAD_BYTES, wide};
+use format::{BYTE_VALUES, HEAD_BYTES, wide};
 pub use limited::{plus, times};
+pub use numbers::Numbers;
 use numbers::same;
-pub use numbers::{SLOTS, number_of};
 pub use rounds::product;
 use rounds::{round, rounds};
 use search::{LINKS, link, settle_all};
 
 // The numbers of the trees of the states 1 to n, if no state comes back to itself.
-fn numbers_of(transitions: &[u8], count: usize, n: usize) -> [u64; SLOTS]
+fn numbers_of(transitions: &[u8], count: usize, n: usize) -> Numbers
     requires holds_transitions_over { HoldsTransitionsOver transitions.now count n }
     requires count_value { rising (transitions_in transitions.now count) ≡ true }
     requires count_le_max_transitions { count ≤ max_transitions }
@@ -40,7 +40,7 @@ fn numbers_of(transitions: &[u8], count: usize, n: usize) -> [u64; SLOTS]
 {
     let mut links = [0u16; LINKS];
     link(transitions, count, &mut links);
-    let mut numbers = [0u64; SLOTS];
+    let mut numbers = [Some(0); BYTE_VALUES];
     for _ in 0..n {
         settle_all(transitions, count, n, &links, &mut numbers);
         let next = round(transitions, count, &numbers);
@@ -51,33 +51,23 @@ fn numbers_of(transitions: &[u8], count: usize, n: usize) -> [u64; SLOTS]
     rounds(transitions, count, n)
 }
 
-// The number of state q if it is accepting, else none. `classes` has the class of state q at byte q.
-pub fn accepting_number(classes: &[u8], q: usize, numbers: &[u64; SLOTS]) -> Option<u64>
-    requires q_in_bounds { q < length classes.now }
-    requires q_lt_byte_values { q < byte_values }
-    ensures { result ≡ total_of (cond (class_at classes.now q) (number_in numbers.now q) 0) }
-{
-    if classes[q] == 1 {
-        return number_of(numbers, q);
-    }
-    Some(0)
-}
-
-// The sum of the numbers of those of the states 1 to n that are accepting.
-pub fn sum_accepting(classes: &[u8], n: usize, numbers: &[u64; SLOTS]) -> Option<u64>
+// The sum of the numbers of those of the states 1 to n that are accepting. `classes` has the class of state q at byte q.
+pub fn sum_accepting(classes: &[u8], n: usize, numbers: &Numbers) -> Option<u64>
     requires n_in_bounds { n < length classes.now }
     requires n_lt_byte_values { n < byte_values }
     ensures { result ≡ total_of (sum_accepting (viewed classes.now [] n 0) (number_in numbers.now) (up_from 1 n)) }
 {
     let mut sum = Some(0);
     for q in 1..n + 1 {
-        sum = plus(sum, accepting_number(classes, q, numbers));
+        if classes[q] == 1 {
+            sum = plus(sum, numbers[q]);
+        }
     }
     sum
 }
 
 // The numbers of the trees of a table's states.
-pub fn state_numbers(table: &[u8]) -> [u64; SLOTS]
+pub fn state_numbers(table: &[u8]) -> Numbers
     requires { table_refusal table.now ≡ 0 }
     ensures { NumbersOf (decode table.now) result }
 {
@@ -87,7 +77,7 @@ pub fn state_numbers(table: &[u8]) -> [u64; SLOTS]
 }
 
 // The number of trees that a table accepts, from those of its states.
-pub fn total_of(table: &[u8], numbers: &[u64; SLOTS]) -> Option<u64>
+pub fn total_of(table: &[u8], numbers: &Numbers) -> Option<u64>
     requires table_value { table_refusal table.now ≡ 0 }
     requires numbers_of { NumbersOf (decode table.now) numbers.now }
     ensures { result ≡ total_of (total (decode table.now)) }

@@ -1,21 +1,21 @@
 // A round: the number of each state from its transitions and the numbers before. `transitions` has `count` transitions
 // over the states 1 to n.
-ghost use Rattle.std.specs.Prelude.{List, ◌≡◌, ◌<◌, ℕ, length};
+ghost use Rattle.std.specs.Prelude.{List, ◌≡◌, ◌<◌, ℕ};
 ghost use Rattle.automata.specs.Totals.{product_over};
 ghost use Rattle.fields.specs.Fields.{HoldsTransitions, HoldsTransitionsOver, Readable};
 ghost use Rattle.fields.specs.View.{viewed};
 ghost use Rattle.format.specs.Format.{byte_values};
 ghost use Rattle.table.specs.Layout.{out_of, transition_at, transitions_in};
 ghost use Rattle.totals.specs.Limited.{total_of};
-ghost use Rattle.totals.specs.Numbers.{Added, NumbersOf, Sums, number_in, slots};
+ghost use Rattle.totals.specs.Numbers.{Added, NumbersOf, Sums, number_in};
 
 use crate::limited::times;
-use crate::numbers::{SLOTS, add, number_of};
+use crate::numbers::{Numbers, add};
 use fields::{arg_of, arity_of, out_of};
-use format::TRANSITION_BYTES;
+use format::{BYTE_VALUES, TRANSITION_BYTES};
 
 // The product of the numbers of the arguments of the transition that starts at a byte.
-pub fn product(transitions: &[u8], at: usize, numbers: &[u64; SLOTS]) -> Option<u64>
+pub fn product(transitions: &[u8], at: usize, numbers: &Numbers) -> Option<u64>
     requires { Readable transitions.now at }
     ensures { result ≡ total_of (product_over (number_in numbers.now)
         (transition_at transitions.now at).args) }
@@ -24,15 +24,14 @@ pub fn product(transitions: &[u8], at: usize, numbers: &[u64; SLOTS]) -> Option<
     let mut number = Some(1);
     for k in 0..arity {
         let q = arg_of(transitions, at, k);
-        number = times(number, number_of(numbers, q));
+        number = times(number, numbers[q]);
     }
     number
 }
 
 // Adds the product of the transition that starts at a byte to the sum of its output.
-fn add_product(transitions: &[u8], at: usize, numbers: &[u64; SLOTS], sums: &mut [u64; SLOTS])
-    requires readable { Readable transitions.now at }
-    requires sums_len { length sums.old ≡ slots }
+fn add_product(transitions: &[u8], at: usize, numbers: &Numbers, sums: &mut Numbers)
+    requires { Readable transitions.now at }
     ensures { Added (out_of transitions.now at) (product_over (number_in numbers.now)
         (transition_at transitions.now at).args) sums.old sums.new }
 {
@@ -40,11 +39,11 @@ fn add_product(transitions: &[u8], at: usize, numbers: &[u64; SLOTS], sums: &mut
     add(sums, out_of(transitions, at), more);
 }
 
-pub fn round(transitions: &[u8], count: usize, numbers: &[u64; SLOTS]) -> [u64; SLOTS]
+pub fn round(transitions: &[u8], count: usize, numbers: &Numbers) -> Numbers
     requires { HoldsTransitions transitions.now count }
     ensures { Sums (number_in numbers.now) (transitions_in transitions.now count) result }
 {
-    let mut sums = [0u64; SLOTS];
+    let mut sums = [Some(0); BYTE_VALUES];
     for i in 0..count {
         add_product(transitions, TRANSITION_BYTES * i, numbers, &mut sums);
     }
@@ -52,12 +51,12 @@ pub fn round(transitions: &[u8], count: usize, numbers: &[u64; SLOTS]) -> [u64; 
 }
 
 // The numbers after a round for each state, from none on: no tree of a state that has finitely many is deeper.
-pub fn rounds(transitions: &[u8], count: usize, n: usize) -> [u64; SLOTS]
+pub fn rounds(transitions: &[u8], count: usize, n: usize) -> Numbers
     requires holds_transitions_over { HoldsTransitionsOver transitions.now count n }
     requires n_lt_byte_values { n < byte_values }
     ensures { (cl : List ℕ) → NumbersOf (viewed cl transitions.now n count) result }
 {
-    let mut numbers = [0u64; SLOTS];
+    let mut numbers = [Some(0); BYTE_VALUES];
     for depth in 0..n {
         numbers = round(transitions, count, &numbers);
     }

@@ -1,12 +1,11 @@
 // Numbers that are likely to be right: states from 1 on, each from its transitions and the numbers so far. If every
 // output is above its arguments one pass finds them all. Nothing is promised: an exact test follows.
-ghost use Rattle.std.specs.Prelude.{◌≡◌, ◌<◌, ◌≤◌, length};
+ghost use Rattle.std.specs.Prelude.{IfSome, ◌<◌, ◌≤◌};
 ghost use Rattle.fields.specs.Fields.{HoldsTransitions};
 ghost use Rattle.format.specs.Format.{byte_values, max_transitions};
-ghost use Rattle.totals.specs.Numbers.{slots};
 
 use crate::limited::plus;
-use crate::numbers::{SLOTS, put};
+use crate::numbers::Numbers;
 use crate::rounds::product;
 use fields::out_of;
 use format::{BYTE_VALUES, MAX_TRANSITIONS, TRANSITION_BYTES, widened};
@@ -27,39 +26,27 @@ pub fn link(transitions: &[u8], count: usize, links: &mut [u16; LINKS])
     }
 }
 
-// A link, if it does not lead beyond a bound; else none.
-fn within(link: u16, bound: usize) -> usize
-    ensures { result ≤ bound }
+// The transition that a link leads to, if it is one of the first so many.
+fn linked(link: u16, bound: usize) -> Option<usize>
+    ensures { IfSome result (λ i. i < bound) }
 {
-    let i = widened(link);
-    if bound < i {
-        return 0;
-    }
-    i
+    let i = widened(link).checked_sub(1)?;
+    if i < bound { Some(i) } else { None }
 }
 
 // The number of state q from those of the arguments.
-fn settle(
-    transitions: &[u8],
-    count: usize,
-    links: &[u16; LINKS],
-    q: usize,
-    numbers: &mut [u64; SLOTS],
-)
+fn settle(transitions: &[u8], count: usize, links: &[u16; LINKS], q: usize, numbers: &mut Numbers)
     requires holds_transitions { HoldsTransitions transitions.now count }
     requires count_le_max_transitions { count ≤ max_transitions }
     requires q_lt_byte_values { q < byte_values }
-    requires numbers_len { length numbers.old ≡ slots }
-    ensures { length numbers.new ≡ slots }
 {
     let mut sum = Some(0);
-    let mut i = within(links[q], count);
-    while i > 0 {
-        i -= 1;
+    let mut next = linked(links[q], count);
+    while let Some(i) = next {
         sum = plus(sum, product(transitions, TRANSITION_BYTES * i, numbers));
-        i = within(links[BYTE_VALUES + i], i);
+        next = linked(links[BYTE_VALUES + i], i);
     }
-    put(numbers, q, sum);
+    numbers[q] = sum;
 }
 
 pub fn settle_all(
@@ -67,13 +54,11 @@ pub fn settle_all(
     count: usize,
     n: usize,
     links: &[u16; LINKS],
-    numbers: &mut [u64; SLOTS],
+    numbers: &mut Numbers,
 )
     requires holds_transitions { HoldsTransitions transitions.now count }
     requires count_le_max_transitions { count ≤ max_transitions }
     requires n_lt_byte_values { n < byte_values }
-    requires numbers_len { length numbers.old ≡ slots }
-    ensures { length numbers.new ≡ slots }
 {
     for q in 1..n + 1 {
         settle(transitions, count, links, q, numbers);

@@ -7,7 +7,6 @@ settle_all-requires c = record {
   holds_transitions = c.requires.holds_transitions_over.runs;
   count_le_max_transitions = c.requires.count_le_max_transitions;
   n_lt_byte_values = c.requires.n_lt_byte_values;
-  numbers_len = c.loop.invariant;
 }
 
 pub returns-then-same : goal.returns-then-same

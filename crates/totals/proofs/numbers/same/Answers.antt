@@ -1,28 +1,17 @@
-use borrow.Author.Tests.{eq-eqb, ne_eqb}
-use Rattle.lists.proofs.Tests.{and_both}
-use mathlib.Core.Path.{refl}
+use mathlib.Core.Path.{◌∙◌, refl, sym}
 use native.Mathlib.Omega.{arith}
+use borrow.Author.Tests.{not-false, not-true}
 use Rattle.lists.proofs.Loops.{every-broken, every-end, every-next, every-start}
 use Rattle.totals.proofs.numbers.same.Goals as goal
 
 pub loop-q-init : goal.loop-q-init
-loop-q-init c = (omega arith, every-start c.args.n refl)
+loop-q-init c = every-start c.args.n refl
 
-pub returns-then-a-q : goal.returns-then-a-q
-returns-then-a-q c =
-    every-broken c.loop-q.invariant.1 (omega arith) (rw (ne_eqb _ _ c.if-a-q.true))
-
-pub returns-then-a-q-2 : goal.returns-then-a-q-2
-returns-then-a-q-2 c =
-    every-broken c.loop-q.invariant.1 (omega arith)
-    (rw (eq-eqb _ _ c.if-a-q.false, ne_eqb _ _ c.if-a-q-2.true))
+pub returns-then-ne : goal.returns-then-ne
+returns-then-ne c = every-broken c.loop-q.invariant (omega arith) (not-true _ (sym c.ne.ensures ∙ c.if-ne.true))
 
 pub loop-q-preserved : goal.loop-q-preserved
-loop-q-preserved c = (
-  omega arith,
-  every-next c.loop-q.invariant.1 (omega arith)
-      (and_both (eq-eqb _ _ c.if-a-q.false) (eq-eqb _ _ c.if-a-q-2.false)),
-)
+loop-q-preserved c = every-next c.loop-q.invariant (omega arith) (not-false _ (sym c.ne.ensures ∙ c.if-ne.false))
 
 pub returns : goal.returns
-returns c = every-end c.loop-q.invariant.1 (omega arith)
+returns c = every-end c.loop-q.invariant (omega arith)

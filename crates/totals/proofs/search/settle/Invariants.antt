@@ -1,9 +1,17 @@
 -- `totals::search::settle` meets its contract: a link leads to an earlier transition.
-use Prim.Native.Nat.{◌≤◌}
+use Prim.Native.Nat.{◌<◌, suc, ℕ}
+use Rattle.std.specs.Option.{IfSome}
+use Rattle.std.specs.declared.option.Option.{Option}
+use Rattle.std.specs.declared.option.Option.TheVariants.{None, Some}
 use Rattle.totals.proofs.search.settle.Given as goal
 
-abbrev pub invariant-loop-i : goal.invariant-loop-i
-invariant-loop-i l = l.i ≤ l.count
+abbrev pub invariant-loop-next : goal.invariant-loop-next
+invariant-loop-next l = IfSome l.next (λ i. i < l.count)
 
-abbrev pub decreases-loop-i : goal.decreases-loop-i
-decreases-loop-i l = l.i
+-- one more than the transition that comes next
+abbrev left : Option ℕ → ℕ
+left None = 0
+left (Some i) = suc i
+
+abbrev pub decreases-loop-next : goal.decreases-loop-next
+decreases-loop-next l = left l.next
