@@ -9,7 +9,7 @@ ghost use Rattle.validity.specs.Rules.{Spans};
 ghost use Rattle.packed.specs.Heads.{HoldsPacked, packed_in, place_of};
 ghost use Rattle.numbering.specs.Steps.{AllSeen, Read, Ruled, Sound};
 
-use crate::reading::{arity_of, is_before, out_of, place_of, word_at};
+use crate::reading::{arity_of, is_before, out_of, place_of};
 use format::{BYTE_VALUES, wide};
 use validity::{all_seen, greater, leads_to};
 
@@ -18,17 +18,10 @@ fn rises(heads: &[u64], args: &[u64], count: usize) -> bool
     requires { HoldsPacked heads.now args.now count }
     ensures { result ≡ true → rising (packed_in heads.now args.now count) ≡ true }
 {
-    let mut i = 0;
-    while i + 1 < count {
-        if !is_before(
-            word_at(heads, i),
-            word_at(args, i),
-            word_at(heads, i + 1),
-            word_at(args, i + 1),
-        ) {
+    for i in 1..count {
+        if !is_before(heads[i - 1], args[i - 1], heads[i], args[i]) {
             return false;
         }
-        i += 1;
     }
     true
 }
@@ -81,14 +74,12 @@ fn seen_up_to(seen: &[u8; BYTE_VALUES], low: usize, states: usize) -> usize
     ensures upper_bound { result ≤ states }
     ensures all_seen_2 { AllSeen seen.now result }
 {
-    let mut q = low;
-    while q < states {
+    for q in low..states {
         if seen[q + 1] == 0 {
             return q;
         }
-        q += 1;
     }
-    q
+    states
 }
 
 // Whether the transitions give each of the numbers by the rule. A transition is skipped if all states up to its
@@ -100,17 +91,14 @@ fn ruled(heads: &[u64], args: &[u64], count: usize, states: usize) -> bool
 {
     let mut seen = [0u8; BYTE_VALUES];
     let mut low = 0;
-    let mut i = 0;
-    while i < count {
+    for i in 0..count {
         if out_of(heads[i]) <= low {
-            i += 1;
             continue;
         }
         if !read(heads, args, i, count, &mut seen) {
             return false;
         }
         low = seen_up_to(&seen, low, states);
-        i += 1;
     }
     low == states
 }

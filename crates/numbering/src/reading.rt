@@ -8,14 +8,6 @@ ghost use Rattle.packed.specs.Heads.{head_arity, head_label, head_meta, head_out
 use format::BYTE_VALUES;
 use packed::comes_before;
 
-// Entry i of a list of heads or arguments.
-pub fn word_at(list: &[u64], i: usize) -> u64
-    requires { i < length list.now }
-    ensures { result ≡ get_or list.now i 0 }
-{
-    list[i]
-}
-
 // Entry q of a table of names or of numbers.
 pub fn name_at(list: &[u8; BYTE_VALUES], q: usize) -> u8
     requires { q < byte_values }

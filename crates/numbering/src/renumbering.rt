@@ -1,14 +1,14 @@
 // Names replaced by their numbers. The order is a guess, so a name may have no number.
-ghost use Rattle.std.specs.Prelude.{true, ◌≡◌, ◌*◌, ◌+◌, ◌<◌, ◌^◌, ◌≤◌, ℕ, get_or, length};
+ghost use Rattle.std.specs.Prelude.{IfSome, true, ◌≡◌, ◌*◌, ◌+◌, ◌<◌, ◌^◌, ◌≤◌, ℕ, get_or, length};
 ghost use Rattle.format.specs.Format.{AllBytes, byte_values, max_arity, max_states};
 ghost use Rattle.minimize.specs.Renaming.{name_in, zeros};
 ghost use Rattle.packed.specs.Packed.{digits, pad_to};
 ghost use Rattle.packed.specs.Heads.{HoldsPacked, Room, head_meta, head_out};
-ghost use Rattle.numbering.specs.Numbers.{number_at};
+ghost use Rattle.numbering.specs.Numbers.{ArgsByNumber, number_at};
 ghost use Rattle.numbering.specs.Steps.{Numbered, Renumbered};
 
-use crate::reading::{arity_of, name_at, out_of, place_of};
-use format::{BYTE_VALUES, MAX_ARITY, wide};
+use crate::reading::{arity_of, out_of, place_of};
+use format::{BYTE_VALUES, MAX_ARITY};
 use packed::padded;
 
 // Gives the first `states` names of an order their numbers. Returns whether each name is not 0 and occurs once.
@@ -22,17 +22,15 @@ pub fn number_names(
     requires numbers_value { numbers.old ≡ zeros byte_values }
     ensures { result ≡ true → Numbered order.now states numbers.new }
 {
-    let mut k = 0;
-    while k < states {
-        let q = wide(name_at(order, k));
+    for k in 0..states {
+        let q = order[k] as usize;
         if q == 0 {
             return false;
         }
         if numbers[q] != 0 {
             return false;
         }
-        k += 1;
-        numbers[q] = k as u8;
+        numbers[q] = (k + 1) as u8;
     }
     true
 }
@@ -44,8 +42,7 @@ fn with_number(v: u64, args: u64, k: usize, numbers: &[u8; BYTE_VALUES]) -> u64
     ensures value { result ≡ byte_values * v + number_at numbers.now args k }
     ensures upper_bound { result < byte_values * v + byte_values }
 {
-    let n = wide(name_at(numbers, place_of(args, k)));
-    256 * v + n as u64
+    256 * v + numbers[place_of(args, k)] as u64
 }
 
 // The arguments with their numbers.
@@ -66,8 +63,7 @@ pub fn args_by_number(args: u64, numbers: &[u8; BYTE_VALUES]) -> u64
 fn head_by_number(head: u64, numbers: &[u8; BYTE_VALUES]) -> u64
     ensures { result ≡ byte_values * head_meta head + name_in numbers.now (head_out head) }
 {
-    let n = wide(name_at(numbers, out_of(head)));
-    256 * (head / 256) + n as u64
+    256 * (head / 256) + numbers[out_of(head)] as u64
 }
 
 // Whether the output of a transition has a number.
@@ -77,17 +73,9 @@ fn has_number(head: u64, numbers: &[u8; BYTE_VALUES]) -> bool
     numbers[out_of(head)] != 0
 }
 
-// Arguments with the numbers of their names, and whether each name has one.
-#[derive(Drop)]
-struct Renamed {
-    whole: bool,
-    args: u64,
-}
-
-// All eight arguments with their numbers, without a loop.
-fn rename_all(args: u64, numbers: &[u8; BYTE_VALUES]) -> Renamed
-    ensures bound { result.whole ≡ true → (k : ℕ) → k < max_arity → 1 ≤ number_at numbers.now args k }
-    ensures args_value { result.args ≡ digits (number_at numbers.now args) 0 max_arity 0 }
+// All eight arguments with their numbers, without a loop, if each name has one.
+fn rename_all(args: u64, numbers: &[u8; BYTE_VALUES]) -> Option<u64>
+    ensures { IfSome result (λ a. ArgsByNumber numbers.now args max_arity a) }
 {
     let a = with_number(0, args, 0, numbers);
     let b = with_number(a, args, 1, numbers);
@@ -99,34 +87,32 @@ fn rename_all(args: u64, numbers: &[u8; BYTE_VALUES]) -> Renamed
     let h = with_number(g, args, 7, numbers);
     let first = (a != 0) & (b != 256 * a) & (c != 256 * b) & (d != 256 * c);
     let last = (e != 256 * d) & (f != 256 * e) & (g != 256 * f) & (h != 256 * g);
-    Renamed {
-        whole: first & last,
-        args: h,
+    if !(first & last) {
+        return None;
     }
+    Some(h)
 }
 
-// The first `arity` arguments with their numbers. Neighbouring transitions mostly have the same number of arguments,
-// so the processor predicts the end of the loop.
-fn rename_args(args: u64, arity: usize, numbers: &[u8; BYTE_VALUES]) -> Renamed
+// The first `arity` arguments with their numbers, if each name has one. Neighbouring transitions mostly have the same
+// number of arguments, so the processor predicts the end of the loop.
+fn rename_args(args: u64, arity: usize, numbers: &[u8; BYTE_VALUES]) -> Option<u64>
     requires { arity ≤ max_arity }
-    ensures bound { result.whole ≡ true → (k : ℕ) → k < arity → 1 ≤ number_at numbers.now args k }
-    ensures args_value { result.args ≡ pad_to arity (digits (number_at numbers.now args) 0 arity 0) }
+    ensures { IfSome result (λ a. ArgsByNumber numbers.now args arity a) }
 {
     if arity == MAX_ARITY {
         return rename_all(args, numbers);
     }
     let mut whole = true;
-    let mut v = 0u64;
+    let mut v = 0;
     for k in 0..arity {
         let next = with_number(v, args, k, numbers);
         whole = whole & (next != 256 * v);
         v = next;
     }
-    let renamed = padded(v, arity);
-    Renamed {
-        whole: whole,
-        args: renamed,
+    if !whole {
+        return None;
     }
+    Some(padded(v, arity))
 }
 
 // Replaces the names in the first `count` transitions by their numbers. Returns false at the first name that has
@@ -146,15 +132,14 @@ pub fn renumber(
 {
     for i in 0..count {
         let head = heads[i];
-        let renamed = rename_args(args[i], arity_of(head), numbers);
-        if !renamed.whole {
+        let Some(renamed) = rename_args(args[i], arity_of(head), numbers) else {
             return false;
-        }
+        };
         if !has_number(head, numbers) {
             return false;
         }
         heads[i] = head_by_number(head, numbers);
-        args[i] = renamed.args;
+        args[i] = renamed;
     }
     true
 }

@@ -46,8 +46,8 @@ fn clear_between(table: &mut [u8], start: usize, end: usize)
     requires end_le_table_bytes { end ≤ table_bytes }
     ensures { ZerosBetween table.old table.new start end }
 {
-    for i in start..end {
-        table[i] = 0;
+    if start < end {
+        table[start..end].fill(0);
     }
 }
 

@@ -11,6 +11,5 @@ place_given-new-requires c = record {
   placed_le_byte_values = c.loop-q.invariant.1;
 }
 
-pub overflow_add-q : goal.overflow_add-q
-overflow_add-q c =
-    omega (arith, c.loop-q-test.true, c.requires.n_le_max_states)
+pub overflow_add-q-end : goal.overflow_add-q-end
+overflow_add-q-end c = omega (arith, c.requires.n_le_max_states)

@@ -1,5 +1,5 @@
--- `numbering::looking::rises` meets its contract: each transition but the last is compared with the next.
-use Prim.Native.Nat.{◌+◌, ◌-◌, ◌<◌, ◌≤◌, ℕ}
+-- `numbering::looking::rises` meets its contract: each transition but the first is compared with the one before.
+use Prim.Native.Nat.{◌+◌, ◌<◌, ℕ}
 use mathlib.Core.Bool.{true}
 use mathlib.Core.Path.{◌≡◌}
 use Rattle.automata.specs.Order.{precedes}
@@ -7,7 +7,4 @@ use Rattle.packed.specs.Heads.{nth_packed}
 use Rattle.numbering.proofs.looking.rises.Given as goal
 
 abbrev pub invariant-loop-i : goal.invariant-loop-i
-invariant-loop-i l = (l.i ≤ l.count) × ((j : ℕ) → j < l.i → precedes (nth_packed l.heads l.args j) (nth_packed l.heads l.args (j + 1)) ≡ true)
-
-abbrev pub decreases-loop-i : goal.decreases-loop-i
-decreases-loop-i l = l.count - l.i
+invariant-loop-i l = (j : ℕ) → j + 1 < l.i → precedes (nth_packed l.heads l.args j) (nth_packed l.heads l.args (j + 1)) ≡ true

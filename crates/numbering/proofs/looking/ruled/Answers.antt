@@ -13,35 +13,31 @@ use Rattle.numbering.proofs.Passes.{pass_below, pass-end, pass-start}
 use Rattle.numbering.proofs.looking.ruled.Goals as goal
 
 pub loop-i-init : goal.loop-i-init
-loop-i-init c = (
-  omega arith,
-  omega arith,
-  length-replicate {A = ℕ} byte_values 0,
-  pass-start c.args.heads.now
-      c.args.args.now,
-  spans-none,
-  λ q a b. absurd (omega arith),
-)
+loop-i-init c = record {
+  low = omega arith;
+  size = length-replicate {A = ℕ} byte_values 0;
+  passed = pass-start c.args.heads.now c.args.args.now;
+  spans = spans-none;
+  all_seen = λ q a b. absurd (omega arith);
+}
 
 pub loop-i-preserved-then-out_of-low : goal.loop-i-preserved-then-out_of-low
-loop-i-preserved-then-out_of-low c = (
-  omega arith,
-  c.loop-i.invariant.1,
-  c.loop-i.invariant.2,
-  pass_below c.args.heads.now
-      c.args.args.now c.loop-i.i c.loop-i.seen c.loop-i.invariant.3 c.loop-i.low
-      c.loop-i.invariant.5 (omega (arith, c.out_of.ensures.value)),
-  c.loop-i.invariant.4,
-  c.loop-i.invariant.5,
-)
+loop-i-preserved-then-out_of-low c = let v = c.loop-i.invariant in record {
+  low = v.low;
+  size = v.size;
+  passed = pass_below c.args.heads.now c.args.args.now c.loop-i.i c.loop-i.seen v.passed c.loop-i.low v.all_seen
+      (omega (arith, c.out_of.ensures.value));
+  spans = v.spans;
+  all_seen = v.all_seen;
+}
 
 pub read-requires : goal.read-requires
 read-requires c = record {
   holds_packed = c.requires.holds_packed;
   i_lt_count = omega arith;
-  seen_len = c.loop-i.invariant.2;
-  passed = c.loop-i.invariant.3;
-  spans = c.loop-i.invariant.4;
+  seen_len = c.loop-i.invariant.size;
+  passed = c.loop-i.invariant.passed;
+  spans = c.loop-i.invariant.spans;
 }
 
 pub returns-then-not-read : goal.returns-then-not-read
@@ -49,29 +45,24 @@ returns-then-not-read c = λ e. absurd (false≢true e)
 
 pub seen_up_to-low-requires : goal.seen_up_to-low-requires
 seen_up_to-low-requires c = record {
-  low_le_states = c.loop-i.invariant.1;
+  low_le_states = c.loop-i.invariant.low;
   states_le_max_states = c.requires.states_le_max_states;
-  all_seen = λ q a b. c.read.ensures.kept q (c.loop-i.invariant.5
-      q a b);
+  all_seen = λ q a b. c.read.ensures.kept q (c.loop-i.invariant.all_seen q a b);
 }
 
 pub loop-i-preserved : goal.loop-i-preserved
-loop-i-preserved c = (
-  omega arith,
-  c.seen_up_to-low.ensures.upper_bound,
-  c.read.ensures.size,
-  c.read.ensures.passed c.if-not-read.false,
-  c.read.ensures.spans,
-  c.seen_up_to-low.ensures.all_seen_2,
-)
+loop-i-preserved c = record {
+  low = c.seen_up_to-low.ensures.upper_bound;
+  size = c.read.ensures.size;
+  passed = c.read.ensures.passed c.if-not-read.false;
+  spans = c.read.ensures.spans;
+  all_seen = c.seen_up_to-low.ensures.all_seen_2;
+}
 
 pub returns : goal.returns
 returns c =
-    λ e. let d : c.loop-i.i ≡ c.args.count = omega (arith, c.loop-i.invariant.0) in pass-end
-    c.args.heads.now c.args.args.now c.args.count c.loop-i.seen (subst (λ (n : ℕ).
-    Passed (packed_in c.args.heads.now c.args.args.now n) (marked c.loop-i.seen)) d
-    c.loop-i.invariant.3) c.args.states (λ q a b. c.loop-i.invariant.5 q a (omega (
-      arith,
-      eqb-true
-          c.loop-i.low c.args.states e,
-    )))
+    λ e. let v = c.loop-i.invariant in
+    let d : c.loop-i.i ≡ c.args.count = omega (arith, c.loop-i.auto) in
+    pass-end c.args.heads.now c.args.args.now c.args.count c.loop-i.seen
+    (subst (λ (n : ℕ). Passed (packed_in c.args.heads.now c.args.args.now n) (marked c.loop-i.seen)) d v.passed)
+    c.args.states (λ q a b. v.all_seen q a (omega (arith, eqb-true c.loop-i.low c.args.states e)))

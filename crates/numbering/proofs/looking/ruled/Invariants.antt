@@ -2,7 +2,7 @@
 -- up to `low` have been seen.
 use mathlib.Core.Path.{◌≡◌}
 use lib.ListN.{length}
-use Prim.Native.Nat.{◌-◌, ◌≤◌}
+use Prim.Native.Nat.{◌≤◌}
 use Rattle.automata.specs.Numbered.{Passed}
 use Rattle.format.specs.Format.{byte_values}
 use Rattle.marking.specs.Marks.{marked}
@@ -12,8 +12,10 @@ use Rattle.validity.specs.Rules.{Spans}
 use Rattle.numbering.proofs.looking.ruled.Given as goal
 
 abbrev pub invariant-loop-i : goal.invariant-loop-i
-invariant-loop-i l = (l.i ≤ l.count) × (l.low ≤ l.states) × (length l.seen ≡ byte_values) × Passed (packed_in l.heads l.args l.i) (marked l.seen) × Spans
-    l.seen × AllSeen l.seen l.low
-
-abbrev pub decreases-loop-i : goal.decreases-loop-i
-decreases-loop-i l = l.count - l.i
+invariant-loop-i l = record {
+  low : l.low ≤ l.states;
+  size : length l.seen ≡ byte_values;
+  passed : Passed (packed_in l.heads l.args l.i) (marked l.seen);
+  spans : Spans l.seen;
+  all_seen : AllSeen l.seen l.low;
+}

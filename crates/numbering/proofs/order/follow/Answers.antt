@@ -41,13 +41,9 @@ shape_of-spare-then-q-eq0 c =
       c.requires.room_2,
     )
 
-pub overflow_add-turns : goal.overflow_add-turns
-overflow_add-turns c =
-    omega (arith, c.loop-turns-test.true, c.ranges.count)
-
 pub loop-turns-preserved-then-numbers-q-ne0 : goal.loop-turns-preserved-then-numbers-q-ne0
 loop-turns-preserved-then-numbers-q-ne0 c = (
-  omega (arith, c.loop-turns-test.true),
+  omega arith,
   omega (
     arith,
     c.less-size.ensures,
@@ -90,13 +86,9 @@ place_list-new-requires c = record {
   );
 }
 
-pub loop-turns-smaller : goal.loop-turns-smaller
-loop-turns-smaller c =
-    omega (arith, c.loop-turns-test.true)
-
 pub loop-turns-preserved : goal.loop-turns-preserved
 loop-turns-preserved c = (
-  omega (arith, c.loop-turns-test.true),
+  omega arith,
   omega (
     arith,
     c.less-size.ensures,

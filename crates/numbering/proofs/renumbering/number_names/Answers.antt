@@ -1,37 +1,25 @@
 use native.Mathlib.Omega.{arith}
 use mathlib.Core.Bool.{false≢true}
-use mathlib.Core.Path.{◌∙◌, ◌≡◌, subst}
+use mathlib.Core.Path.{◌≡◌, refl, subst}
 use Rattle.numbering.specs.Steps.{Numbered}
 use Rattle.numbering.proofs.Numbers.{numbered_next, numbered-start}
 use Rattle.numbering.proofs.renumbering.number_names.Goals as goal
 
 pub loop-k-init : goal.loop-k-init
-loop-k-init c = (omega arith, numbered-start c.args.order.now c.requires.numbers_value)
+loop-k-init c = numbered-start c.args.order.now c.requires.numbers_value
 
 pub returns-then-q-eq0 : goal.returns-then-q-eq0
 returns-then-q-eq0 c = λ e. absurd (false≢true e)
 
-pub bounds-numbers-q : goal.bounds-numbers-q
-bounds-numbers-q c = omega (arith, c.name_at.type_inv, c.wide-q.ensures)
-
 pub returns-then-numbers-q-ne0 : goal.returns-then-numbers-q-ne0
 returns-then-numbers-q-ne0 c = λ e. absurd (false≢true e)
 
-pub bounds-numbers-q-in-loop-k : goal.bounds-numbers-q-in-loop-k
-bounds-numbers-q-in-loop-k c =
-    omega (arith, c.name_at.type_inv, c.wide-q.ensures)
-
 pub loop-k-preserved : goal.loop-k-preserved
-loop-k-preserved c = (
-  omega arith,
-  numbered_next c.loop-k.invariant.1 c.requires.order_len (omega arith) (c.wide-q.ensures ∙ c.name_at.ensures) (omega (
-    arith,
-    c.name_at.type_inv,
-    c.wide-q.ensures,
-  )) c.if-q-eq0.false c.if-numbers-q-ne0.false,
-)
+loop-k-preserved c =
+    numbered_next c.loop-k.invariant c.requires.order_len (omega arith) refl
+    (omega arith) c.if-q-eq0.false c.if-numbers-q-ne0.false
 
 pub returns : goal.returns
 returns c =
-    λ _. let e : c.loop-k.k ≡ c.args.states = omega (arith, c.loop-k.invariant.0) in
-    subst (λ n. Numbered c.args.order.now n c.loop-k.numbers) e c.loop-k.invariant.1
+    λ _. let e : c.loop-k.k ≡ c.args.states = omega (arith, c.loop-k.auto) in
+    subst (λ n. Numbered c.args.order.now n c.loop-k.numbers) e c.loop-k.invariant

@@ -29,4 +29,4 @@ returns c =
     && adds w3.result w4.result in
     let row = in_a_row first (adds w4.result w5.result) (adds w5.result w6.result)
     (adds w6.result w7.result) (adds w7.result w8.result) in
-    record { bound = λ whole. r8.has (row whole); args_value = r8.packed }
+    record { has = r8.has (row c.if-not-first-last.false); packed = omega (arith, r8.packed) }

@@ -1,21 +1,20 @@
-use mathlib.Core.Path.{◌∙◌, ◌≡◌, ap, sym}
+use mathlib.Core.Path.{◌∙◌, ◌≡◌, ap, subst}
+use Prim.Native.Nat.{ℕ}
+use Rattle.std.specs.Prelude.{IfSome}
 use native.Mathlib.Omega.{arith}
 use Rattle.format.specs.Format.{max_arity}
 use Rattle.packed.specs.Packed.{pad_to}
-use Rattle.packed.proofs.Zeros.{digits-room, pad-digits}
-use Rattle.numbering.specs.Numbers.{number_at}
+use Rattle.packed.proofs.Zeros.{digits-room}
+use Rattle.numbering.specs.Numbers.{ArgsByNumber}
 use Rattle.numbering.proofs.Numbers.{renamed-end, renamed-next, renamed-start}
 use Rattle.numbering.proofs.renumbering.rename_args.Goals as goal
 
 -- with eight arguments there is no place left to pad
 pub returns-then-arity-eq-MAX_ARITY : goal.returns-then-arity-eq-MAX_ARITY
 returns-then-arity-eq-MAX_ARITY c =
-    let all : c.args.arity ≡ max_arity = omega (arith, c.if-arity-eq-MAX_ARITY.true) in
-    record {
-      bound = λ whole k l. c.rename_all.ensures.bound whole k (omega arith);
-      args_value = c.rename_all.ensures.args_value ∙ sym (pad-digits (number_at c.args.numbers.now c.args.args) c.args.arity (omega arith)
-          (λ k l m. absurd (omega arith)));
-    }
+    let all : max_arity ≡ c.args.arity = omega (arith, c.if-arity-eq-MAX_ARITY.true) in
+    subst (λ (n : ℕ). IfSome c.rename_all.result (λ a. ArgsByNumber c.args.numbers.now c.args.args n a)) all
+    c.rename_all.ensures
 
 pub loop-k-init : goal.loop-k-init
 loop-k-init c =
@@ -41,8 +40,8 @@ loop-k-preserved c =
     renamed-next c.loop-k.invariant c.loop-k-test.true c.with_number-next.ensures.value
     c.with_number-next.ensures.upper_bound
 
-pub padded-renamed-requires : goal.padded-renamed-requires
-padded-renamed-requires c = record {
+pub padded-requires : goal.padded-requires
+padded-requires c = record {
   arity_le_max_arity = c.requires;
   prefix_bound = (renamed-end c.loop-k.invariant (omega (arith, c.loop-k-test.false))).below;
 }
@@ -51,6 +50,6 @@ pub returns : goal.returns
 returns c =
     let end = renamed-end c.loop-k.invariant (omega (arith, c.loop-k-test.false)) in
     record {
-      bound = end.has;
-      args_value = c.padded-renamed.ensures ∙ ap (pad_to c.args.arity) end.packed;
+      has = end.has c.if-not-whole.false;
+      packed = c.padded.ensures ∙ ap (pad_to c.args.arity) end.packed;
     }
