@@ -3,14 +3,13 @@
 // they number every output. Nothing is proved of the choice.
 ghost use Rattle.std.specs.Prelude.{◌≡◌, ◌*◌, ◌+◌, ◌<◌, ◌≤◌, length};
 ghost use Rattle.fields.specs.Fields.{HoldsTransitions};
-ghost use Rattle.format.specs.Format.{byte_values, max_nodes, max_states, transition_bytes};
-ghost use Rattle.packed.specs.Heads.{Room};
+ghost use Rattle.format.specs.Format.{byte_values, max_nodes, transition_bytes};
 
-use crate::placing::{place, place_all};
+use crate::lent::{OldTable, Transitions};
+use crate::placing::Placing;
 use crate::reading::{arity_of, out_of};
 use fields::arg_of;
-use format::{BYTE_VALUES, MAX_ARITY, MAX_NODES, TRANSITION_BYTES, wide, widened};
-use validity::greater;
+use format::{BYTE_VALUES, MAX_ARITY, MAX_NODES, TRANSITION_BYTES};
 
 // The greatest argument of the transition that starts at a byte. Places beyond the arguments are 0.
 fn top_argument(transitions: &[u8], at: usize) -> usize
@@ -18,8 +17,7 @@ fn top_argument(transitions: &[u8], at: usize) -> usize
 {
     let mut top = 0;
     for k in 0..MAX_ARITY {
-        let q = arg_of(transitions, at, k);
-        top = greater(top, q);
+        top = top.max(arg_of(transitions, at, k));
     }
     top
 }
@@ -40,10 +38,6 @@ fn note_giver(transitions: &[u8], i: usize, givers: &mut [u16; BYTE_VALUES])
     givers[out] = (i + 1) as u16;
 }
 
-fn forget(givers: &mut [u16; BYTE_VALUES], q: u8) {
-    givers[wide(q)] = 0;
-}
-
 // Forgets the giver of each state that is now the name of a subtree of another state. Such a subtree merged into this
 // state, and its transition may come first.
 fn forget_givers(
@@ -56,7 +50,7 @@ fn forget_givers(
 {
     for j in 0..m {
         if (states[j] != 0) & (names[j] != states[j]) {
-            forget(givers, names[j]);
+            givers[names[j] as usize] = 0;
         }
     }
 }
@@ -81,202 +75,92 @@ pub fn givers_of(
     givers
 }
 
-// How many entries had been made after transition g of the old table, counted from 1; at most `limit`.
-pub fn end_of(ends: &[u16], g: usize, limit: usize) -> usize
-    ensures { result ≤ limit }
-{
-    if g == 0 {
-        return 0;
-    }
-    if g > ends.len() {
-        return 0;
-    }
-    let end = widened(ends[g - 1]);
-    if end > limit {
-        return limit;
-    }
-    end
-}
-
-// How many entries had been made before it.
-fn start_of(ends: &[u16], g: usize, limit: usize) -> usize
-    ensures { result ≤ limit }
-{
-    if g == 0 {
-        return 0;
-    }
-    end_of(ends, g - 1, limit)
-}
-
-// Places the entries from `start` to `end` whose output is q, except leaves. Returns how many outputs are new.
+// Places the entries from `start` to `end` whose output is q, except leaves, and notes in `given` if there are any.
 fn place_given(
-    heads: &[u64],
-    args: &[u64],
+    placing: &mut Placing,
+    transitions: &Transitions<'_>,
     q: usize,
     start: usize,
     end: usize,
-    numbers: &[u8; BYTE_VALUES],
-    lists: &mut [u16; BYTE_VALUES],
     next: &mut [u16],
-    bests: &mut [u16; BYTE_VALUES],
-    fresh: &mut [u8; BYTE_VALUES],
-    news: &mut [u8; BYTE_VALUES],
-    given: &mut [u8; BYTE_VALUES],
-    placed: usize,
-) -> usize
-    requires end_in_bounds { end ≤ length heads.now }
-    requires room { Room heads.now args.now }
-    requires next_len { length next.old ≡ length heads.now }
+    given: &mut [bool; BYTE_VALUES],
+)
+    requires end_in_bounds { end ≤ length transitions.now.heads.now }
+    requires next_len { length next.old ≡ length transitions.now.heads.now }
     requires q_lt_byte_values { q < byte_values }
-    requires placed_le_byte_values { placed ≤ byte_values }
-    ensures { result ≤ byte_values }
 {
-    let mut new = placed;
-    let mut i = start;
-    while i < end {
-        let head = heads[i];
-        i += 1;
+    for i in start..end {
+        let head = transitions.heads[i];
         if out_of(head) != q {
             continue;
         }
-        given[q] = 1;
+        given[q] = true;
         if arity_of(head) == 0 {
             continue;
         }
-        new = place(
-            heads,
-            args,
-            i - 1,
-            numbers,
-            lists,
-            next,
-            bests,
-            fresh,
-            news,
-            new,
-        );
+        placing.place(transitions, i, next);
     }
-    new
 }
 
 // Whether an entry is placed whatever it was made from: it is a leaf, its output is a subtree's own name, or no entry
 // into its output was made from a giver.
-fn stands_alone(head: u64, n: usize, given: &[u8; BYTE_VALUES]) -> bool {
-    (arity_of(head) == 0) | (out_of(head) > n) | (given[out_of(head)] == 0)
+fn stands_alone(head: u64, n: usize, given: &[bool; BYTE_VALUES]) -> bool {
+    (arity_of(head) == 0) | (out_of(head) > n) | !given[out_of(head)]
 }
 
-// Places the entries that stand alone, and those of subtrees, which come after the first `old`. Returns how many
-// outputs are new. No entry that `place_given` placed is placed again: linking an entry twice makes the list cyclic.
+// Places the entries that stand alone, and those of subtrees, which come after the first `made`. No entry that
+// `place_given` placed is placed again: linking an entry twice makes the list cyclic.
 fn place_others(
-    heads: &[u64],
-    args: &[u64],
-    count: usize,
-    old: usize,
+    placing: &mut Placing,
+    transitions: &Transitions<'_>,
+    made: usize,
     n: usize,
-    numbers: &[u8; BYTE_VALUES],
-    lists: &mut [u16; BYTE_VALUES],
     next: &mut [u16],
-    bests: &mut [u16; BYTE_VALUES],
-    fresh: &mut [u8; BYTE_VALUES],
-    news: &mut [u8; BYTE_VALUES],
-    given: &[u8; BYTE_VALUES],
-    placed: usize,
-) -> usize
-    requires count_in_bounds { count ≤ length heads.now }
-    requires room { Room heads.now args.now }
-    requires next_len { length next.old ≡ length heads.now }
-    requires placed_le_byte_values { placed ≤ byte_values }
-    ensures { result ≤ byte_values }
+    given: &[bool; BYTE_VALUES],
+)
+    requires { length next.old ≡ length transitions.now.heads.now }
 {
-    let mut new = placed;
-    let mut i = 0;
-    while i < count {
-        let alone = stands_alone(heads[i], n, given);
-        i += 1;
-        if !alone & (i <= old) {
+    for i in 0..transitions.count {
+        if !stands_alone(transitions.heads[i], n, given) & (i < made) {
             continue;
         }
-        new = place(
-            heads,
-            args,
-            i - 1,
-            numbers,
-            lists,
-            next,
-            bests,
-            fresh,
-            news,
-            new,
-        );
+        placing.place(transitions, i, next);
     }
-    new
 }
 
-// Places the few transitions. Returns how many outputs are new.
+// Places the few transitions.
 fn place_few(
-    heads: &[u64],
-    args: &[u64],
-    count: usize,
-    numbers: &[u8; BYTE_VALUES],
-    lists: &mut [u16; BYTE_VALUES],
+    placing: &mut Placing,
+    transitions: &Transitions<'_>,
     next: &mut [u16],
-    bests: &mut [u16; BYTE_VALUES],
-    fresh: &mut [u8; BYTE_VALUES],
-    news: &mut [u8; BYTE_VALUES],
-    n: usize,
-    old: usize,
-    ends: &[u16],
-    givers: &[u16; BYTE_VALUES],
-) -> usize
-    requires count_in_bounds { count ≤ length heads.now }
-    requires room { Room heads.now args.now }
-    requires next_len { length next.old ≡ length heads.now }
-    requires n_le_max_states { n ≤ max_states }
-    ensures { result ≤ byte_values }
+    old: &OldTable<'_>,
+)
+    requires { length next.old ≡ length transitions.now.heads.now }
 {
-    let made = end_of(ends, old, count);
-    let mut given = [0u8; BYTE_VALUES];
-    let mut new = 0;
-    for q in 1..n + 1 {
-        let g = widened(givers[q]);
-        let start = start_of(ends, g, made);
-        let end = end_of(ends, g, made);
-        new = place_given(
-            heads, args, q, start, end, numbers, lists, next, bests, fresh, news, &mut given, new,
-        );
+    let made = old.made(transitions.count);
+    let mut given = [false; BYTE_VALUES];
+    for q in 1..old.states + 1 {
+        let g = old.givers[q] as usize;
+        let start = old.start_of(g, made);
+        let end = old.end_of(g, made);
+        place_given(placing, transitions, q, start, end, next, &mut given);
     }
-    place_others(
-        heads, args, count, made, n, numbers, lists, next, bests, fresh, news, &given, new,
-    )
+    place_others(placing, transitions, made, old.states, next, &given);
 }
 
 // Places the few transitions if `few`, else all.
 pub fn place_first(
-    heads: &[u64],
-    args: &[u64],
-    count: usize,
-    numbers: &[u8; BYTE_VALUES],
-    lists: &mut [u16; BYTE_VALUES],
+    placing: &mut Placing,
+    transitions: &Transitions<'_>,
     next: &mut [u16],
-    bests: &mut [u16; BYTE_VALUES],
-    fresh: &mut [u8; BYTE_VALUES],
-    news: &mut [u8; BYTE_VALUES],
-    n: usize,
-    old: usize,
-    ends: &[u16],
-    givers: &[u16; BYTE_VALUES],
+    old: &OldTable<'_>,
     few: bool,
-) -> usize
-    requires count_in_bounds { count ≤ length heads.now }
-    requires room { Room heads.now args.now }
-    requires next_len { length next.old ≡ length heads.now }
-    requires n_le_max_states { n ≤ max_states }
-    ensures { result ≤ byte_values }
+)
+    requires { length next.old ≡ length transitions.now.heads.now }
 {
     if few {
-        return place_few(
-            heads, args, count, numbers, lists, next, bests, fresh, news, n, old, ends, givers,
-        );
+        place_few(placing, transitions, next, old);
+        return;
     }
-    place_all(heads, args, count, numbers, lists, next, bests, fresh, news)
+    placing.place_all(transitions, next);
 }

@@ -3,6 +3,7 @@
 // one.
 #![tactic(auto)]
 
+mod lent; // transitions and the old table, lent for reading
 mod reading; // the parts of a packed transition
 mod renumbering; // names replaced by their numbers
 mod sorting; // sorting by merging runs
@@ -16,13 +17,14 @@ mod order; // an order of the names, guessed
 
 ghost use Rattle.std.specs.Prelude.{cond, true, ◌≡◌, ◌≤◌, length};
 ghost use Rattle.automata.specs.Renumber.{renumbered};
-ghost use Rattle.format.specs.Format.{byte_values, max_states, max_transitions, table_bytes};
+ghost use Rattle.format.specs.Format.{byte_values, max_states, table_bytes};
 ghost use Rattle.table.specs.Layout.{class_at, encode};
 ghost use Rattle.packed.specs.Heads.{HoldsPacked, Room, packed_in};
 ghost use Rattle.numbering.specs.Steps.{Settled};
 ghost use Rattle.numbering.specs.Tables.{BlankAfter};
 
 pub use crate::givers::givers_of;
+pub use crate::lent::{OldTable, Transitions};
 use crate::looking::sound;
 use crate::order::guess;
 use crate::renumbering::{number_names, renumber};
@@ -63,8 +65,7 @@ fn settle(
 }
 
 // Writes the table of the automaton that the transitions and the classes of their names give. Returns whether it did:
-// if the guessed order is wrong, the table stays as it is. The lists and the room are overwritten. The old table has
-// n states and `old` transitions. `ends` says how many entries had been made after each of these, and `few` whether
+// if the guessed order is wrong, the table stays as it is. The lists and the room are overwritten. `few` says whether
 // the guess is made from few entries first.
 pub fn rebuild(
     heads: &mut [u64],
@@ -75,10 +76,7 @@ pub fn rebuild(
     next: &mut [u16],
     classes: &[u8; BYTE_VALUES],
     table: &mut [u8],
-    n: usize,
-    old: usize,
-    ends: &[u16],
-    givers: &[u16; BYTE_VALUES],
+    old: &OldTable<'_>,
     few: bool,
 ) -> bool
     requires holds_packed { HoldsPacked heads.old args.old count }
@@ -87,22 +85,28 @@ pub fn rebuild(
     requires next_len { length next.old ≡ length heads.old }
     requires classes_len { length classes.now ≡ byte_values }
     requires table_len { length table.old ≡ table_bytes }
-    requires n_le_max_states { n ≤ max_states }
-    requires le_max_transitions { old ≤ max_transitions }
-    requires blank_after { BlankAfter table.old old }
+    requires blank_after { BlankAfter table.old old.now.transitions }
     ensures { table.new ≡ cond result (encode (renumbered (class_at classes.now)
         (packed_in heads.old args.old count))) table.old }
 {
     let mut order = no_names();
-    let states = guess(
-        heads, args, count, next, room, spare, &mut order, n, old, ends, givers, few,
-    );
+    let transitions = Transitions { heads, args, count };
+    let states = guess(&transitions, next, room, spare, &mut order, old, few);
     if states > MAX_STATES {
         return false;
     }
     if !settle(heads, args, count, room, spare, &order, states) {
         return false;
     }
-    write_table(table, classes, &order, states, heads, args, count, old);
+    write_table(
+        table,
+        classes,
+        &order,
+        states,
+        heads,
+        args,
+        count,
+        old.transitions,
+    );
     true
 }

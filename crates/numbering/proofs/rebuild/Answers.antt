@@ -7,7 +7,7 @@ use Rattle.numbering.proofs.rebuild.Goals as goal
 pub settle-requires : goal.settle-requires
 settle-requires c = record {
   holds_packed = c.requires.holds_packed;
-  room = c.guess-states.ensures.room_3;
+  room = c.guess-states.ensures.room_2;
   room_len = omega (arith, c.guess-states.auto, c.requires.room_len);
   states_le_max_states = omega
       arith;
@@ -19,7 +19,7 @@ write_table-requires c =
     let s = c.settle.ensures c.if-not-settle.false in
     record {
       table_len = c.requires.table_len;
-      le_max_transitions = c.requires.le_max_transitions;
+      le_max_transitions = c.args.old.now.transitions_few;
       blank_after = c.requires.blank_after;
       states_le_max_states = omega
           arith;
