@@ -61,7 +61,8 @@ fn settle(
         return false;
     }
     sort(heads, args, count, room, spare);
-    sound(heads, args, count, states)
+    let sorted = Transitions { heads, args, count };
+    sound(&sorted, states)
 }
 
 // Writes the table of the automaton that the transitions and the classes of their names give. Returns whether it did:
@@ -98,15 +99,7 @@ pub fn rebuild(
     if !settle(heads, args, count, room, spare, &order, states) {
         return false;
     }
-    write_table(
-        table,
-        classes,
-        &order,
-        states,
-        heads,
-        args,
-        count,
-        old.transitions,
-    );
+    let sorted = Transitions { heads, args, count };
+    write_table(table, classes, &order, states, &sorted, old.transitions);
     true
 }

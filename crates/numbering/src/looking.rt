@@ -6,19 +6,21 @@ ghost use Rattle.format.specs.Format.{byte_values, max_arity, max_states};
 ghost use Rattle.lists.specs.Positions.{up_from};
 ghost use Rattle.marking.specs.Marks.{marked};
 ghost use Rattle.validity.specs.Rules.{Spans};
-ghost use Rattle.packed.specs.Heads.{HoldsPacked, packed_in, place_of};
+ghost use Rattle.packed.specs.Heads.{packed_in, place_of};
 ghost use Rattle.numbering.specs.Steps.{AllSeen, Read, Ruled, Sound};
 
+use crate::lent::Transitions;
 use crate::reading::{arity_of, is_before, out_of, place_of};
-use format::{BYTE_VALUES, wide};
-use validity::{all_seen, greater, leads_to};
+use format::BYTE_VALUES;
+use validity::{all_seen, leads_to};
 
 // Whether each transition comes before the next.
-fn rises(heads: &[u64], args: &[u64], count: usize) -> bool
-    requires { HoldsPacked heads.now args.now count }
-    ensures { result ≡ true → rising (packed_in heads.now args.now count) ≡ true }
+fn rises(transitions: &Transitions<'_>) -> bool
+    ensures { result ≡ true → rising (packed_in transitions.now.heads.now transitions.now.args.now transitions.now.count) ≡ true }
 {
-    for i in 1..count {
+    let heads = transitions.heads;
+    let args = transitions.args;
+    for i in 1..transitions.count {
         if !is_before(heads[i - 1], args[i - 1], heads[i], args[i]) {
             return false;
         }
@@ -33,8 +35,7 @@ fn top_place(args: u64, arity: usize) -> usize
 {
     let mut t = 0;
     for k in 0..arity {
-        let q = place_of(args, k);
-        t = greater(t, q);
+        t = t.max(place_of(args, k));
     }
     t
 }
@@ -42,21 +43,20 @@ fn top_place(args: u64, arity: usize) -> usize
 // Reads transition i. Returns whether every state strictly between its greatest argument and its output has been
 // seen. If so, an output above its arguments is seen too, and its mark is the state after the greatest argument: all
 // states from the mark up to the output have been seen. A lower mark is kept.
-fn read(heads: &[u64], args: &[u64], i: usize, count: usize, seen: &mut [u8; BYTE_VALUES]) -> bool
-    requires holds_packed { HoldsPacked heads.now args.now count }
-    requires i_lt_count { i < count }
+fn read(transitions: &Transitions<'_>, i: usize, seen: &mut [u8; BYTE_VALUES]) -> bool
+    requires i_lt_count { i < transitions.now.count }
     requires seen_len { length seen.old ≡ byte_values }
-    requires passed { Passed (packed_in heads.now args.now i) (marked seen.old) }
+    requires passed { Passed (packed_in transitions.now.heads.now transitions.now.args.now i) (marked seen.old) }
     requires spans { Spans seen.old }
-    ensures { Read heads.now args.now i seen.old seen.new result }
+    ensures { Read transitions.now.heads.now transitions.now.args.now i seen.old seen.new result }
 {
-    let head = heads[i];
+    let head = transitions.heads[i];
     let out = out_of(head);
-    let t = top_place(args[i], arity_of(head));
+    let t = top_place(transitions.args[i], arity_of(head));
     if out <= t {
         return true;
     }
-    if leads_to(wide(seen[out]), t + 1) {
+    if leads_to(seen[out] as usize, t + 1) {
         return true;
     }
     if !all_seen(seen, t + 1, out) {
@@ -84,18 +84,17 @@ fn seen_up_to(seen: &[u8; BYTE_VALUES], low: usize, states: usize) -> usize
 
 // Whether the transitions give each of the numbers by the rule. A transition is skipped if all states up to its
 // output have been seen.
-fn ruled(heads: &[u64], args: &[u64], count: usize, states: usize) -> bool
-    requires holds_packed { HoldsPacked heads.now args.now count }
-    requires states_le_max_states { states ≤ max_states }
-    ensures { result ≡ true → Ruled heads.now args.now count states }
+fn ruled(transitions: &Transitions<'_>, states: usize) -> bool
+    requires { states ≤ max_states }
+    ensures { result ≡ true → Ruled transitions.now.heads.now transitions.now.args.now transitions.now.count states }
 {
     let mut seen = [0u8; BYTE_VALUES];
     let mut low = 0;
-    for i in 0..count {
-        if out_of(heads[i]) <= low {
+    for i in 0..transitions.count {
+        if out_of(transitions.heads[i]) <= low {
             continue;
         }
-        if !read(heads, args, i, count, &mut seen) {
+        if !read(transitions, i, &mut seen) {
             return false;
         }
         low = seen_up_to(&seen, low, states);
@@ -104,13 +103,9 @@ fn ruled(heads: &[u64], args: &[u64], count: usize, states: usize) -> bool
 }
 
 // Whether the transitions rise and are numbered by the rule.
-pub fn sound(heads: &[u64], args: &[u64], count: usize, states: usize) -> bool
-    requires holds_packed { HoldsPacked heads.now args.now count }
-    requires states_le_max_states { states ≤ max_states }
-    ensures { result ≡ true → Sound heads.now args.now count states }
+pub fn sound(transitions: &Transitions<'_>, states: usize) -> bool
+    requires { states ≤ max_states }
+    ensures { result ≡ true → Sound transitions.now.heads.now transitions.now.args.now transitions.now.count states }
 {
-    if !rises(heads, args, count) {
-        return false;
-    }
-    ruled(heads, args, count, states)
+    rises(transitions) && ruled(transitions, states)
 }

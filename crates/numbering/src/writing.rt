@@ -3,9 +3,10 @@ ghost use Rattle.std.specs.Prelude.{◌≡◌, ◌*◌, ◌+◌, ◌<◌, ◌≤
 ghost use Rattle.fields.specs.Entries.{HasFields};
 ghost use Rattle.format.specs.Format.{head_bytes, max_states, max_transitions, table_bytes, transition_bytes};
 ghost use Rattle.minimize.specs.Written.{Ordered, class_byte};
-ghost use Rattle.packed.specs.Heads.{HoldsPacked, Packs, head_arity, head_label, head_out, place_of};
+ghost use Rattle.packed.specs.Heads.{Packs, head_arity, head_label, head_out, place_of};
 ghost use Rattle.numbering.specs.Tables.{BlankAfter, RunPut, TablePut, ZerosBetween};
 
+use crate::lent::Transitions;
 use crate::reading::{arity_of, label_of, out_of, place_of};
 use fields::{blank_entry, put_arg, put_arity, put_label, put_out};
 use format::{BYTE_VALUES, COUNT_AT, HEAD_BYTES, MAX_ARITY, TRANSITION_BYTES};
@@ -27,15 +28,14 @@ fn entry_of(head: u64, args: u64) -> [u8; TRANSITION_BYTES]
     entry
 }
 
-// Writes the first `count` transitions from byte `start` on.
-pub fn write_run(to: &mut [u8], start: usize, heads: &[u64], args: &[u64], count: usize)
+// Writes transitions from byte `start` on.
+pub fn write_run(to: &mut [u8], start: usize, transitions: &Transitions<'_>)
     requires start_le_head_bytes { start ≤ head_bytes }
-    requires count_in_bounds { start + transition_bytes * count ≤ length to.old }
-    requires holds_packed { HoldsPacked heads.now args.now count }
-    ensures { RunPut to.old to.new heads.now args.now start count }
+    requires count_in_bounds { start + transition_bytes * transitions.now.count ≤ length to.old }
+    ensures { RunPut to.old to.new transitions.now.heads.now transitions.now.args.now start transitions.now.count }
 {
-    for i in 0..count {
-        let entry = entry_of(heads[i], args[i]);
+    for i in 0..transitions.count {
+        let entry = entry_of(transitions.heads[i], transitions.args[i]);
         write(to, start + TRANSITION_BYTES * i, entry);
     }
 }
@@ -57,9 +57,7 @@ pub fn write_table(
     classes: &[u8],
     order: &[u8; BYTE_VALUES],
     states: usize,
-    heads: &[u64],
-    args: &[u64],
-    count: usize,
+    transitions: &Transitions<'_>,
     old: usize,
 )
     requires table_len { length table.old ≡ table_bytes }
@@ -67,15 +65,15 @@ pub fn write_table(
     requires blank_after { BlankAfter table.old old }
     requires states_le_max_states { states ≤ max_states }
     requires ordered { Ordered classes.now order.now states }
-    requires holds_packed { HoldsPacked heads.now args.now count }
     ensures { TablePut table.new states (class_byte classes.now order.now states)
-        heads.now args.now count }
+        transitions.now.heads.now transitions.now.args.now transitions.now.count }
 {
+    let count = transitions.count;
     table[0] = states as u8;
     write_classes(table, classes, order, states);
     table[COUNT_AT] = (count / 256) as u8;
     table[COUNT_AT + 1] = (count % 256) as u8;
-    write_run(table, HEAD_BYTES, heads, args, count);
+    write_run(table, HEAD_BYTES, transitions);
     clear_between(
         table,
         HEAD_BYTES + TRANSITION_BYTES * count,

@@ -24,8 +24,10 @@ write_table-requires c =
       states_le_max_states = omega
           arith;
       ordered = record { classed = λ j h. omega (arith, s.names j h, c.requires.classes_len) };
-      holds_packed = s.holds;
     }
+
+pub invariant_of-sorted : goal.invariant_of-sorted
+invariant_of-sorted c = record { holds = (c.settle.ensures c.if-not-settle.false).holds }
 
 pub returns : goal.returns
 returns c =

@@ -29,10 +29,9 @@ sort-requires c =
       room_2 = c.requires.room;
     }
 
-pub sound-requires : goal.sound-requires
-sound-requires c = record {
-  holds_packed = settled-holds (c.renumber.ensures.renumbered c.if-not-renumber.false) c.sort.ensures.picked;
-  states_le_max_states = c.requires.states_le_max_states;
+pub invariant_of-sorted : goal.invariant_of-sorted
+invariant_of-sorted c = record {
+  holds = settled-holds (c.renumber.ensures.renumbered c.if-not-renumber.false) c.sort.ensures.picked;
 }
 
 pub returns : goal.returns

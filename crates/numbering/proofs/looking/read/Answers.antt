@@ -12,13 +12,13 @@ use Rattle.numbering.proofs.looking.read.Goals as goal
 
 pub top_place-t-requires : goal.top_place-t-requires
 top_place-t-requires c =
-    omega (arith, c.arity_of.ensures, (c.requires.holds_packed.each c.args.i c.requires.i_lt_count).narrow)
+    omega (arith, c.arity_of.ensures, (c.args.transitions.now.holds.each c.args.i c.requires.i_lt_count).narrow)
 
 pub returns-then-out-t : goal.returns-then-out-t
 returns-then-out-t c =
-    let t = (c.top_place-t.ensures ∙ ap (λ (n : ℕ). top (map (place_of (get_or c.args.args.now
+    let t = (c.top_place-t.ensures ∙ ap (λ (n : ℕ). top (map (place_of (get_or c.args.transitions.now.args.now
     c.args.i 0)) (up_from 0 n))) c.arity_of.ensures) in
-    read_low c.args.heads.now c.args.args.now c.args.i c.args.seen.now
+    read_low c.args.transitions.now.heads.now c.args.transitions.now.args.now c.args.i c.args.seen.now
     c.requires.passed c.requires.seen_len c.requires.spans (omega (
       arith,
       t,
@@ -27,26 +27,26 @@ returns-then-out-t c =
 
 pub returns-then-leads_to : goal.returns-then-leads_to
 returns-then-leads_to c =
-    let t = (c.top_place-t.ensures ∙ ap (λ (n : ℕ). top (map (place_of (get_or c.args.args.now
+    let t = (c.top_place-t.ensures ∙ ap (λ (n : ℕ). top (map (place_of (get_or c.args.transitions.now.args.now
     c.args.i 0)) (up_from 0 n))) c.arity_of.ensures) in
     let o = c.out_of-out.ensures.value in
-    let m = c.wide.ensures ∙ ap (λ (q : ℕ). get_or c.args.seen.now q 0) o in
+    let m = ap (λ (q : ℕ). get_or c.args.seen.now q 0) o in
     let l = c.leads_to.ensures c.if-leads_to.true in
-    read_known c.args.heads.now c.args.args.now c.args.i c.args.seen.now
+    read_known c.args.transitions.now.heads.now c.args.transitions.now.args.now c.args.i c.args.seen.now
     c.requires.passed c.requires.seen_len c.requires.spans (omega (arith, t, o, c.if-out-t.false))
     (omega (arith, l.0, m)) (omega (arith, l.1, m, t))
 
 pub returns-then-not-all_seen : goal.returns-then-not-all_seen
 returns-then-not-all_seen c =
-    read-broken c.args.heads.now c.args.args.now c.args.i c.args.seen.now
+    read-broken c.args.transitions.now.heads.now c.args.transitions.now.args.now c.args.i c.args.seen.now
     c.requires.passed c.requires.seen_len c.requires.spans
 
 pub returns : goal.returns
 returns c =
-    let t = (c.top_place-t.ensures ∙ ap (λ (n : ℕ). top (map (place_of (get_or c.args.args.now
+    let t = (c.top_place-t.ensures ∙ ap (λ (n : ℕ). top (map (place_of (get_or c.args.transitions.now.args.now
     c.args.i 0)) (up_from 0 n))) c.arity_of.ensures) in
     let o = c.out_of-out.ensures.value in
     let e = sym c.all_seen.ensures ∙ c.if-not-all_seen.false in
-    rw (t, o) (read_next c.args.heads.now c.args.args.now c.args.i c.args.seen.now
+    rw (t, o) (read_next c.args.transitions.now.heads.now c.args.transitions.now.args.now c.args.i c.args.seen.now
     c.requires.passed c.requires.seen_len c.requires.spans (omega (arith, t, o, c.if-out-t.false))
     (omega (arith, o, c.out_of-out.ensures.upper_bound)) (rw (t, o) at e))

@@ -16,7 +16,7 @@ pub loop-i-init : goal.loop-i-init
 loop-i-init c = record {
   low = omega arith;
   size = length-replicate {A = ℕ} byte_values 0;
-  passed = pass-start c.args.heads.now c.args.args.now;
+  passed = pass-start c.args.transitions.now.heads.now c.args.transitions.now.args.now;
   spans = spans-none;
   all_seen = λ q a b. absurd (omega arith);
 }
@@ -25,7 +25,7 @@ pub loop-i-preserved-then-out_of-low : goal.loop-i-preserved-then-out_of-low
 loop-i-preserved-then-out_of-low c = let v = c.loop-i.invariant in record {
   low = v.low;
   size = v.size;
-  passed = pass_below c.args.heads.now c.args.args.now c.loop-i.i c.loop-i.seen v.passed c.loop-i.low v.all_seen
+  passed = pass_below c.args.transitions.now.heads.now c.args.transitions.now.args.now c.loop-i.i c.loop-i.seen v.passed c.loop-i.low v.all_seen
       (omega (arith, c.out_of.ensures.value));
   spans = v.spans;
   all_seen = v.all_seen;
@@ -33,7 +33,6 @@ loop-i-preserved-then-out_of-low c = let v = c.loop-i.invariant in record {
 
 pub read-requires : goal.read-requires
 read-requires c = record {
-  holds_packed = c.requires.holds_packed;
   i_lt_count = omega arith;
   seen_len = c.loop-i.invariant.size;
   passed = c.loop-i.invariant.passed;
@@ -46,7 +45,7 @@ returns-then-not-read c = λ e. absurd (false≢true e)
 pub seen_up_to-low-requires : goal.seen_up_to-low-requires
 seen_up_to-low-requires c = record {
   low_le_states = c.loop-i.invariant.low;
-  states_le_max_states = c.requires.states_le_max_states;
+  states_le_max_states = c.requires;
   all_seen = λ q a b. c.read.ensures.kept q (c.loop-i.invariant.all_seen q a b);
 }
 
@@ -62,7 +61,7 @@ loop-i-preserved c = record {
 pub returns : goal.returns
 returns c =
     λ e. let v = c.loop-i.invariant in
-    let d : c.loop-i.i ≡ c.args.count = omega (arith, c.loop-i.auto) in
-    pass-end c.args.heads.now c.args.args.now c.args.count c.loop-i.seen
-    (subst (λ (n : ℕ). Passed (packed_in c.args.heads.now c.args.args.now n) (marked c.loop-i.seen)) d v.passed)
+    let d : c.loop-i.i ≡ c.args.transitions.now.count = omega (arith, c.loop-i.auto) in
+    pass-end c.args.transitions.now.heads.now c.args.transitions.now.args.now c.args.transitions.now.count c.loop-i.seen
+    (subst (λ (n : ℕ). Passed (packed_in c.args.transitions.now.heads.now c.args.transitions.now.args.now n) (marked c.loop-i.seen)) d v.passed)
     c.args.states (λ q a b. v.all_seen q a (omega (arith, eqb-true c.loop-i.low c.args.states e)))

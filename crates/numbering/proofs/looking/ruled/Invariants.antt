@@ -15,7 +15,7 @@ abbrev pub invariant-loop-i : goal.invariant-loop-i
 invariant-loop-i l = record {
   low : l.low ≤ l.states;
   size : length l.seen ≡ byte_values;
-  passed : Passed (packed_in l.heads l.args l.i) (marked l.seen);
+  passed : Passed (packed_in l.transitions.heads.now l.transitions.args.now l.i) (marked l.seen);
   spans : Spans l.seen;
   all_seen : AllSeen l.seen l.low;
 }

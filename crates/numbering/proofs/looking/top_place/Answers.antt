@@ -1,14 +1,22 @@
 use native.Mathlib.Omega.{arith}
+use mathlib.Core.Path.{◌∙◌, ◌≡◌}
+use Prim.Native.Nat.{ℕ}
+use Rattle.std.proofs.Common.{max}
+use Rattle.std.proofs.lemmas.Bool.Decides.{nat_tests}
+use Rattle.std.specs.Ordering.{nat_cmp, ord_max}
 use Rattle.validity.proofs.Arguments.{top-end, top-next, top_start}
 use Rattle.numbering.proofs.looking.top_place.Goals as goal
+
+-- the library's greater number is the logic's
+greater : (a b : ℕ) → ord_max nat_cmp a b ≡ max a b
+greater a b = grind (arith, nat_tests)
 
 pub loop-k-init : goal.loop-k-init
 loop-k-init c = top_start
 
 pub loop-k-preserved : goal.loop-k-preserved
 loop-k-preserved c =
-    rw (c.greater-t.ensures, c.place_of-q.ensures.value) (top-next c.loop-k.invariant (omega
-    arith))
+    rw (c.max-t.ensures, greater, c.place_of.ensures.value) (top-next c.loop-k.invariant (omega arith))
 
 pub returns : goal.returns
 returns c = top-end c.loop-k.invariant (omega arith)

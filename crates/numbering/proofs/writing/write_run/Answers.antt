@@ -9,7 +9,7 @@ loop-i-init c = (omega arith, run-start _ _ _ _)
 
 pub entry_of-entry-requires : goal.entry_of-entry-requires
 entry_of-entry-requires c =
-    c.requires.holds_packed.each c.loop-i.i (omega arith)
+    c.args.transitions.now.holds.each c.loop-i.i (omega arith)
 
 pub loop-i-preserved : goal.loop-i-preserved
 loop-i-preserved c = (
@@ -19,6 +19,6 @@ loop-i-preserved c = (
 
 pub returns : goal.returns
 returns c =
-    let e : c.loop-i.i ≡ c.args.count = omega (arith, c.loop-i.invariant.0) in
-    subst (RunPut c.args.to.now c.loop-i.to c.args.heads.now c.args.args.now
+    let e : c.loop-i.i ≡ c.args.transitions.now.count = omega (arith, c.loop-i.invariant.0) in
+    subst (RunPut c.args.to.now c.loop-i.to c.args.transitions.now.heads.now c.args.transitions.now.args.now
     c.args.start) e c.loop-i.invariant.1

@@ -4,4 +4,4 @@ use Rattle.numbering.specs.Tables.{RunPut}
 use Rattle.numbering.proofs.writing.write_run.Given as goal
 
 abbrev pub invariant-loop-i : goal.invariant-loop-i
-invariant-loop-i l = (l.i ≤ l.count) × RunPut l.initial.to l.to l.heads l.args l.start l.i
+invariant-loop-i l = (l.i ≤ l.transitions.count) × RunPut l.initial.to l.to l.transitions.heads.now l.transitions.args.now l.start l.i

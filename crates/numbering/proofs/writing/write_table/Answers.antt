@@ -23,7 +23,7 @@ bounds-table c =
       (c.write_classes.ensures.size ∙ length-set
           c.args.table.now 0 c.args.states),
       length-set c.write_classes.new.table 201
-          (c.args.count / 256),
+          (c.args.transitions.now.count / 256),
     )
 
 pub write_run-requires : goal.write_run-requires
@@ -31,21 +31,20 @@ write_run-requires c = record {
   start_le_head_bytes = omega arith;
   count_in_bounds = omega (
     arith,
-    length-set (set c.write_classes.new.table 201 (c.args.count /
-        256)) 202 (c.args.count % 256) ∙ length-set c.write_classes.new.table 201
-        (c.args.count / 256) ∙ c.write_classes.ensures.size ∙ length-set c.args.table.now
+    length-set (set c.write_classes.new.table 201 (c.args.transitions.now.count /
+        256)) 202 (c.args.transitions.now.count % 256) ∙ length-set c.write_classes.new.table 201
+        (c.args.transitions.now.count / 256) ∙ c.write_classes.ensures.size ∙ length-set c.args.table.now
         0 c.args.states ∙ c.requires.table_len,
-    c.requires.holds_packed.few,
-    c.requires.holds_packed.room.few,
+    c.args.transitions.now.holds.few,
+    c.args.transitions.now.holds.room.few,
   );
-  holds_packed = c.requires.holds_packed;
 }
 
 pub clear_between-requires : goal.clear_between-requires
 clear_between-requires c = record {
   table_len = c.write_run.ensures.size ∙ length-set (set c.write_classes.new.table 201
-      (c.args.count / 256)) 202 (c.args.count % 256) ∙ length-set c.write_classes.new.table
-      201 (c.args.count / 256) ∙ c.write_classes.ensures.size ∙ length-set
+      (c.args.transitions.now.count / 256)) 202 (c.args.transitions.now.count % 256) ∙ length-set c.write_classes.new.table
+      201 (c.args.transitions.now.count / 256) ∙ c.write_classes.ensures.size ∙ length-set
       c.args.table.now 0 c.args.states ∙ c.requires.table_len;
   end_le_table_bytes = omega (arith, c.requires.le_max_transitions);
 }
@@ -53,12 +52,12 @@ clear_between-requires c = record {
 pub shape_of-table : goal.shape_of-table
 shape_of-table c =
     c.clear_between.ensures.size ∙ c.write_run.ensures.size ∙ length-set (set
-    c.write_classes.new.table 201 (c.args.count / 256)) 202 (c.args.count % 256) ∙
-    length-set c.write_classes.new.table 201 (c.args.count / 256) ∙
+    c.write_classes.new.table 201 (c.args.transitions.now.count / 256)) 202 (c.args.transitions.now.count % 256) ∙
+    length-set c.write_classes.new.table 201 (c.args.transitions.now.count / 256) ∙
     c.write_classes.ensures.size ∙ length-set c.args.table.now 0 c.args.states
 
 pub returns : goal.returns
 returns c =
     table-put c.args.table.now c.write_classes.new.table c.args.states
-    c.args.count c.args.old (c.args.count / 256) (c.args.count % 256) c.requires.table_len
+    c.args.transitions.now.count c.args.old (c.args.transitions.now.count / 256) (c.args.transitions.now.count % 256) c.requires.table_len
     c.write_classes.ensures c.write_run.ensures c.clear_between.ensures c.requires.blank_after refl refl
