@@ -1,4 +1,4 @@
-// What is lent for reading: the transitions between names, and what is known of the table that they replace.
+// What is lent: the transitions between names, arrays to work in, and what is known of the table that they replace.
 ghost use Rattle.std.specs.Prelude.{◌≤◌};
 ghost use Rattle.format.specs.Format.{max_states, max_transitions};
 ghost use Rattle.packed.specs.Heads.{HoldsPacked};
@@ -12,6 +12,17 @@ pub struct Transitions<'a> {
     pub args: &'a [u64],
     pub count: usize,
     ghost holds: { HoldsPacked heads.now args.now count },
+}
+
+// Arrays to work in: two for the transitions, two of the same length to sort them and for a heap, and one for links
+// between them.
+#[derive(Drop)]
+pub struct Buffers<'a> {
+    pub heads: &'a mut [u64],
+    pub args: &'a mut [u64],
+    pub room: &'a mut [u64],
+    pub spare: &'a mut [u64],
+    pub next: &'a mut [u16],
 }
 
 // The old table has so many states and transitions. `ends` says how many entries had been made after each of its

@@ -24,7 +24,7 @@ ghost use Rattle.numbering.specs.Steps.{Settled};
 ghost use Rattle.numbering.specs.Tables.{BlankAfter};
 
 pub use crate::givers::givers_of;
-pub use crate::lent::{OldTable, Transitions};
+pub use crate::lent::{Buffers, OldTable, Transitions};
 use crate::looking::sound;
 use crate::order::guess;
 use crate::renumbering::{number_names, renumber};
@@ -49,7 +49,6 @@ fn settle(
     requires room { Room room.old spare.old }
     requires room_len { length room.old ≡ length heads.old }
     requires states_le_max_states { states ≤ max_states }
-    requires order_len { length order.now ≡ byte_values }
     ensures { result ≡ true → Settled heads.old args.old count order.now states
         heads.new args.new }
 {
@@ -65,31 +64,38 @@ fn settle(
     sound(&sorted, states)
 }
 
-// Writes the table of the automaton that the transitions and the classes of their names give. Returns whether it did:
-// if the guessed order is wrong, the table stays as it is. The lists and the room are overwritten. `few` says whether
-// the guess is made from few entries first.
+// Writes the table of the automaton that the first `count` transitions and the classes of their names give. Returns
+// whether it did: if the guessed order is wrong, the table stays as it is. The arrays are overwritten. `few` says
+// whether the guess is made from few transitions first.
 pub fn rebuild(
-    heads: &mut [u64],
-    args: &mut [u64],
+    buffers: Buffers<'_>,
     count: usize,
-    room: &mut [u64],
-    spare: &mut [u64],
-    next: &mut [u16],
     classes: &[u8; BYTE_VALUES],
     table: &mut [u8],
     old: &OldTable<'_>,
     few: bool,
 ) -> bool
-    requires holds_packed { HoldsPacked heads.old args.old count }
-    requires room { Room room.old spare.old }
-    requires room_len { length room.old ≡ length heads.old }
-    requires next_len { length next.old ≡ length heads.old }
-    requires classes_len { length classes.now ≡ byte_values }
+    requires holds_packed { HoldsPacked buffers.heads.now buffers.args.now count }
+    requires room { Room buffers.room.now buffers.spare.now }
+    requires room_len { length buffers.room.now ≡ length buffers.heads.now }
+    requires next_len { length buffers.next.now ≡ length buffers.heads.now }
     requires table_len { length table.old ≡ table_bytes }
     requires blank_after { BlankAfter table.old old.now.transitions }
-    ensures { table.new ≡ cond result (encode (renumbered (class_at classes.now)
-        (packed_in heads.old args.old count))) table.old }
+    ensures table_after { table.new ≡ cond result (encode (renumbered (class_at classes.now)
+        (packed_in buffers.entry.heads.now buffers.entry.args.now count))) table.old }
+    ensures heads_len { length buffers.exit.0.now ≡ length buffers.entry.heads.now }
+    ensures args_len { length buffers.exit.1.0.now ≡ length buffers.entry.args.now }
+    ensures room_len_2 { length buffers.exit.1.1.0.now ≡ length buffers.entry.room.now }
+    ensures spare_len { length buffers.exit.1.1.1.0.now ≡ length buffers.entry.spare.now }
+    ensures next_len_2 { length buffers.exit.1.1.1.1.0.now ≡ length buffers.entry.next.now }
 {
+    let Buffers {
+        heads,
+        args,
+        room,
+        spare,
+        next,
+    } = buffers;
     let mut order = no_names();
     let transitions = Transitions { heads, args, count };
     let states = guess(&transitions, next, room, spare, &mut order, old, few);

@@ -45,7 +45,6 @@ fn top_place(args: u64, arity: usize) -> usize
 // states from the mark up to the output have been seen. A lower mark is kept.
 fn read(transitions: &Transitions<'_>, i: usize, seen: &mut [u8; BYTE_VALUES]) -> bool
     requires i_lt_count { i < transitions.now.count }
-    requires seen_len { length seen.old ≡ byte_values }
     requires passed { Passed (packed_in transitions.now.heads.now transitions.now.args.now i) (marked seen.old) }
     requires spans { Spans seen.old }
     ensures { Read transitions.now.heads.now transitions.now.args.now i seen.old seen.new result }

@@ -18,7 +18,6 @@ pub fn number_names(
     numbers: &mut [u8; BYTE_VALUES],
 ) -> bool
     requires states_le_max_states { states ≤ max_states }
-    requires order_len { length order.now ≡ byte_values }
     requires numbers_value { numbers.old ≡ zeros byte_values }
     ensures { result ≡ true → Numbered order.now states numbers.new }
 {

@@ -2,6 +2,7 @@
 use mathlib.Core.Bool.{false≢true}
 use Rattle.numbering.proofs.Rebuilt.{numbered-bytes, settled, settled-holds}
 use native.Mathlib.Omega.{arith}
+use Rattle.std.proofs.Common.{rules}
 use Rattle.numbering.proofs.settle.Goals as goal
 
 pub returns-then-not-number_names : goal.returns-then-not-number_names
@@ -13,7 +14,7 @@ renumber-requires c =
     record {
       holds_packed = c.requires.holds_packed;
       numbers_value = n.zero;
-      all_bytes = numbered-bytes n c.requires.order_len c.requires.states_le_max_states;
+      all_bytes = numbered-bytes n (search rules) c.requires.states_le_max_states;
     }
 
 pub returns-then-not-renumber : goal.returns-then-not-renumber
@@ -36,6 +37,6 @@ invariant_of-sorted c = record {
 
 pub returns : goal.returns
 returns c =
-    λ e. settled c.requires.order_len c.requires.states_le_max_states (c.number_names.ensures
+    λ e. settled (search rules) c.requires.states_le_max_states (c.number_names.ensures
     c.if-not-number_names.false) (c.renumber.ensures.renumbered c.if-not-renumber.false)
     c.sort.ensures.picked (c.sound.ensures e)

@@ -1,5 +1,6 @@
 -- `numbering::looking::read` meets its contract: each return is a lemma about the pass.
 use native.Mathlib.Omega.{arith}
+use Rattle.std.proofs.Common.{rules}
 use mathlib.Core.List.{map}
 use mathlib.Core.Path.{◌∙◌, ap, sym}
 use Prim.Native.Nat.{ℕ}
@@ -19,7 +20,7 @@ returns-then-out-t c =
     let t = (c.top_place-t.ensures ∙ ap (λ (n : ℕ). top (map (place_of (get_or c.args.transitions.now.args.now
     c.args.i 0)) (up_from 0 n))) c.arity_of.ensures) in
     read_low c.args.transitions.now.heads.now c.args.transitions.now.args.now c.args.i c.args.seen.now
-    c.requires.passed c.requires.seen_len c.requires.spans (omega (
+    c.requires.passed (search rules) c.requires.spans (omega (
       arith,
       t,
       c.out_of-out.ensures.value,
@@ -33,13 +34,13 @@ returns-then-leads_to c =
     let m = ap (λ (q : ℕ). get_or c.args.seen.now q 0) o in
     let l = c.leads_to.ensures c.if-leads_to.true in
     read_known c.args.transitions.now.heads.now c.args.transitions.now.args.now c.args.i c.args.seen.now
-    c.requires.passed c.requires.seen_len c.requires.spans (omega (arith, t, o, c.if-out-t.false))
+    c.requires.passed (search rules) c.requires.spans (omega (arith, t, o, c.if-out-t.false))
     (omega (arith, l.0, m)) (omega (arith, l.1, m, t))
 
 pub returns-then-not-all_seen : goal.returns-then-not-all_seen
 returns-then-not-all_seen c =
     read-broken c.args.transitions.now.heads.now c.args.transitions.now.args.now c.args.i c.args.seen.now
-    c.requires.passed c.requires.seen_len c.requires.spans
+    c.requires.passed (search rules) c.requires.spans
 
 pub returns : goal.returns
 returns c =
@@ -48,5 +49,5 @@ returns c =
     let o = c.out_of-out.ensures.value in
     let e = sym c.all_seen.ensures ∙ c.if-not-all_seen.false in
     rw (t, o) (read_next c.args.transitions.now.heads.now c.args.transitions.now.args.now c.args.i c.args.seen.now
-    c.requires.passed c.requires.seen_len c.requires.spans (omega (arith, t, o, c.if-out-t.false))
+    c.requires.passed (search rules) c.requires.spans (omega (arith, t, o, c.if-out-t.false))
     (omega (arith, o, c.out_of-out.ensures.upper_bound)) (rw (t, o) at e))

@@ -34,7 +34,6 @@ loop-i-preserved-then-out_of-low c = let v = c.loop-i.invariant in record {
 pub read-requires : goal.read-requires
 read-requires c = record {
   i_lt_count = omega arith;
-  seen_len = c.loop-i.invariant.size;
   passed = c.loop-i.invariant.passed;
   spans = c.loop-i.invariant.spans;
 }

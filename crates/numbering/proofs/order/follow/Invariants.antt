@@ -10,6 +10,5 @@ abbrev pub invariant-loop : goal.invariant-loop
 invariant-loop l = record {
   size : l.size ≤ length l.room;
   states : l.states ≤ l.outputs;
-  order : length l.order ≡ byte_values;
   room : Room l.room l.spare;
 }

@@ -1,4 +1,5 @@
 use native.Mathlib.Omega.{arith}
+use Rattle.std.proofs.Common.{rules}
 use mathlib.Core.Bool.{false≢true}
 use mathlib.Core.Path.{◌≡◌, refl, subst}
 use Rattle.numbering.specs.Steps.{Numbered}
@@ -16,7 +17,7 @@ returns-then-numbers-q-ne0 c = λ e. absurd (false≢true e)
 
 pub loop-k-preserved : goal.loop-k-preserved
 loop-k-preserved c =
-    numbered_next c.loop-k.invariant c.requires.order_len (omega arith) refl
+    numbered_next c.loop-k.invariant (search rules) (omega arith) refl
     (omega arith) c.if-q-eq0.false c.if-numbers-q-ne0.false
 
 pub returns : goal.returns
