@@ -1,10 +1,11 @@
 -- What `read_form` and `close_line` return and what their calls ask, each as a law that a search finds.
+use Rattle.std.specs.Prelude.{Err, Ok, Result}
 use Rattle.std.proofs.Common.{◌≡◌, ℕ, zero, suc, ◌+◌, ◌-◌, ◌<◌, ◌≤◌, true, false, cond, eqb, ◌⊎◌, List, [], ◌∷◌, ◌++◌, length, get_or, drop, replicate, refl, ap, ◌∙◌, subst, inl, inr, add-zero, zero-add, arith, length-append, drop_of_length-le, eq-eqb, ne_eqb}
 use native.Mathlib.Nat.{sub-zero}
 use lib.ListN.{length-replicate}
 use lib.Seq.{length-sets, sets, sets-eq}
 use Rattle.format.specs.Format.{listing_bytes, max_line}
-use Rattle.text.specs.Clauses.{FormRead, LineEnd, NoTree, ReaderAt, TreeRead, TreeText, read_from}
+use Rattle.text.specs.Clauses.{FormRead, LineEnd, ReaderAt, TreeRead, TreeText, read_from}
 use Rattle.text.specs.Clauses.{shortest_head}
 use Rattle.text.specs.Columns.{Ahead, OnLine, advanced, line_start}
 use Rattle.text.specs.Grammar.{close_bracket, open_bracket, tree_text}
@@ -12,10 +13,7 @@ use Rattle.text.specs.Outcome.{no_listing, padded}
 use Rattle.text.specs.Reader.{Open, agreed, bad, ending, expecting, line_read, next, read_form, scan, stuck}
 use Rattle.text.specs.Reader.{tree_read, whole}
 use Rattle.text.specs.declared.cursor.Cursor.{Cursor}
-use Rattle.text.specs.declared.FormParsed.{FormParsed}
-use Rattle.text.specs.declared.FormParsed.TheVariants.{Broken, Whole}
-use Rattle.text.specs.declared.TreesRead.{TreesRead}
-use Rattle.text.specs.declared.TreesRead.TheVariants.{Bad, Trees}
+use Rattle.text.specs.declared.Trees.{Trees}
 use Rattle.trees.specs.Listing.{listing}
 use Rattle.trees.specs.Tree.{Tree}
 use Rattle.lists.proofs.Tests.{test}
@@ -30,12 +28,12 @@ use Rattle.text.proofs.Text.{scan-tree}
 -- ---- the end of a line
 
 module _ (s : List ℕ) (c : Cursor) (u : ℕ) (o : OnLine s c) where
-  pub line-cut : length s ≤ c.place → LineEnd s c u (Broken c)
+  pub line-cut : length s ≤ c.place → LineEnd s c u (Err c)
   unfolding LineEnd ending
   line-cut h = λ t. read-end o h (tree_read t) (λ n. refl)
 
   module _ (h : c.place < length s) where
-    pub line-unclosed : (get_or s c.place 0 ≡ close_bracket → ⊥) → LineEnd s c u (Broken c)
+    pub line-unclosed : (get_or s c.place 0 ≡ close_bracket → ⊥) → LineEnd s c u (Err c)
     unfolding LineEnd next
     line-unclosed k = λ t. read-stuck o h (tree_read t) (rw (ne_eqb (get_or s c.place 0) close_bracket k))
 
@@ -50,11 +48,11 @@ module _ (s : List ℕ) (c : Cursor) (u : ℕ) (o : OnLine s c) where
       unfolding next
       closed t = read_byte o h (tree_read t) past ∙ rw (eq-eqb (get_or s c.place 0) close_bracket k)
 
-      pub line-more : d.place < length s → LineEnd s c u (Broken d)
+      pub line-more : d.place < length s → LineEnd s c u (Err d)
       unfolding LineEnd next
       line-more g = λ t. closed t ∙ read-stuck past-on-line g (line_read t) refl
 
-      pub line-closed : length s ≤ d.place → LineEnd s c u (Whole u)
+      pub line-closed : length s ≤ d.place → LineEnd s c u (Ok u)
       unfolding LineEnd scan ending
       line-closed g = (refl, λ t. closed t ∙ rw (drop_of_length-le s {i = d.place} g))
 
@@ -102,7 +100,7 @@ module _ (w s : List ℕ) (n : length s ≤ max_line) (k : ℕ) (a : k ≡ agree
   agreed-ahead =
       ahead (start-on-line s n) k d (f ∙ ap (λ (x : Cursor). advanced x k) e) (omega (arith, (agreed-within s w).0))
 
-  pub form-headless : (l : List ℕ) → k < length w → length l ≡ listing_bytes → FormRead w s l (Broken d)
+  pub form-headless : (l : List ℕ) → k < length w → length l ≡ listing_bytes → FormRead w s l (Err d)
   unfolding read_form FormRead
   form-headless l h z =
       let p : 1 + length s ≡ suc (length s) = omega arith in
@@ -129,17 +127,21 @@ module _ (w s : List ℕ) (n : length s ≤ max_line) (k : ℕ) (a : k ≡ agree
       pub form-ready : ReaderAt s d l 0
       form-ready = record { line = head-on-line; size = ap length c ∙ length-blank; room = omega arith }
 
-      module _ (m : List ℕ) (r : TreesRead) (x : TreeRead s d l 0 m r) where
-        pub form-refused : (g : Cursor) → r ≡ Bad g → FormRead w s m (Broken g)
+      module _ (m : List ℕ) where
+        pub form-refused : (g : Cursor) → TreeRead s d l 0 m (Err g) → FormRead w s m (Err g)
         unfolding FormRead TreeRead
-        form-refused g z =
-            let v : NoTree s d l m g = rw z at x in
-            (head_read ∙ v.refused [], v.size ∙ form-ready.size)
+        form-refused g v = (head_read ∙ v.refused [], v.size ∙ form-ready.size)
 
-        module _ (j : ℕ) (g : Cursor) (u : ℕ) (z : r ≡ Trees j g u) where
+        module _ (o : Trees) (x : TreeRead s d l 0 m (Ok o)) where
+          abbrev pub g : Cursor
+          g = o.end
+
+          abbrev pub u : ℕ
+          u = o.filled
+
           form-tree : TreeText s d no_listing 0 m g u
           unfolding TreeRead
-          form-tree = subst (λ y. TreeText s d y 0 m g u) c (rw z at x)
+          form-tree = subst (λ y. TreeText s d y 0 m g u) c x
 
           pub form-tree-on-line : OnLine s g
           form-tree-on-line = (tree-bounds head-on-line form-tree).line
@@ -151,9 +153,9 @@ module _ (w s : List ℕ) (n : length s ≤ max_line) (k : ℕ) (a : k ≡ agree
               read-on head-on-line (tree_text t) (expecting (open_bracket ∷ []) []) (tree_read t) form-tree.text
               form-tree.after (λ i. scan-tree t (drop g.place s) i [] form-tree.labels)
 
-          pub form-closed : shortest_head ≤ length w → (q : FormParsed) → LineEnd s g u q → FormRead w s m q
+          pub form-closed : shortest_head ≤ length w → (q : Result ℕ Cursor) → LineEnd s g u q → FormRead w s m q
           unfolding FormRead LineEnd
-          form-closed i (Whole v) (p, y) =
+          form-closed i (Ok v) (p, y) =
               let t = form-tree.tree in
               let o : read_form w s ≡ whole t = after-tree ∙ y t in
               let q = ap length (whole-form w s t o).0 ∙ length-append w (tree_text t ++ (close_bracket ∷ [])) in
@@ -161,7 +163,7 @@ module _ (w s : List ℕ) (n : length s ≤ max_line) (k : ℕ) (a : k ≡ agree
               let a' = tree-size t in
               let p' : length (listing t) ≤ listing_bytes = omega (arith, q, z', a'.listed, a'.text) in
               (t, o, p ∙ form-tree.end ∙ zero-add (length (listing t)), form-tree.written ∙ sets-blank (listing t) p')
-          form-closed i (Broken v) y = (
+          form-closed i (Err v) y = (
             after-tree ∙ y form-tree.tree,
             ap length form-tree.written ∙ length-sets no_listing 0 (listing form-tree.tree) ∙ length-blank,
           )

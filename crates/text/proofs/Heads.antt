@@ -1,5 +1,5 @@
--- What `read_label`, `agreeing` and `clear` return.
-use Rattle.std.proofs.Common.{◌≡◌, ℕ, suc, ◌+◌, ◌-◌, ◌*◌, ◌<◌, ◌≤◌, Bool, true, false, cond, eqb, List, [], ◌∷◌, length, get_or, drop, sym, refl, ap, ◌∙◌, add-one, arith, length-drop, drop-cons, take-suc, w16, Fits, eq-eqb, ne_eqb}
+-- What `read_label` and `agreeing` return.
+use Rattle.std.proofs.Common.{◌≡◌, ℕ, suc, ◌+◌, ◌-◌, ◌*◌, ◌<◌, ◌≤◌, Bool, true, false, cond, eqb, min, List, [], ◌∷◌, length, get_or, drop, sym, refl, ap, ◌∙◌, add-one, arith, drop-cons, take-suc, w16, Fits, eq-eqb, ne_eqb}
 use lib.ListN.{get_or-eq_default, length-replicate}
 use Rattle.format.specs.Format.{listing_bytes}
 use Rattle.text.specs.Clauses.{LabelRead, LabelTo}
@@ -7,20 +7,20 @@ use Rattle.lists.specs.Decimal.{digit}
 use Rattle.text.specs.Grammar.{label_text}
 use Rattle.text.specs.Outcome.{no_listing}
 use Rattle.text.specs.Reader.{agreed, extends, is_digit}
-use Rattle.text.specs.declared.Label.TheVariants.{Nothing, Number}
-use Rattle.lists.proofs.Clearing.{ClearedTo, cleared-end}
+use Rattle.std.specs.Prelude.{None, Some}
+use Rattle.text.proofs.Agreement.{agreed-within}
 use Rattle.text.proofs.Labels.{Extends, digit-bounds, extends-true, label-digit, label-extended}
 
 -- ---- labels: each law is what a search finds for a need of `read_label`
 
-pub label-absent : (s : List ℕ) → length s < 1 → LabelRead s Nothing
+pub label-absent : (s : List ℕ) → length s < 1 → LabelRead s None
 unfolding LabelRead
 label-absent [] h = refl
 label-absent (b ∷ s) h = absurd (omega arith)
 
 -- r is what the test of the first byte returned
 module _ (s : List ℕ) (r : Bool) (e : r ≡ is_digit (get_or s 0 0)) where
-  pub label-other : r ≡ false → LabelRead s Nothing
+  pub label-other : r ≡ false → LabelRead s None
   unfolding LabelRead
   label-other n = sym e ∙ n
 
@@ -40,7 +40,7 @@ module _ (s : List ℕ) (r : Bool) (e : r ≡ is_digit (get_or s 0 0)) where
 
 -- r is what the test of byte i returned, after the label a
 module _ (s : List ℕ) (i a : ℕ) (r : Bool) (e : r ≡ extends a (get_or s i 0)) where
-  pub label-stopped : LabelTo s i a → r ≡ false → LabelRead s (Number a i)
+  pub label-stopped : LabelTo s i a → r ≡ false → LabelRead s (Some (record { value = a; len = i }))
   unfolding LabelRead
   label-stopped x n = (x, sym e ∙ n)
 
@@ -67,9 +67,12 @@ module _ (s : List ℕ) (i a : ℕ) (r : Bool) (e : r ≡ extends a (get_or s i 
             text = rw (v, add-one i, take-suc s i 0 h, x.text) (sym (label-extended a (get_or s i 0) more));
           }
 
-pub label-last : (s : List ℕ) (i a : ℕ) → LabelTo s i a → length s ≤ i → LabelRead s (Number a i)
+pub label-last : (s : List ℕ) (i a : ℕ) → LabelTo s i a → length s ≤ i →
+    LabelRead s (Some (record { value = a; len = length s }))
 unfolding LabelRead
-label-last s i a x h = (x, rw (get_or-eq_default s 0 h))
+label-last s i a x h =
+    let e : i ≡ length s = omega (arith, x.within) in
+    (rw e at x, rw (get_or-eq_default s 0 {n = length s} (omega arith)))
 
 -- ---- heads
 
@@ -81,23 +84,10 @@ pub record AgreedFrom (s w : List ℕ) (i : ℕ) : Type 0 where
 pub agreed-start : (s w : List ℕ) → AgreedFrom s w 0
 agreed-start s w = record { within = (omega arith, omega arith); left = omega arith }
 
-agreed-none : (s w : List ℕ) → length s < 1 → agreed s w ≡ 0
-unfolding agreed
-agreed-none [] w h = refl
-agreed-none (b ∷ s) w h = absurd (omega arith)
-
-agreed-all : (s w : List ℕ) → length w < 1 → agreed s w ≡ 0
-unfolding agreed
-agreed-all [] w h = refl
-agreed-all (b ∷ s) [] h = refl
-agreed-all (b ∷ s) (v ∷ w) h = absurd (omega arith)
-
 module _ (s w : List ℕ) (i : ℕ) (x : AgreedFrom s w i) where
-  pub agreed-short : length s ≤ i → i ≡ agreed s w
-  agreed-short h = omega (arith, x.left, agreed-none (drop i s) (drop i w) (rw (length-drop i s) (omega arith)))
-
-  pub agreed-end : length w ≤ i → i ≡ agreed s w
-  agreed-end h = omega (arith, x.left, agreed-all (drop i s) (drop i w) (rw (length-drop i w) (omega arith)))
+  -- one of the two has no further byte
+  pub agreed-end : (n : ℕ) → n ≡ min (length s) (length w) → n ≤ i → n ≡ agreed s w
+  agreed-end n e h = omega (arith, x.within, x.left, agreed-within s w)
 
   agreed-step : i < length s → i < length w → agreed (drop i s) (drop i w) ≡
       cond (eqb (get_or s i 0) (get_or w i 0)) (suc (agreed (drop (suc i) s) (drop (suc i) w))) 0
@@ -116,10 +106,6 @@ module _ (s w : List ℕ) (i : ℕ) (x : AgreedFrom s w i) where
       record { within = (omega arith, omega arith); left = rw (add-one i) (omega (arith, x.left)) }
 
 -- ---- a table of zeros
-
-pub blank-cleared : {l : List ℕ} {i : ℕ} → ClearedTo listing_bytes l i → listing_bytes ≤ i → l ≡ no_listing
-unfolding no_listing
-blank-cleared x h = cleared-end x h
 
 pub length-blank : length no_listing ≡ listing_bytes
 unfolding no_listing

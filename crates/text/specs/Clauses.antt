@@ -1,5 +1,5 @@
 -- The contracts of the functions within the reader: what they return, in terms of the grammar and of the scan.
-use Rattle.std.specs.Prelude.{◌≡◌, ℕ, suc, ◌+◌, ◌*◌, ◌≤◌, false, List, [], ◌∷◌, ◌++◌, length, take, drop, slice_index}
+use Rattle.std.specs.Prelude.{Err, None, Ok, Option, Result, Some, ◌≡◌, ℕ, suc, ◌+◌, ◌*◌, ◌≤◌, false, List, [], ◌∷◌, ◌++◌, length, take, drop, slice_index}
 use Rattle.std.proofs.lemmas.List.Edits.{sets}
 use Rattle.format.specs.Format.{listing_bytes, max_label, node_bytes}
 use Rattle.text.specs.Columns.{Ahead, OnLine}
@@ -9,12 +9,8 @@ use Rattle.text.specs.Outcome.{padded}
 use Rattle.text.specs.Reader.{Open, Place, Reading, among, bad, ending, expecting, extends, is_digit}
 use Rattle.text.specs.Reader.{form, read_form, read_total, scan, tree_read, whole}
 use Rattle.text.specs.declared.cursor.Cursor.{Cursor}
-use Rattle.text.specs.declared.FormParsed.{FormParsed}
-use Rattle.text.specs.declared.FormParsed.TheVariants.{Broken, Whole}
 use Rattle.text.specs.declared.Label.{Label}
-use Rattle.text.specs.declared.Label.TheVariants.{Nothing, Number}
-use Rattle.text.specs.declared.TreesRead.{TreesRead}
-use Rattle.text.specs.declared.TreesRead.TheVariants.{Bad, Trees}
+use Rattle.text.specs.declared.Trees.{Trees}
 use Rattle.trees.specs.Listing.{listing, listings}
 use Rattle.trees.specs.Tree.{Forest, Tree, count}
 
@@ -30,9 +26,9 @@ pub record LabelTo (s : List ℕ) (i a : ℕ) : Type 0 where
   pub text : take i s ≡ label_text a
 
 -- the longest label that s starts with, or that it starts with none
-unfoldable pub LabelRead : List ℕ → Label → Type 0
-LabelRead s (Number a i) = LabelTo s i a × (extends a (slice_index s i) ≡ false)
-LabelRead s Nothing = is_digit (slice_index s 0) ≡ false
+unfoldable pub LabelRead : List ℕ → Option Label → Type 0
+LabelRead s (Some a) = LabelTo s a.len a.value × (extends a.value (slice_index s a.len) ≡ false)
+LabelRead s None = is_digit (slice_index s 0) ≡ false
 
 -- a reader's cursor in the line s, and the table l of which a place rises with the cursor
 pub record ReaderAt (s : List ℕ) (c : Cursor) (l : List ℕ) (at : ℕ) : Type 0 where
@@ -74,25 +70,25 @@ pub record NoChildren (s : List ℕ) (c : Cursor) (l m : List ℕ) (d : Cursor) 
   pub refused : (a : ℕ) (f : Forest) (os : List Open) → read_from s c (among a f os) ≡ bad d.column
   pub size : length m ≡ length l
 
-unfoldable pub TreeRead : List ℕ → Cursor → List ℕ → ℕ → List ℕ → TreesRead → Type 0
-TreeRead s c l at m (Trees k d u) = TreeText s c l at m d u
-TreeRead s c l at m (Bad d) = NoTree s c l m d
+unfoldable pub TreeRead : List ℕ → Cursor → List ℕ → ℕ → List ℕ → Result Trees Cursor → Type 0
+TreeRead s c l at m (Ok r) = TreeText s c l at m r.end r.filled
+TreeRead s c l at m (Err d) = NoTree s c l m d
 
-unfoldable pub ChildrenRead : List ℕ → Cursor → List ℕ → ℕ → List ℕ → TreesRead → Type 0
-ChildrenRead s c l at m (Trees k d u) = ChildrenText s c l at m k d u
-ChildrenRead s c l at m (Bad d) = NoChildren s c l m d
+unfoldable pub ChildrenRead : List ℕ → Cursor → List ℕ → ℕ → List ℕ → Result Trees Cursor → Type 0
+ChildrenRead s c l at m (Ok r) = ChildrenText s c l at m r.count r.end r.filled
+ChildrenRead s c l at m (Err d) = NoChildren s c l m d
 
 -- how a line is read from the cursor c after its tree, which has a listing of u bytes
-unfoldable pub LineEnd : List ℕ → Cursor → ℕ → FormParsed → Type 0
-LineEnd s c u (Whole n) = (n ≡ u) × ((t : Tree) → read_from s c (tree_read t) ≡ whole t)
-LineEnd s c u (Broken d) = (t : Tree) → read_from s c (tree_read t) ≡ bad d.column
+unfoldable pub LineEnd : List ℕ → Cursor → ℕ → Result ℕ Cursor → Type 0
+LineEnd s c u (Ok n) = (n ≡ u) × ((t : Tree) → read_from s c (tree_read t) ≡ whole t)
+LineEnd s c u (Err d) = (t : Tree) → read_from s c (tree_read t) ≡ bad d.column
 
 -- the reading of a line with the bytes w before its tree
-unfoldable pub FormRead : List ℕ → List ℕ → List ℕ → FormParsed → Type 0
-FormRead w s m (Whole n) = (t : Tree) × (read_form w s ≡ whole t) × (n ≡ length (listing t)) × (m ≡ padded (listing t))
-FormRead w s m (Broken d) = (read_form w s ≡ bad d.column) × (length m ≡ listing_bytes)
+unfoldable pub FormRead : List ℕ → List ℕ → List ℕ → Result ℕ Cursor → Type 0
+FormRead w s m (Ok n) = (t : Tree) × (read_form w s ≡ whole t) × (n ≡ length (listing t)) × (m ≡ padded (listing t))
+FormRead w s m (Err d) = (read_form w s ≡ bad d.column) × (length m ≡ listing_bytes)
 
 -- the reading of a line that is to be (total), which has no listing
-unfoldable pub TotalRead : List ℕ → FormParsed → Type 0
-TotalRead s (Whole n) = (s ≡ total_text) × (n ≡ 0)
-TotalRead s (Broken d) = read_total s ≡ form d.column
+unfoldable pub TotalRead : List ℕ → Result (Unit {0}) Cursor → Type 0
+TotalRead s (Ok u) = s ≡ total_text
+TotalRead s (Err d) = read_total s ≡ form d.column

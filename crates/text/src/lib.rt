@@ -12,61 +12,53 @@ ghost use Rattle.text.specs.Columns.{OnLine};
 ghost use Rattle.text.specs.Outcome.{no_listing, listed, parsed};
 ghost use Rattle.text.specs.Reader.{agreed, extends, is_digit, read_line};
 
-use cursor::{Cursor, further, start, stepped};
+use cursor::Cursor;
 use format::{LABEL_BYTES, LISTING_BYTES, MAX_LABEL, MAX_LINE, NODE_BYTES, label_high, label_low};
 
 mod cursor; // cursor.rt: a place in a line and its column
 
-const OPEN: u8 = 40;
+const OPEN: u8 = b'(';
 
-const CLOSE: u8 = 41;
+const CLOSE: u8 = b')';
 
-const SPACE: u8 = 32;
+const SPACE: u8 = b' ';
 
-const ZERO: u8 = 48;
-
-const NINE: u8 = 57;
-
-// What a line is: a command with the length of its tree's listing, "(total)", malformed from a column on, or too long.
-#[derive(Drop)]
-pub enum Parsed {
+// What a line asks for, with the length of its tree's listing.
+#[derive(Clone, Copy, PartialEq, Eq)]
+pub enum Command {
     Add { len: usize },
     Drop { len: usize },
     Ask { len: usize },
     Total,
+}
+
+// Why a line is no command: malformed from a column on, or too long.
+#[derive(Clone, Copy, PartialEq, Eq)]
+pub enum Malformed {
     Form { column: usize },
     Long,
 }
 
 // A label and its number of digits.
-#[derive(Drop)]
-enum Label {
-    Number { value: u16, len: usize },
-    Nothing,
+#[derive(Clone, Copy)]
+struct Label {
+    value: u16,
+    len: usize,
 }
 
-// Trees in a row: how many, the cursor after them and the byte after their listings; or the cursor at the first byte
-// that is not allowed.
-#[derive(Drop)]
-enum TreesRead {
-    Trees(u8, Cursor, usize),
-    Bad(Cursor),
-}
-
-// One form of a line: the bytes of its tree's listing, or the cursor at the first byte that is not allowed.
-#[derive(Drop)]
-enum FormParsed {
-    Whole { len: usize },
-    Broken { at: Cursor },
+// Trees in a row: how many, the cursor after them and the byte after their listings. Where they are not read, there is
+// the cursor at the first byte that is not allowed.
+#[derive(Clone, Copy)]
+struct Trees {
+    count: u8,
+    end: Cursor,
+    filled: usize,
 }
 
 fn is_digit(b: u8) -> bool
     ensures { result ≡ is_digit b }
 {
-    if b < ZERO {
-        return false;
-    }
-    b <= NINE
+    b.is_ascii_digit()
 }
 
 // The number that a digit stands for.
@@ -74,7 +66,7 @@ fn digit_value(b: u8) -> u16
     requires { digit 0 ≤ b }
     ensures { result ≡ b - digit 0 }
 {
-    (b - ZERO) as u16
+    (b - b'0') as u16
 }
 
 // Whether a label may go on with this byte.
@@ -91,25 +83,26 @@ fn extends(value: u16, b: u8) -> bool
 }
 
 // Reads the longest label that s starts with.
-fn read_label(s: &[u8]) -> Label
+fn read_label(s: &[u8]) -> Option<Label>
     ensures { LabelRead s.now result }
 {
-    if s.len() < 1 {
-        return Label::Nothing;
+    if s.is_empty() {
+        return None;
     }
     if !is_digit(s[0]) {
-        return Label::Nothing;
+        return None;
     }
     let mut value = digit_value(s[0]);
-    let mut i = 1;
-    while i < s.len() {
+    for i in 1..s.len() {
         if !extends(value, s[i]) {
-            return Label::Number { value, len: i };
+            return Some(Label { value, len: i });
         }
         value = 10 * value + digit_value(s[i]);
-        i += 1;
     }
-    Label::Number { value, len: i }
+    Some(Label {
+        value,
+        len: s.len(),
+    })
 }
 
 // Stores a byte, if there is room for it.
@@ -135,166 +128,166 @@ fn put_label(listing: &mut [u8; LISTING_BYTES], at: usize, value: u16)
 
 // Reads the tree at the cursor, and writes its listing from byte `at` on.
 #[cycle(children_tree)]
-fn tree(line: &[u8], c: Cursor, listing: &mut [u8; LISTING_BYTES], at: usize) -> TreesRead
+fn tree(
+    line: &[u8],
+    c: Cursor,
+    listing: &mut [u8; LISTING_BYTES],
+    at: usize,
+) -> Result<Trees, Cursor>
     requires { ReaderAt line.now c listing.old at }
     ensures { TreeRead line.now c listing.old at listing.new result }
 {
     let open = c.place;
     if open >= line.len() {
-        return TreesRead::Bad(c);
+        return Err(c);
     }
     if line[open] != OPEN {
-        return TreesRead::Bad(c);
+        return Err(c);
     }
-    let name = stepped(c, 1);
+    let name = c.stepped(1);
     let from = name.place;
-    let Label::Number { value, len } = read_label(&line[from..]) else {
-        return TreesRead::Bad(name);
+    let Some(label) = read_label(&line[from..]) else {
+        return Err(name);
     };
-    put_label(listing, at, value);
-    let inside = stepped(name, len);
-    match children(line, inside, listing, at + NODE_BYTES) {
-        TreesRead::Trees(count, end, filled) => {
-            put(listing, at + LABEL_BYTES, count);
-            TreesRead::Trees(1, end, filled)
-        }
-        TreesRead::Bad(end) => TreesRead::Bad(end),
-    }
+    put_label(listing, at, label.value);
+    let inside = name.stepped(label.len);
+    let below = children(line, inside, listing, at + NODE_BYTES)?;
+    put(listing, at + LABEL_BYTES, below.count);
+    Ok(Trees { count: 1, ..below })
 }
 
 // Reads children, each after a space, and the closing bracket after them; writes their listings from byte `at` on.
 #[cycle(children_tree)]
-fn children(line: &[u8], c: Cursor, listing: &mut [u8; LISTING_BYTES], at: usize) -> TreesRead
+fn children(
+    line: &[u8],
+    c: Cursor,
+    listing: &mut [u8; LISTING_BYTES],
+    at: usize,
+) -> Result<Trees, Cursor>
     requires { ReaderAt line.now c listing.old at }
     ensures { ChildrenRead line.now c listing.old at listing.new result }
 {
     let place = c.place;
     if place >= line.len() {
-        return TreesRead::Bad(c);
+        return Err(c);
     }
     if line[place] == CLOSE {
-        return TreesRead::Trees(0, stepped(c, 1), at);
+        return Ok(Trees {
+            count: 0,
+            end: c.stepped(1),
+            filled: at,
+        });
     }
     if line[place] != SPACE {
-        return TreesRead::Bad(c);
+        return Err(c);
     }
-    match tree(line, stepped(c, 1), listing, at) {
-        TreesRead::Trees(_, next, free) => match children(line, next, listing, free) {
-            TreesRead::Trees(count, end, filled) => TreesRead::Trees(count + 1, end, filled),
-            TreesRead::Bad(end) => TreesRead::Bad(end),
-        },
-        TreesRead::Bad(end) => TreesRead::Bad(end),
-    }
+    let first = tree(line, c.stepped(1), listing, at)?;
+    let others = children(line, first.end, listing, first.filled)?;
+    Ok(Trees {
+        count: others.count + 1,
+        ..others
+    })
 }
 
 // The number of first bytes in which s and w agree.
 fn agreeing(s: &[u8], w: &[u8]) -> usize
     ensures { result ≡ agreed s.now w.now }
 {
-    let mut i = 0;
-    while i < w.len() {
-        if i >= s.len() {
-            return i;
-        }
+    let len = s.len().min(w.len());
+    for i in 0..len {
         if s[i] != w[i] {
             return i;
         }
-        i += 1;
     }
-    i
+    len
 }
 
 fn clear(listing: &mut [u8; LISTING_BYTES])
     requires { length listing.old ≡ listing_bytes }
     ensures { listing.new ≡ no_listing }
 {
-    for i in 0..LISTING_BYTES {
-        listing[i] = 0;
-    }
+    listing.fill(0);
 }
 
 // Whether a line ends as it must at the cursor after its tree: with a closing bracket.
-fn close_line(line: &[u8], c: Cursor, len: usize) -> FormParsed
+fn close_line(line: &[u8], c: Cursor, len: usize) -> Result<usize, Cursor>
     requires { OnLine line.now c }
     ensures { LineEnd line.now c len result }
 {
     let place = c.place;
     if place >= line.len() {
-        return FormParsed::Broken { at: c };
+        return Err(c);
     }
     if line[place] != CLOSE {
-        return FormParsed::Broken { at: c };
+        return Err(c);
     }
-    let end = stepped(c, 1);
+    let end = c.stepped(1);
     if end.place < line.len() {
-        return FormParsed::Broken { at: end };
+        return Err(end);
     }
-    FormParsed::Whole { len }
+    Ok(len)
 }
 
-// Reads a line that is to start with `head` and a tree, and writes the tree's listing.
-fn read_form(line: &[u8], head: &[u8], listing: &mut [u8; LISTING_BYTES]) -> FormParsed
+// Reads a line that is to start with `head` and a tree, and writes the tree's listing; returns its length.
+fn read_form(line: &[u8], head: &[u8], listing: &mut [u8; LISTING_BYTES]) -> Result<usize, Cursor>
     requires line_len_bound { length line.now ≤ max_line }
     requires shortest_head_in_bounds { shortest_head ≤ length head.now }
     requires listing_len { length listing.old ≡ listing_bytes }
     ensures { FormRead head.now line.now listing.new result }
 {
     let len = agreeing(line, head);
+    let after = Cursor::start().stepped(len);
     if len < head.len() {
-        return FormParsed::Broken {
-            at: stepped(start(), len),
-        };
+        return Err(after);
     }
     clear(listing);
-    match tree(line, stepped(start(), len), listing, 0) {
-        TreesRead::Trees(_, end, len) => close_line(line, end, len),
-        TreesRead::Bad(end) => FormParsed::Broken { at: end },
-    }
+    let read = tree(line, after, listing, 0)?;
+    close_line(line, read.end, read.filled)
 }
 
 // Reads a line that is to be "(total)", which has no listing.
-fn read_total(line: &[u8]) -> FormParsed
+fn read_total(line: &[u8]) -> Result<(), Cursor>
     requires { length line.now ≤ max_line }
     ensures { TotalRead line.now result }
 {
     let text = b"(total)";
     let len = agreeing(line, text);
-    let end = stepped(start(), len);
+    let end = Cursor::start().stepped(len);
     if len < text.len() {
-        return FormParsed::Broken { at: end };
+        return Err(end);
     }
     if len < line.len() {
-        return FormParsed::Broken { at: end };
+        return Err(end);
     }
-    FormParsed::Whole { len: 0 }
+    Ok(())
 }
 
 // Reads a line. The listing of its tree goes to `listing`, with zeros after it; all zeros if there is none.
-pub fn read_line(line: &[u8], listing: &mut [u8; LISTING_BYTES]) -> Parsed
+pub fn read_line(line: &[u8], listing: &mut [u8; LISTING_BYTES]) -> Result<Command, Malformed>
     requires { length listing.old ≡ listing_bytes }
     ensures answer { result ≡ parsed (read_line line.now) }
     ensures listing { listing.new ≡ listed (read_line line.now) }
 {
     if line.len() > MAX_LINE {
         clear(listing);
-        return Parsed::Long;
+        return Err(Malformed::Long);
     }
     let add = match read_form(line, b"(add ", listing) {
-        FormParsed::Whole { len } => return Parsed::Add { len },
-        FormParsed::Broken { at } => at,
+        Ok(len) => return Ok(Command::Add { len }),
+        Err(at) => at,
     };
     let drop = match read_form(line, b"(drop ", listing) {
-        FormParsed::Whole { len } => return Parsed::Drop { len },
-        FormParsed::Broken { at } => at,
+        Ok(len) => return Ok(Command::Drop { len }),
+        Err(at) => at,
     };
     let ask = match read_form(line, b"(ask ", listing) {
-        FormParsed::Whole { len } => return Parsed::Ask { len },
-        FormParsed::Broken { at } => at,
+        Ok(len) => return Ok(Command::Ask { len }),
+        Err(at) => at,
     };
     clear(listing);
-    let FormParsed::Broken { at } = read_total(line) else {
-        return Parsed::Total;
+    let Err(total) = read_total(line) else {
+        return Ok(Command::Total);
     };
-    let end = further(add, further(drop, further(ask, at)));
-    Parsed::Form { column: end.column }
+    let end = add.further(drop.further(ask.further(total)));
+    Err(Malformed::Form { column: end.column })
 }

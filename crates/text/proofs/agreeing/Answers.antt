@@ -1,12 +1,9 @@
 use Rattle.std.proofs.Common.{arith}
-use Rattle.text.proofs.Heads.{agreed-apart, agreed-end, agreed-next, agreed-short, agreed-start}
+use Rattle.text.proofs.Heads.{agreed-apart, agreed-end, agreed-next, agreed-start}
 use Rattle.text.proofs.agreeing.Goals as goal
 
 pub loop-i-init : goal.loop-i-init
 loop-i-init c = agreed-start _ _
-
-pub returns-then-i-s : goal.returns-then-i-s
-returns-then-i-s c = agreed-short _ _ _ c.loop-i.invariant (omega arith)
 
 pub returns-then-s-i : goal.returns-then-s-i
 returns-then-s-i c =
@@ -19,4 +16,4 @@ loop-i-preserved c =
     c.if-s-i.false
 
 pub returns : goal.returns
-returns c = agreed-end _ _ _ c.loop-i.invariant (omega arith)
+returns c = agreed-end _ _ _ c.loop-i.invariant _ c.min-len.ensures c.loop-i-test.false

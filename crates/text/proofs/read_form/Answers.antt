@@ -1,4 +1,5 @@
 -- `text::read_form` meets its contract: the head, then the tree, then the end of the line.
+use Rattle.std.proofs.Common.{rules}
 use Rattle.text.proofs.FormReader.{form-closed, form-headless, form-ready, form-refused, form-tree-on-line}
 use Rattle.text.proofs.read_form.Goals as goal
 
@@ -8,13 +9,16 @@ returns-then-len-head c = search form-headless
 pub tree-requires : goal.tree-requires
 tree-requires c = search form-ready
 
+pub returns-in_err-read : goal.returns-in_err-read
+returns-in_err-read c = search (rules, form-refused)
+
 pub close_line-requires : goal.close_line-requires
 close_line-requires c =
-    form-tree-on-line _ _ c.requires.line_len_bound _ c.agreeing-len.ensures _ _ c.start-2.ensures
-    c.stepped-2.ensures c.if-len-head.false _ c.clear.ensures _ _ c.tree.ensures _ _ _ c.in-Trees.is
+    form-tree-on-line _ _ c.requires.line_len_bound _ c.agreeing-len.ensures _ _ c.start.ensures c.stepped-after.ensures
+    c.if-len-head.false _ c.clear.ensures _ _ c.in_ok-read.ensures
 
-pub returns-in-Trees : goal.returns-in-Trees
-returns-in-Trees c = search form-closed
-
-pub returns-in-Bad : goal.returns-in-Bad
-returns-in-Bad c = search form-refused
+pub returns : goal.returns
+returns c =
+    form-closed _ _ c.requires.line_len_bound _ c.agreeing-len.ensures _ _ c.start.ensures c.stepped-after.ensures
+    c.if-len-head.false _ c.clear.ensures _ _ c.in_ok-read.ensures c.requires.shortest_head_in_bounds _
+    c.close_line.ensures

@@ -1,10 +1,6 @@
 -- `text::read_label` meets its contract: the bytes passed are the label so far.
-use Rattle.std.proofs.Common.{◌-◌, length}
 use Rattle.text.specs.Clauses.{LabelTo}
 use Rattle.text.proofs.read_label.Given as goal
 
 abbrev pub invariant-loop-i : goal.invariant-loop-i
 invariant-loop-i l = LabelTo l.s l.i l.value
-
-abbrev pub decreases-loop-i : goal.decreases-loop-i
-decreases-loop-i l = length l.s - l.i
