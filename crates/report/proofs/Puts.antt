@@ -1,4 +1,4 @@
--- Text put into a buffer: a byte, one text after another, a word byte by byte, and a whole line.
+-- Text put into a buffer: a byte, one text after another, and a whole line.
 use mathlib.Core.List.{List, [], ◌++◌, ◌∷◌, append_assoc, append-nil}
 use mathlib.Core.Path.{◌∙◌, ◌≡◌, ap, refl, sym}
 use Prim.Native.Nat.{◌+◌, ◌<◌, ◌≤◌, ℕ}
@@ -28,27 +28,3 @@ put_then {s} {t} {u} {x} {y} {a} p q =
 -- from the first byte on, within the buffer
 pub put-printed : {s t x : List ℕ} {r : ℕ} → length s ≡ line_bytes → Put s t 0 x r → r ≤ line_bytes → Printed t x r
 put-printed e p l = record { size = p.size ∙ e; within = l; text = p.bytes }
-
--- the first i bytes of a word are put
-pub record WordTo (s t : List ℕ) (at : ℕ) (w : List ℕ) (i : ℕ) : Type 0 where
-  pub within : i ≤ length w
-  pub put : Put s t at (take i w) (at + i)
-
-pub word-start : (s : List ℕ) (at : ℕ) (w : List ℕ) → WordTo s s at w 0
-word-start s at w =
-    let e : at + 0 ≡ at = omega arith in
-    record {
-      within = omega arith;
-      put = record { size = refl; end = omega arith; bytes = rw e (sym (append-nil (take at s))) };
-    }
-
-pub word_next : {s t w : List ℕ} {at i : ℕ} → WordTo s t at w i → i < length w → at + i < length t →
-    WordTo s (set t (at + i) (get_or w i 0)) at w (i + 1)
-word_next {s} {t} {w} {at} {i} inv h l =
-    let p = put_then inv.put (put_byte t (at + i) (get_or w i 0) l) in
-    let e : at + i + 1 ≡ at + (i + 1) = omega arith in
-    let f : take i w ++ (get_or w i 0 ∷ []) ≡ take (i + 1) w = rw add-one (sym (take-suc w i 0 h)) in
-    record { within = omega arith; put = rw (e, f) at p }
-
-pub word_end : {s t w : List ℕ} {at i : ℕ} → WordTo s t at w i → length w ≤ i → Put s t at w (at + i)
-word_end {s} {t} {w} {at} {i} inv h = rw (take_all i w h) at inv.put

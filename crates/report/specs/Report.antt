@@ -1,12 +1,12 @@
 -- What the bench program prints for a line and at the end of its input, as document 01 words it. Fields stand one
 -- space apart: the line number, a word, then states and transitions, the place, the total, the refusal, or the column.
-use Rattle.std.specs.Prelude.{List, [], ◌++◌, ◌∷◌, ℕ}
+use Rattle.std.specs.Prelude.{Err, List, Ok, Result, [], ◌++◌, ◌∷◌, ℕ}
 use Rattle.calls.specs.declared.Answer.{Answer}
 use Rattle.calls.specs.declared.Answer.TheVariants.{Accepted, Approved, Done, Finished, NotAt, NotPart, Over, Refused}
 use Rattle.calls.specs.declared.Answer.TheVariants.{Serial, Total}
 use Rattle.lists.specs.Decimal.{decimal}
-use Rattle.report.specs.declared.Outcome.{Outcome}
-use Rattle.report.specs.declared.Outcome.TheVariants.{Answered, Form, Long}
+use Rattle.text.specs.declared.Malformed.{Malformed}
+use Rattle.text.specs.declared.Malformed.TheVariants.{Form, Long}
 
 abbrev pub space : ℕ
 space = 32
@@ -68,13 +68,13 @@ answer_text Finished = done_word
 answer_text (Refused number) = refused_word ++ field number
 
 -- what came of a line: an answer, the column from which it is malformed, or that it is too long
-unfoldable pub outcome_text : Outcome → List ℕ
-outcome_text (Answered answer) = answer_text answer
-outcome_text (Form column) = form_word ++ field column
-outcome_text Long = long_word
+unfoldable pub outcome_text : Result Answer Malformed → List ℕ
+outcome_text (Ok answer) = answer_text answer
+outcome_text (Err (Form column)) = form_word ++ field column
+outcome_text (Err Long) = long_word
 
 -- what is printed for a line: its number, its outcome
-unfoldable pub line_text : ℕ → Outcome → List ℕ
+unfoldable pub line_text : ℕ → Result Answer Malformed → List ℕ
 line_text number o = decimal number ++ (space ∷ (outcome_text o ++ (newline ∷ [])))
 
 -- what is printed last: the lines read, the states and the transitions of the table

@@ -7,24 +7,14 @@ ghost use Rattle.report.specs.Printing.{Printed, Put, TextRoom, answer_bytes, fi
 ghost use Rattle.report.specs.Report.{answer_text, end_text, field, line_text, outcome_text};
 
 use calls::Answer;
+use text::Malformed;
 
 // The bytes of the buffer. The longest line has 72.
 pub const LINE_BYTES: usize = 80;
 
-const SPACE: u8 = 32;
+const SPACE: u8 = b' ';
 
-const NEWLINE: u8 = 10;
-
-const ZERO: u8 = 48;
-
-// What came of a line: the answer of the call that it made, the column from which it is malformed, or that it is too
-// long.
-#[derive(Drop)]
-pub enum Outcome {
-    Answered(Answer),
-    Form { column: u64 },
-    Long,
-}
+const NEWLINE: u8 = b'\n';
 
 // The functions that put a text take the place where it goes, keep the bytes before, and return where it ends.
 fn put_byte(out: &mut [u8; LINE_BYTES], at: usize, byte: u8) -> usize
@@ -40,12 +30,9 @@ pub fn put_word(out: &mut [u8], at: usize, word: &[u8]) -> usize
     requires { at + length word.now ≤ length out.old }
     ensures { Put out.old out.new at word.now result }
 {
-    let mut i = 0;
-    while i < word.len() {
-        out[at + i] = word[i];
-        i += 1;
-    }
-    at + i
+    let end = at + word.len();
+    out[at..end].copy_from_slice(word);
+    end
 }
 
 // The byte of a decimal digit.
@@ -53,7 +40,7 @@ fn digit(n: u64) -> u8
     requires { n < 10 }
     ensures { result ≡ digit n }
 {
-    ZERO + n as u8
+    b'0' + n as u8
 }
 
 // Puts a number in decimal: all digits but the last, then the last.
@@ -132,24 +119,26 @@ fn put_answer(out: &mut [u8; LINE_BYTES], at: usize, answer: Answer) -> usize
     }
 }
 
-// Puts what came of a line.
-fn put_outcome(out: &mut [u8; LINE_BYTES], at: usize, outcome: Outcome) -> usize
+// Puts what came of a line: the answer of the call that it made, or why it made none.
+fn put_outcome(out: &mut [u8; LINE_BYTES], at: usize, outcome: Result<Answer, Malformed>) -> usize
     requires { TextRoom out.old at answer_bytes }
     ensures text { Put out.old out.new at (outcome_text outcome) result }
     ensures within { result ≤ at + answer_bytes }
 {
     match outcome {
-        Outcome::Answered(answer) => put_answer(out, at, answer),
-        Outcome::Form { column } => {
-            let first = put_word(out, at, b"form");
-            put_field(out, first, column)
-        }
-        Outcome::Long => put_word(out, at, b"long"),
+        Ok(answer) => put_answer(out, at, answer),
+        Err(why) => match why {
+            Malformed::Form { column } => {
+                let first = put_word(out, at, b"form");
+                put_field(out, first, column as u64)
+            }
+            Malformed::Long => put_word(out, at, b"long"),
+        },
     }
 }
 
 // Writes what is printed for the line with this number, from the first byte of the buffer on, and returns its length.
-pub fn line(number: u64, outcome: Outcome, out: &mut [u8; LINE_BYTES]) -> usize
+pub fn line(number: u64, outcome: Result<Answer, Malformed>, out: &mut [u8; LINE_BYTES]) -> usize
     requires { length out.old ≡ line_bytes }
     ensures { Printed out.new (line_text number outcome) result }
 {
