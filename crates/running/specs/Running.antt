@@ -1,6 +1,7 @@
 -- Running a listing over transitions: what it needs, what it answers, and what it leaves in the rows of child
 -- states and in the bytes of the nodes' states.
-use Rattle.std.specs.Prelude.{cond, false, List, None, Option, Some, [], ◌++◌, ◌≡◌, ◌*◌, ◌+◌, ◌<◌, ◌≤◌, ℕ, eqb, get_or, length, take}
+use Rattle.std.specs.Prelude.{cond, false, List, [], ◌++◌, ◌≡◌, ◌*◌, ◌+◌, ◌<◌, ◌≤◌, ℕ, eqb, get_or, length, take}
+use Rattle.std.specs.Prelude.{None, Option, Some}
 use Rattle.automata.specs.Automaton.{Automaton, runs}
 use Rattle.automata.specs.NodeStates.{node_states}
 use Rattle.fields.specs.Fields.{HoldsTransitions}

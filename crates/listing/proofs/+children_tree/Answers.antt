@@ -22,7 +22,8 @@ pub children-children-requires : goal.children-children-requires
 children-children-requires t c =
     let s = c.args.s.now in
     let z = c.in_ok-len.was in
-    (omega (arith, first_some s c.tree.ensures z, first-within s c.tree.ensures z, part_length s c.in_ok-len.len, c.decreases), tt)
+    let shorter = part_length s c.in_ok-len.len in
+    (omega (arith, first_some s c.tree.ensures z, first-within s c.tree.ensures z, shorter, c.decreases), tt)
 
 pub children-returns-in_err-more : goal.children-returns-in_err-more
 children-returns-in_err-more t c =
