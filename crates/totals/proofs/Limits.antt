@@ -5,6 +5,7 @@ use Prim.Native.Nat.{◌*◌, ◌+◌, ◌<◌, ◌≤◌, min, ℕ}
 use native.Mathlib.Omega.{arith}
 use lib.Dec.{ltb}
 use borrow.Author.Tests.{eqb-false, eqb-true, le-ltb, lt-ltb, ltb-false, ltb-true}
+use Rattle.std.proofs.lemmas.Bool.{true_from_ne_false}
 use Rattle.std.specs.Option.{SomeIff, is_some, option_eq}
 use Rattle.std.specs.declared.option.Option.{Option}
 use Rattle.std.specs.declared.option.Option.TheVariants.{None, Some}
@@ -31,12 +32,12 @@ worth-total n = go (ltb n limit) refl
     go false e = let h = ltb-false n limit e in ap worth (sym (total-over h)) ∙ omega arith
 
 -- what a number that fits, or none, says of the number itself
+pub total-fits : {v : ℕ} (x : ℕ) → Some v ≡ total_of x → x < limit
+total-fits {v} x e = ltb-true x limit (true_from_ne_false (ltb x limit)
+    (λ d. true≢false (ap is_some (e ∙ sym (total-over (ltb-false x limit d))))))
+
 pub total-some : {v : ℕ} (x : ℕ) → Some v ≡ total_of x → v ≡ x
-total-some {v} x e = go (ltb x limit) refl
-  where
-    go : (b : Bool) → ltb x limit ≡ b → v ≡ x
-    go true d = omega (arith, ltb-true x limit d, ap worth e, worth-total x)
-    go false d = absurd (true≢false (ap is_some (e ∙ sym (total-over (ltb-false x limit d)))))
+total-some {v} x e = omega (arith, total-fits x e, ap worth e, worth-total x)
 
 pub total-none : (x : ℕ) → None ≡ total_of x → limit ≤ x
 total-none x e = omega (arith, ap worth e, worth-total x)

@@ -51,7 +51,8 @@ fn numbers_of(transitions: &[u8], count: usize, n: usize) -> Numbers
     rounds(transitions, count, n)
 }
 
-// The sum of the numbers of those of the states 1 to n that are accepting. `classes` has the class of state q at byte q.
+// The sum of the numbers of those of the states 1 to n that are accepting. `classes` has the class of state q at
+// byte q.
 pub fn sum_accepting(classes: &[u8], n: usize, numbers: &Numbers) -> Option<u64>
     requires n_in_bounds { n < length classes.now }
     requires n_lt_byte_values { n < byte_values }

@@ -15,7 +15,8 @@ pub loop-q-init : goal.loop-q-init
 loop-q-init c = accepted-start
 
 -- the class is that of the automaton that code sees
-class : (c : In-loop-q) → accepting (viewed c.args.classes.now [] c.args.n 0) c.loop-q.q ≡ class_at c.args.classes.now c.loop-q.q
+class : (c : In-loop-q) →
+    accepting (viewed c.args.classes.now [] c.args.n 0) c.loop-q.q ≡ class_at c.args.classes.now c.loop-q.q
 class c = viewed-class c.args.classes.now [] c.args.n 0 c.loop-q.q (omega arith) (omega arith)
 
 pub loop-q-preserved : goal.loop-q-preserved
