@@ -1,7 +1,6 @@
 -- `numbering::writing::write_run` meets its contract: the first i transitions are written.
-use Prim.Native.Nat.{◌-◌, ◌≤◌}
 use Rattle.numbering.specs.Tables.{RunPut}
 use Rattle.numbering.proofs.writing.write_run.Given as goal
 
 abbrev pub invariant-loop-i : goal.invariant-loop-i
-invariant-loop-i l = (l.i ≤ l.transitions.count) × RunPut l.initial.to l.to l.transitions.heads.now l.transitions.args.now l.start l.i
+invariant-loop-i l = RunPut l.initial.to l.to l.transitions.heads.now l.transitions.args.now l.start l.i
