@@ -8,6 +8,7 @@ ghost use Rattle.calls.specs.Calls.{add_result, ask_answer, ask_refusal, asked, 
 ghost use Rattle.calls.specs.Calls.{remove_result, total_answer};
 ghost use Rattle.change.specs.Changing.{change_of, result_of};
 ghost use Rattle.fields.specs.Fields.{InTable};
+ghost use Rattle.format.specs.Refusals.{broken};
 ghost use Rattle.running.specs.Running.{HoldsStates};
 ghost use Rattle.table.specs.Layout.{decode};
 ghost use Rattle.trees.specs.Listing.{listing_refusal, read_tree};
@@ -16,29 +17,18 @@ ghost use Rattle.answering.specs.Changes.{input_refusal, presence_refusal};
 
 use calls::Answer;
 use fields::transition_count;
-use format::{MAX_NODES, SCRATCH_BYTES, TABLE_BYTES};
-use intake::content_refusal;
+use format::{MAX_NODES, Refusal, SCRATCH_BYTES, TABLE_BYTES};
+use intake::check_content;
 use running::stops::stop_place;
 use running::{accepts_state, node_states};
 pub use serials::{rank, unrank};
-use totals::Total;
 
-// A byte as a count in an answer.
-fn wide16(x: u8) -> u16
-    ensures { result ≡ x }
+// Conditions 1 to 5 and 7 to 13.
+fn check_asked(tree: &[u8], table: &[u8]) -> Result<(), Refusal>
+    ensures { broken result ≡ ask_refusal tree.now table.now }
 {
-    x as u16
-}
-
-// The first of refusals 1 to 5 and 7 to 13 that applies, or 0.
-fn ask_refusal(tree: &[u8], table: &[u8]) -> u8
-    ensures { result ≡ ask_refusal tree.now table.now }
-{
-    let number = listing::refusal(tree);
-    if number != 0 {
-        return number;
-    }
-    intake::refusal(table)
+    listing::check(tree)?; // the tree decides first
+    intake::check(table)
 }
 
 // Whether the table's set has the tree whose nodes ran to these states, and if not, what stops the tree.
@@ -64,9 +54,8 @@ fn asked(tree: &[u8], table: &[u8], reached: &[u8; MAX_NODES]) -> Answer
 pub fn ask(tree: &[u8], table: &[u8]) -> Answer
     ensures { result ≡ ask_answer tree.now table.now }
 {
-    let number = ask_refusal(tree, table);
-    if number != 0 {
-        return Answer::Refused { number };
+    if let Err(refusal) = check_asked(tree, table) {
+        return Answer::from(refusal);
     }
     let reached = node_states(tree, table);
     asked(tree, table, &reached)
@@ -76,13 +65,12 @@ pub fn ask(tree: &[u8], table: &[u8]) -> Answer
 pub fn take_in(table: &[u8]) -> Answer
     ensures { result ≡ intake_answer table.now }
 {
-    let number = intake::refusal(table);
-    if number != 0 {
-        return Answer::Refused { number };
+    if let Err(refusal) = intake::check(table) {
+        return Answer::from(refusal);
     }
     let transitions = transition_count(table);
     Answer::Accepted {
-        states: wide16(table[0]),
+        states: u16::from(table[0]),
         transitions: transitions as u16,
     }
 }
@@ -91,47 +79,38 @@ pub fn take_in(table: &[u8]) -> Answer
 pub fn total(table: &[u8]) -> Answer
     ensures { result ≡ total_answer table.now }
 {
-    let number = intake::refusal(table);
-    if number != 0 {
-        return Answer::Refused { number };
+    if let Err(refusal) = intake::check(table) {
+        return Answer::from(refusal);
     }
     match totals::total(table) {
-        Total::Number { value } => Answer::Total { number: value },
-        Total::Over => Answer::Over,
+        Some(number) => Answer::Total { number },
+        None => Answer::Over,
     }
 }
 
-// Refusal 14 if an added tree is there already, 15 if a removed one is not, or 0.
-fn presence_refusal(inserting: bool, present: bool) -> u8
-    ensures { (t : Tree) → result ≡ presence_refusal (change_of inserting t) present }
+// Condition 14 of an addition, which the tree breaks by being there, or 15 of a removal.
+fn check_presence(inserting: bool, present: bool) -> Result<(), Refusal>
+    ensures { (t : Tree) → broken result ≡ presence_refusal (change_of inserting t) present }
 {
-    if inserting {
-        if present {
-            return 14;
-        }
-        return 0;
+    match (inserting, present) {
+        (true, true) => Err(Refusal::TreeInSet),
+        (false, false) => Err(Refusal::TreeNotInSet),
+        _ => Ok(()),
     }
-    if present {
-        return 0;
-    }
-    15
 }
 
-// The first of refusals 1 to 13 that applies to a change, or 0.
-fn input_refusal(tree: &[u8], table: &[u8], scratch: &[u8]) -> u8
-    ensures { result ≡ input_refusal tree.now table.now scratch.now }
+// Conditions 1 to 13 of a change.
+fn check_input(tree: &[u8], table: &[u8], scratch: &[u8]) -> Result<(), Refusal>
+    ensures { broken result ≡ input_refusal tree.now table.now scratch.now }
 {
-    let broken = listing::refusal(tree);
-    if broken != 0 {
-        return broken;
-    }
+    listing::check(tree)?;
     if table.len() != TABLE_BYTES {
-        return 5;
+        return Err(Refusal::TableLength);
     }
     if scratch.len() != SCRATCH_BYTES {
-        return 6;
+        return Err(Refusal::LentLength);
     }
-    content_refusal(table)
+    check_content(table)
 }
 
 // Puts the tree into the table's set or takes it out.
@@ -140,14 +119,12 @@ pub fn change(tree: &[u8], table: &mut [u8], scratch: &mut [u8], inserting: bool
         change_result (change_of inserting (read_tree tree.now)) tree.now table.old
         scratch.old }
 {
-    let broken = input_refusal(tree, table, scratch);
-    if broken != 0 {
-        return Answer::Refused { number: broken };
+    if let Err(refusal) = check_input(tree, table, scratch) {
+        return Answer::from(refusal);
     }
     let reached = node_states(tree, table);
-    let number = presence_refusal(inserting, accepts_state(table, reached[0]));
-    if number != 0 {
-        return Answer::Refused { number };
+    if let Err(refusal) = check_presence(inserting, accepts_state(table, reached[0])) {
+        return Answer::from(refusal);
     }
     change::change(tree, &reached, table, scratch, inserting)
 }

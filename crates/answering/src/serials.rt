@@ -3,18 +3,19 @@ ghost use Rattle.std.specs.Prelude.{true, ◌≡◌, length};
 ghost use Rattle.automata.specs.Automaton.{accepts};
 ghost use Rattle.calls.specs.Calls.{rank_answer, ranked, unrank_result};
 ghost use Rattle.format.specs.Format.{max_listing};
+ghost use Rattle.format.specs.Refusals.{broken};
 ghost use Rattle.running.specs.Running.{HoldsStates};
 ghost use Rattle.table.specs.Intake.{table_refusal};
 ghost use Rattle.table.specs.Layout.{decode};
 ghost use Rattle.trees.specs.Listing.{listing_refusal, read_tree};
 ghost use Rattle.answering.specs.Serials.{buffer_refusal, numbered, response_of};
 
-use crate::{ask_refusal, asked};
+use crate::{asked, check_asked};
 use calls::Answer;
-use format::{MAX_LISTING, MAX_NODES, TABLE_BYTES};
-use intake::content_refusal;
+use format::{MAX_LISTING, MAX_NODES, Refusal, TABLE_BYTES};
+use intake::check_content;
 use running::{accepts_state, node_states};
-use totals::{Total, state_numbers, total_of};
+use totals::{state_numbers, total_of};
 
 // The number of a tree that the table's set has, or 18.
 fn serial(tree: &[u8], table: &[u8], reached: &[u8; MAX_NODES]) -> Answer
@@ -25,9 +26,9 @@ fn serial(tree: &[u8], table: &[u8], reached: &[u8; MAX_NODES]) -> Answer
     ensures { result ≡ ranked (decode table.now) (read_tree tree.now) }
 {
     let numbers = state_numbers(table);
-    let Total::Number { .. } = total_of(table, &numbers) else {
-        return Answer::Refused { number: 18 };
-    };
+    if total_of(table, &numbers).is_none() {
+        return Answer::from(Refusal::TotalOver);
+    }
     Answer::Serial {
         number: ranks::rank(tree, reached, table, &numbers),
     }
@@ -37,9 +38,8 @@ fn serial(tree: &[u8], table: &[u8], reached: &[u8; MAX_NODES]) -> Answer
 pub fn rank(tree: &[u8], table: &[u8]) -> Answer
     ensures { result ≡ rank_answer tree.now table.now }
 {
-    let number = ask_refusal(tree, table);
-    if number != 0 {
-        return Answer::Refused { number };
+    if let Err(refusal) = check_asked(tree, table) {
+        return Answer::from(refusal);
     }
     let reached = node_states(tree, table);
     if accepts_state(table, reached[0]) {
@@ -48,17 +48,17 @@ pub fn rank(tree: &[u8], table: &[u8]) -> Answer
     asked(tree, table, &reached)
 }
 
-// The first of refusals 5 to 13 that applies to a table and a buffer for a listing, or 0.
-fn buffer_refusal(table: &[u8], listing: &[u8]) -> u8
-    ensures { result ≡ buffer_refusal table.now listing.now }
+// Conditions 5 to 13 of a table and a buffer for a listing.
+fn check_buffer(table: &[u8], listing: &[u8]) -> Result<(), Refusal>
+    ensures { broken result ≡ buffer_refusal table.now listing.now }
 {
     if table.len() != TABLE_BYTES {
-        return 5;
+        return Err(Refusal::TableLength);
     }
     if listing.len() != MAX_LISTING {
-        return 6;
+        return Err(Refusal::LentLength);
     }
-    content_refusal(table)
+    check_content(table)
 }
 
 // The tree of a number, listed in a buffer of the right length: 18 to 20, or finished.
@@ -69,16 +69,16 @@ fn list_numbered(number: u64, table: &[u8], listing: &mut [u8]) -> Answer
         numbered number (decode table.now) listing.old }
 {
     let numbers = state_numbers(table);
-    let Total::Number { value } = total_of(table, &numbers) else {
-        return Answer::Refused { number: 18 };
+    let Some(value) = total_of(table, &numbers) else {
+        return Answer::from(Refusal::TotalOver);
     };
     if number >= value {
-        return Answer::Refused { number: 19 };
+        return Answer::from(Refusal::LargeNumber);
     }
     if ranks::unrank(number, table, &numbers, listing) {
         return Answer::Finished;
     }
-    Answer::Refused { number: 20 }
+    Answer::from(Refusal::LargeTree)
 }
 
 // The tree of a number, listed in the buffer.
@@ -86,9 +86,8 @@ pub fn unrank(number: u64, table: &[u8], listing: &mut [u8]) -> Answer
     ensures { response_of result listing.new ≡
         unrank_result number table.now listing.old }
 {
-    let broken = buffer_refusal(table, listing);
-    if broken != 0 {
-        return Answer::Refused { number: broken };
+    if let Err(refusal) = check_buffer(table, listing) {
+        return Answer::from(refusal);
     }
     list_numbered(number, table, listing)
 }
