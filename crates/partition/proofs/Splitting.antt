@@ -3,13 +3,16 @@ use mathlib.Core.Bool.{Bool, ◌||◌, false, false≢true, true, true≢false}
 use mathlib.Core.List.{List}
 use mathlib.Core.Logic.{◌⊎◌, inl, inr}
 use mathlib.Core.Path.{◌∙◌, ◌≡◌, refl, subst, sym}
-use Prim.Native.Nat.{◌+◌, ◌-◌, ◌<◌, ℕ}
+use Prim.Native.Nat.{◌+◌, ◌-◌, ◌<◌, suc, zero, ℕ}
+use native.Mathlib.Numerals.{add-one}
+use denote.Ref.{MutBor}
 use native.Mathlib.Omega.{arith}
 use lib.Dec.{eqb}
 use borrow.Author.Tests.{eqb-false, eqb-true}
 use Rattle.fields.specs.View.{viewed}
 use Rattle.lists.specs.Positions.{up_from}
 use Rattle.marking.specs.Marks.{Below}
+use Rattle.marking.specs.Steps.{Made, Steps}
 use Rattle.partition.specs.Parts.{Grouped, Parts, leaders, leads}
 use Rattle.partition.specs.Splits.{Mates, Regrouped, Shared, Split}
 use Rattle.fields.proofs.Views.{viewed-states}
@@ -87,6 +90,16 @@ module _ {s : List ℕ} {n c : ℕ} where
           go : (d : Bool) → eqb j i ≡ d → C j m
           go true f = subst (λ (k : ℕ). C k m) (sym (eqb-true j i f)) e
           go false f = let ne = eqb-false j i f in b j (omega arith)
+
+  -- if each step splits parts, all do
+  pub steps-split : {post : ℕ → MutBor (List ℕ) → Bool → MutBor (List ℕ) → Type 0} (C : ℕ → List ℕ → Type 0) (k : ℕ)
+      {m m' : List ℕ} {r : Bool} → Grouped n m →
+      ((i : ℕ) (p q : MutBor (List ℕ)) (x : Bool) → i < k → post i p x q → Split s n c (C i) p.now q.now x) →
+      Steps (Made post) k m m' r → Split s n c (Below C k) m m' r
+  steps-split C zero g f (e, d) = rw (e, d) (split-begin C g)
+  steps-split C (suc k) g f (m, x, y, t, u, e) =
+      let here = rw (u.shows, u.leaves) at (f k u.shown u.left y (omega arith) u.met) in
+      rw (e, ← add-one) (split-next C k (steps-split C k g (λ i p q z h. f i p q z (omega arith)) t) here)
 
   -- states without mates stay so
   pub split-mates : {C : List ℕ → Type 0} {m m' f : List ℕ} {r : Bool} → Split s n c C m m' r → Mates n m f →

@@ -11,6 +11,7 @@ ghost use Rattle.table.specs.Layout.{arg_of, arity_of, out_of};
 use crate::grouping::regroup;
 use fields::{arg_of, arity_of, out_of};
 use format::{BYTE_VALUES, TRANSITION_BYTES, wide};
+use marking::sweep;
 use sorted::stepped;
 
 // Marks q and its leader, if they differ.
@@ -188,11 +189,9 @@ fn repair_line(
     ensures { Split transitions.now n count (StableLine transitions.now n count i) parts.old parts.new result }
 {
     let arity = arity_of(transitions, TRANSITION_BYTES * i);
-    let mut changed = false;
-    for k in 0..arity {
-        changed |= repair_at(transitions, count, n, i, k, mated, parts);
-    }
-    changed
+    sweep(arity, parts, |k, parts| {
+        repair_at(transitions, count, n, i, k, mated, parts)
+    })
 }
 
 // Every transition. Returns whether a part was split; if none was, the parts are stable.
@@ -204,9 +203,7 @@ pub fn repair(transitions: &[u8], count: usize, n: usize, parts: &mut [u8; BYTE_
         count) parts.old parts.new result }
 {
     let mated = mated_states(n, parts);
-    let mut changed = false;
-    for i in 0..count {
-        changed |= repair_line(transitions, count, n, i, &mated, parts);
-    }
-    changed
+    sweep(count, parts, |i, parts| {
+        repair_line(transitions, count, n, i, &mated, parts)
+    })
 }

@@ -8,10 +8,11 @@ ghost use Rattle.fields.specs.View.{viewed};
 ghost use Rattle.validity.specs.Rules.{Blocks, Ground, Unblocked};
 ghost use Rattle.marking.specs.Spread.{Spread, UpTo};
 
-use crate::marks::{all_marked, args_marked};
+use crate::marks::{all_marked, args_marked, mark};
 use crate::ranks::{depth_first, ranks_rise};
 use fields::out_of;
 use format::{BYTE_VALUES, TRANSITION_BYTES};
+use marking::sweep;
 
 // Transition i blocks its output if some argument is not marked.
 fn block(transitions: &[u8], i: usize, marks: &[u8; BYTE_VALUES], blocked: &mut [u8; BYTE_VALUES])
@@ -48,15 +49,10 @@ fn ground(blocked: &[u8; BYTE_VALUES], k: usize, marks: &mut [u8; BYTE_VALUES]) 
     requires marks_len { length marks.old ≡ byte_values }
     ensures { Spread (Unblocked blocked.now k) marks.old marks.new result }
 {
-    let q = k + 1;
-    if blocked[q] != 0 {
+    if blocked[k + 1] != 0 {
         return false;
     }
-    if marks[q] != 0 {
-        return false;
-    }
-    marks[q] = 1;
-    true
+    mark(marks, k + 1)
 }
 
 fn ground_unblocked(blocked: &[u8; BYTE_VALUES], n: usize, marks: &mut [u8; BYTE_VALUES]) -> bool
@@ -64,11 +60,7 @@ fn ground_unblocked(blocked: &[u8; BYTE_VALUES], n: usize, marks: &mut [u8; BYTE
     requires marks_len { length marks.old ≡ byte_values }
     ensures { Spread (UpTo (Unblocked blocked.now) n) marks.old marks.new result }
 {
-    let mut changed = false;
-    for k in 0..n {
-        changed |= ground(blocked, k, marks);
-    }
-    changed
+    sweep(n, marks, |k, marks| ground(blocked, k, marks))
 }
 
 fn ground_all(transitions: &[u8], count: usize, n: usize, marks: &mut [u8; BYTE_VALUES]) -> bool

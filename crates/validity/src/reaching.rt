@@ -10,6 +10,7 @@ ghost use Rattle.format.specs.Format.{byte_values};
 use crate::marks::{all_marked, args_marked};
 use fields::out_of;
 use format::{BYTE_VALUES, TRANSITION_BYTES};
+use marking::sweep;
 
 // One transition: marks its output if its arguments are all marked. Returns whether the mark is new.
 fn mark_output(transitions: &[u8], at: usize, marks: &mut [u8; BYTE_VALUES]) -> bool
@@ -33,11 +34,9 @@ fn mark_outputs(transitions: &[u8], count: usize, marks: &mut [u8; BYTE_VALUES])
     requires marks_len { length marks.old ≡ byte_values }
     ensures { Spread (UpTo (nth_up transitions.now) count) marks.old marks.new result }
 {
-    let mut changed = false;
-    for i in 0..count {
-        changed |= mark_output(transitions, TRANSITION_BYTES * i, marks);
-    }
-    changed
+    sweep(count, marks, |i, marks| {
+        mark_output(transitions, TRANSITION_BYTES * i, marks)
+    })
 }
 
 // Condition 9: some tree runs to each state.

@@ -14,6 +14,7 @@ ghost use Rattle.format.specs.Format.{byte_values};
 use crate::marks::{all_marked, mark};
 use fields::{arg_of, arity_of, out_of};
 use format::{BYTE_VALUES, TRANSITION_BYTES};
+use marking::sweep;
 
 // Marks the arguments of a transition whose output is marked. Returns whether a mark is new.
 fn use_args(transitions: &[u8], at: usize, marks: &mut [u8; BYTE_VALUES]) -> bool
@@ -22,13 +23,9 @@ fn use_args(transitions: &[u8], at: usize, marks: &mut [u8; BYTE_VALUES]) -> boo
     requires at_value { marked marks.old (out_of transitions.now at) ≡ true }
     ensures { Spread (Down transitions.now at) marks.old marks.new result }
 {
-    let arity = arity_of(transitions, at);
-    let mut changed = false;
-    for k in 0..arity {
-        let q = arg_of(transitions, at, k);
-        changed |= mark(marks, q);
-    }
-    changed
+    sweep(arity_of(transitions, at), marks, |k, marks| {
+        mark(marks, arg_of(transitions, at, k))
+    })
 }
 
 // One transition: marks its arguments if its output is marked.
@@ -50,11 +47,9 @@ fn use_all(transitions: &[u8], count: usize, marks: &mut [u8; BYTE_VALUES]) -> b
     requires marks_len { length marks.old ≡ byte_values }
     ensures { Spread (UpTo (nth_down transitions.now) count) marks.old marks.new result }
 {
-    let mut changed = false;
-    for i in (0..count).rev() {
-        changed |= use_transition(transitions, TRANSITION_BYTES * i, marks);
-    }
-    changed
+    sweep(count, marks, |j, marks| {
+        use_transition(transitions, TRANSITION_BYTES * (count - 1 - j), marks)
+    })
 }
 
 // The accepting states, marked.

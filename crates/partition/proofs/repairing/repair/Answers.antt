@@ -1,27 +1,20 @@
-use mathlib.Core.Path.{◌≡◌}
-use native.Mathlib.Omega.{arith}
-use Rattle.partition.specs.Splits.{StableLine}
-use Rattle.partition.proofs.Splitting.{split-begin, split-mates, split-next}
+-- `partition::repairing::repair` meets its contract: step i repairs transition i.
+use Rattle.std.proofs.Common.{rules}
+use Rattle.partition.specs.Parts.{Grouped}
+use Rattle.partition.specs.Splits.{Mates, StableLine}
+use Rattle.partition.proofs.Splitting.{split-mates, steps-split}
 use Rattle.partition.proofs.repairing.repair.Goals as goal
 
-pub loop-i-init : goal.loop-i-init
-loop-i-init c = split-begin (StableLine c.args.transitions.now c.args.n c.args.count) c.requires.grouped
-
-pub repair_line-changed-requires : goal.repair_line-changed-requires
-repair_line-changed-requires c = record {
-  sorted = c.requires.sorted;
-  holds_transitions_over = c.requires.holds_transitions_over;
-  i_lt_count = omega arith;
-  grouped = c.loop-i.invariant.grouped;
-  mates = split-mates c.loop-i.invariant c.mated_states-mated.ensures;
-}
-
-pub loop-i-preserved : goal.loop-i-preserved
-loop-i-preserved c =
-    split-next (StableLine c.args.transitions.now c.args.n c.args.count) c.loop-i.i
-    c.loop-i.invariant c.repair_line-changed.ensures
+pub sweep-requires : goal.sweep-requires
+sweep-requires c = λ i p r h t.
+    let u = steps-split {s = c.args.transitions.now} {n = c.args.n} {c = c.args.count}
+    (StableLine c.args.transitions.now c.args.n c.args.count) i c.requires.grouped (λ j p q x l e. search rules) t in
+    let grouped : Grouped c.args.n p.now = u.grouped in
+    let mates : Mates c.args.n p.now c.mated_states-mated.result = split-mates u c.mated_states-mated.ensures in
+    search rules
 
 pub returns : goal.returns
 returns c =
-    let e : c.loop-i.i ≡ c.args.count = omega arith in
-    rw e at c.loop-i.invariant
+    steps-split {s = c.args.transitions.now} {n = c.args.n} {c = c.args.count}
+    (StableLine c.args.transitions.now c.args.n c.args.count) c.args.count c.requires.grouped
+    (λ j p q x l e. search rules) c.sweep.ensures

@@ -1,31 +1,14 @@
-use Rattle.std.proofs.Common.{◌≡◌, ◌∙◌, arith}
-use Rattle.table.specs.Layout.{arity_of, out_of}
-use Rattle.validity.specs.Rules.{DownTo}
-use Rattle.marking.proofs.Spreading.{spread-begin, spread-next}
-use Rattle.validity.proofs.Sweeping.{spread-down}
+-- `validity::usefulness::use_args` meets its contract: step k marks argument k. The output has its mark, so that
+-- what is closed has the arguments.
+use Rattle.std.proofs.Common.{rules}
+use Rattle.table.specs.Layout.{arg_of, arity_of, out_of}
+use Rattle.marking.specs.Spread.{Has}
+use Rattle.marking.proofs.Spreading.{spread-if}
+use Rattle.marking.proofs.Stepping.{steps-spread}
 use Rattle.validity.proofs.usefulness.use_args.Goals as goal
-
-pub loop-k-init : goal.loop-k-init
-loop-k-init c =
-    (c.arity_of-arity.ensures, spread-begin (DownTo c.args.transitions.now c.args.at))
-
-pub mark-changed-requires : goal.mark-changed-requires
-mark-changed-requires c = record {
-  marks_len = c.loop-k.invariant.1.swept.size ∙ c.requires.marks_len;
-  q_lt_byte_values = c.arg_of-q.ensures.upper_bound;
-}
-
-pub loop-k-preserved : goal.loop-k-preserved
-loop-k-preserved c =
-    let now = c.loop-k in
-    let s = c.args.transitions.now in
-    let at = c.args.at in
-    let e = now.invariant.1.swept.kept (out_of s at) c.requires.at_value in
-    let new = rw c.arg_of-q.ensures.value at c.mark-changed.ensures in
-    (now.invariant.0, spread-next (DownTo s at) now.k now.invariant.1 (spread-down s at now.k e new))
 
 pub returns : goal.returns
 returns c =
-    let now = c.loop-k in
-    let e : now.k ≡ arity_of c.args.transitions.now c.args.at = omega (arith, now.invariant.0) in
-    rw e at now.invariant.1
+    spread-if (λ p w d k h. d k h (w (out_of c.args.transitions.now c.args.at) c.requires.at_value)) (λ u k h o. u k h)
+    (steps-spread (λ k. Has (arg_of c.args.transitions.now c.args.at k)) (arity_of c.args.transitions.now c.args.at)
+    (λ k p q r h e. search rules) (rw c.arity_of.ensures at c.sweep.ensures))
