@@ -14,6 +14,7 @@ ghost use Rattle.pairs.specs.Counts.{MarkedBy, Open, Setting, SomeUp, Subtrees, 
 use crate::sums::sums_into;
 use fields::{arg_of, arity_of, out_of};
 use format::{BYTE_VALUES, TRANSITION_BYTES};
+use marking::sweep;
 
 // The mark of a state to which `count` subtrees and `sum` nodes over subtrees run.
 fn opens(count: u8, sum: u8) -> u8
@@ -71,12 +72,9 @@ fn mark_outputs(transitions: &[u8], count: usize, marks: &mut [u8; BYTE_VALUES])
     requires marks_len { length marks.old ≡ byte_values }
     ensures { Spread (UpTo (nth_some_up transitions.now) count) marks.old marks.new result }
 {
-    let mut changed = false;
-    for i in 0..count {
-        let r = mark_output(transitions, TRANSITION_BYTES * i, marks);
-        changed |= r;
-    }
-    changed
+    sweep(count, marks, |i, marks| {
+        mark_output(transitions, TRANSITION_BYTES * i, marks)
+    })
 }
 
 // Marks for the open states, from the number of subtrees of each state.
