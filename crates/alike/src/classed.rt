@@ -9,10 +9,12 @@ ghost use Rattle.table.specs.Layout.{transitions_in};
 ghost use Rattle.trees.specs.Tree.{Tree};
 ghost use Rattle.alike.specs.Agreeing.{named_like_state, named_like_subtree};
 ghost use Rattle.alike.specs.Known.{Holds, NamedAbove, Shaped};
+ghost use Rattle.uses.specs.Settings.{ParentsFrom, SearchableIn};
 
 use crate::frames::frames_agree;
 use format::{MAX_NODES, wide};
 use subtrees::CHILD_NUMBERS;
+use uses::Setting;
 
 // Whether two bytes are the same class; only 1 is accepting.
 fn same_class(a: u8, b: u8) -> bool
@@ -27,121 +29,65 @@ fn same_class(a: u8, b: u8) -> bool
 // Whether subtree j has class `class`, which is that of state q or of 0, and in each of its frames the name that q
 // has there. `from` and `to` bound the indices of its parents.
 pub fn named_like_state(
-    transitions: &[u8],
-    count: usize,
-    m: usize,
-    labels: &[u16; MAX_NODES],
-    arities: &[u8; MAX_NODES],
-    children: &[u8; CHILD_NUMBERS],
-    states: &[u8; MAX_NODES],
+    setting: &Setting<'_>,
     names: &[u8; MAX_NODES],
-    classes: &[u8; MAX_NODES],
     j: u8,
     q: u8,
     class: u8,
     from: usize,
     to: usize,
 ) -> bool
-    requires searchable { Searchable transitions.now count }
-    requires shaped { Shaped m arities.now children.now }
+    requires searchable { SearchableIn setting.now }
+    requires shaped { Shaped setting.now.subtrees.now.count setting.now.subtrees.now.arities setting.now.subtrees.now.children }
     requires le_j { 1 ≤ j }
-    requires j_le_m { j ≤ m }
-    requires parents_within { ParentsWithin m arities.now children.now j from to }
+    requires j_le_m { j ≤ setting.now.subtrees.now.count }
+    requires parents_within { ParentsFrom setting.now.subtrees.now j from to }
     ensures { (A : Automaton) (t : Tree) (ts : List Tree) (S : Tree → Bool) (N : Tree → ℕ) →
-        A.transitions ≡ transitions_in transitions.now count →
-        Holds A t ts m labels.now arities.now children.now states.now →
-        NamedAbove A t ts m j names.now N →
-        eqb (get_or classes.now (j - 1) 0) 1 ≡ S (tree_numbered ts j) → eqb class 1 ≡ accepting A q →
+        A.transitions ≡ transitions_in setting.now.transitions.now setting.now.count →
+        Holds A t ts setting.now.subtrees.now.count setting.now.subtrees.now.labels setting.now.subtrees.now.arities setting.now.subtrees.now.children setting.now.subtrees.now.states →
+        NamedAbove A t ts setting.now.subtrees.now.count j names.now N →
+        eqb (get_or setting.now.classes.now (j - 1) 0) 1 ≡ S (tree_numbered ts j) → eqb class 1 ≡ accepting A q →
         result ≡ named_like_state A t S N (tree_numbered ts j) q }
 {
     let number = wide(j);
-    if !same_class(classes[number - 1], class) {
+    if !same_class(setting.classes[number - 1], class) {
         return false;
     }
-    frames_agree(
-        transitions,
-        count,
-        m,
-        labels,
-        arities,
-        children,
-        states,
-        names,
-        number,
-        true,
-        q,
-        from,
-        to,
-    )
+    frames_agree(setting, names, number, true, q, from, to)
 }
 
 // Whether subtrees j and v have the same class and, in each frame of either, the same name. `from` and `to` bound the
 // indices of the parents of both.
 pub fn named_like_subtree(
-    transitions: &[u8],
-    count: usize,
-    m: usize,
-    labels: &[u16; MAX_NODES],
-    arities: &[u8; MAX_NODES],
-    children: &[u8; CHILD_NUMBERS],
-    states: &[u8; MAX_NODES],
+    setting: &Setting<'_>,
     names: &[u8; MAX_NODES],
-    classes: &[u8; MAX_NODES],
     j: u8,
     v: u8,
     from: usize,
     to: usize,
 ) -> bool
-    requires searchable { Searchable transitions.now count }
-    requires shaped { Shaped m arities.now children.now }
+    requires searchable { SearchableIn setting.now }
+    requires shaped { Shaped setting.now.subtrees.now.count setting.now.subtrees.now.arities setting.now.subtrees.now.children }
     requires le_j { 1 ≤ j }
     requires j_lt_v { j < v }
-    requires v_le_m { v ≤ m }
-    requires parents_within { ParentsWithin m arities.now children.now j from to }
-    requires parents_within_2 { ParentsWithin m arities.now children.now v from to }
+    requires v_le_m { v ≤ setting.now.subtrees.now.count }
+    requires parents_within { ParentsFrom setting.now.subtrees.now j from to }
+    requires parents_within_2 { ParentsFrom setting.now.subtrees.now v from to }
     ensures { (A : Automaton) (t : Tree) (ts : List Tree) (S : Tree → Bool) (N : Tree → ℕ) →
-        A.transitions ≡ transitions_in transitions.now count →
-        Holds A t ts m labels.now arities.now children.now states.now →
-        NamedAbove A t ts m j names.now N →
-        eqb (get_or classes.now (j - 1) 0) 1 ≡ S (tree_numbered ts j) →
-        eqb (get_or classes.now (v - 1) 0) 1 ≡ S (tree_numbered ts v) →
+        A.transitions ≡ transitions_in setting.now.transitions.now setting.now.count →
+        Holds A t ts setting.now.subtrees.now.count setting.now.subtrees.now.labels setting.now.subtrees.now.arities setting.now.subtrees.now.children setting.now.subtrees.now.states →
+        NamedAbove A t ts setting.now.subtrees.now.count j names.now N →
+        eqb (get_or setting.now.classes.now (j - 1) 0) 1 ≡ S (tree_numbered ts j) →
+        eqb (get_or setting.now.classes.now (v - 1) 0) 1 ≡ S (tree_numbered ts v) →
         result ≡ named_like_subtree t S N (tree_numbered ts j) (tree_numbered ts v) }
 {
     let first = wide(j);
     let second = wide(v);
-    if !same_class(classes[first - 1], classes[second - 1]) {
+    if !same_class(setting.classes[first - 1], setting.classes[second - 1]) {
         return false;
     }
-    if !frames_agree(
-        transitions,
-        count,
-        m,
-        labels,
-        arities,
-        children,
-        states,
-        names,
-        first,
-        false,
-        v,
-        from,
-        to,
-    ) {
+    if !frames_agree(setting, names, first, false, v, from, to) {
         return false;
     }
-    frames_agree(
-        transitions,
-        count,
-        m,
-        labels,
-        arities,
-        children,
-        states,
-        names,
-        second,
-        false,
-        j,
-        from,
-        to,
-    )
+    frames_agree(setting, names, second, false, j, from, to)
 }

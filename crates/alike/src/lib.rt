@@ -18,154 +18,72 @@ ghost use Rattle.trees.specs.Tree.{Tree};
 ghost use Rattle.uses.specs.Spans.{UsesWithin};
 ghost use Rattle.uses.specs.Uses.{Holds};
 ghost use Rattle.alike.specs.Known.{NamedAbove, Shaped};
+ghost use Rattle.uses.specs.Settings.{HoldsIn, OverStates, ParentsFrom, SearchableIn, UsesBounded};
 
 use classed::{named_like_state, named_like_subtree};
 use format::{BYTE_VALUES, MAX_NODES};
 pub use slots::frame_slot_of;
 use subtrees::CHILD_NUMBERS;
-use uses::{state_uses_agree, subtree_uses_agree};
+use uses::{Setting, state_uses_agree, subtree_uses_agree};
 
 // Whether subtree j can stand for q, a state or 0, whose class is `class`. The uses of a state lie between its
 // entries of `lows` and `lasts`, the parents of j between `from` and `to`.
 pub fn like_state(
-    transitions: &[u8],
-    count: usize,
-    n: usize,
-    m: usize,
-    labels: &[u16; MAX_NODES],
-    arities: &[u8; MAX_NODES],
-    children: &[u8; CHILD_NUMBERS],
-    states: &[u8; MAX_NODES],
-    weights: &[u8; BYTE_VALUES],
-    lows: &[u16; BYTE_VALUES],
-    lasts: &[u16; BYTE_VALUES],
+    setting: &Setting<'_>,
     names: &[u8; MAX_NODES],
-    classes: &[u8; MAX_NODES],
     j: u8,
     q: u8,
     class: u8,
     from: usize,
     to: usize,
 ) -> bool
-    requires searchable { Searchable transitions.now count }
-    requires holds_transitions_over { HoldsTransitionsOver transitions.now count n }
-    requires shaped { Shaped m arities.now children.now }
+    requires searchable { SearchableIn setting.now }
+    requires holds_transitions_over { OverStates setting.now }
+    requires shaped { Shaped setting.now.subtrees.now.count setting.now.subtrees.now.arities setting.now.subtrees.now.children }
     requires le_j { 1 ≤ j }
-    requires j_le_m { j ≤ m }
-    requires uses_within { UsesWithin transitions.now count lows.now lasts.now }
-    requires parents_within { ParentsWithin m arities.now children.now j from to }
+    requires j_le_m { j ≤ setting.now.subtrees.now.count }
+    requires uses_within { UsesBounded setting.now }
+    requires parents_within { ParentsFrom setting.now.subtrees.now j from to }
     ensures { (A : Automaton) (t : Tree) (ts : List Tree) (S : Tree → Bool) (N : Tree → ℕ) →
-        Holds A t ts transitions.now count n labels.now arities.now children.now states.now weights.now m →
-        NamedAbove A t ts m j names.now N →
-        eqb (get_or classes.now (j - 1) 0) 1 ≡ S (tree_numbered ts j) → eqb class 1 ≡ accepting A q →
+        HoldsIn A t ts setting.now →
+        NamedAbove A t ts setting.now.subtrees.now.count j names.now N →
+        eqb (get_or setting.now.classes.now (j - 1) 0) 1 ≡ S (tree_numbered ts j) → eqb class 1 ≡ accepting A q →
         result ≡ like_state A t S N (tree_numbered ts j) q }
 {
-    if !named_like_state(
-        transitions,
-        count,
-        m,
-        labels,
-        arities,
-        children,
-        states,
-        names,
-        classes,
-        j,
-        q,
-        class,
-        from,
-        to,
-    ) {
+    if !named_like_state(setting, names, j, q, class, from, to) {
         return false;
     }
-    state_uses_agree(
-        transitions,
-        count,
-        n,
-        labels,
-        arities,
-        children,
-        states,
-        weights,
-        lows,
-        lasts,
-        from,
-        to,
-        m,
-        j,
-        q,
-    )
+    state_uses_agree(setting, from, to, j, q)
 }
 
 // Whether subtree j can stand for subtree v, which has a greater number. The parents of both lie between `from` and
 // `to`.
 pub fn like_subtree(
-    transitions: &[u8],
-    count: usize,
-    n: usize,
-    m: usize,
-    labels: &[u16; MAX_NODES],
-    arities: &[u8; MAX_NODES],
-    children: &[u8; CHILD_NUMBERS],
-    states: &[u8; MAX_NODES],
-    weights: &[u8; BYTE_VALUES],
-    lows: &[u16; BYTE_VALUES],
-    lasts: &[u16; BYTE_VALUES],
+    setting: &Setting<'_>,
     names: &[u8; MAX_NODES],
-    classes: &[u8; MAX_NODES],
     j: u8,
     v: u8,
     from: usize,
     to: usize,
 ) -> bool
-    requires searchable { Searchable transitions.now count }
-    requires holds_transitions_over { HoldsTransitionsOver transitions.now count n }
-    requires shaped { Shaped m arities.now children.now }
+    requires searchable { SearchableIn setting.now }
+    requires holds_transitions_over { OverStates setting.now }
+    requires shaped { Shaped setting.now.subtrees.now.count setting.now.subtrees.now.arities setting.now.subtrees.now.children }
     requires le_j { 1 ≤ j }
     requires j_lt_v { j < v }
-    requires v_le_m { v ≤ m }
-    requires uses_within { UsesWithin transitions.now count lows.now lasts.now }
-    requires parents_within { ParentsWithin m arities.now children.now j from to }
-    requires parents_within_2 { ParentsWithin m arities.now children.now v from to }
+    requires v_le_m { v ≤ setting.now.subtrees.now.count }
+    requires uses_within { UsesBounded setting.now }
+    requires parents_within { ParentsFrom setting.now.subtrees.now j from to }
+    requires parents_within_2 { ParentsFrom setting.now.subtrees.now v from to }
     ensures { (A : Automaton) (t : Tree) (ts : List Tree) (S : Tree → Bool) (N : Tree → ℕ) →
-        Holds A t ts transitions.now count n labels.now arities.now children.now states.now weights.now m →
-        NamedAbove A t ts m j names.now N →
-        eqb (get_or classes.now (j - 1) 0) 1 ≡ S (tree_numbered ts j) →
-        eqb (get_or classes.now (v - 1) 0) 1 ≡ S (tree_numbered ts v) →
+        HoldsIn A t ts setting.now →
+        NamedAbove A t ts setting.now.subtrees.now.count j names.now N →
+        eqb (get_or setting.now.classes.now (j - 1) 0) 1 ≡ S (tree_numbered ts j) →
+        eqb (get_or setting.now.classes.now (v - 1) 0) 1 ≡ S (tree_numbered ts v) →
         result ≡ like_subtree A t S N (tree_numbered ts j) (tree_numbered ts v) }
 {
-    if !named_like_subtree(
-        transitions,
-        count,
-        m,
-        labels,
-        arities,
-        children,
-        states,
-        names,
-        classes,
-        j,
-        v,
-        from,
-        to,
-    ) {
+    if !named_like_subtree(setting, names, j, v, from, to) {
         return false;
     }
-    subtree_uses_agree(
-        transitions,
-        count,
-        n,
-        labels,
-        arities,
-        children,
-        states,
-        weights,
-        lows,
-        lasts,
-        from,
-        to,
-        m,
-        j,
-        v,
-    )
+    subtree_uses_agree(setting, from, to, j, v)
 }

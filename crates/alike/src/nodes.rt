@@ -11,10 +11,12 @@ ghost use Rattle.table.specs.Layout.{transitions_in};
 ghost use Rattle.trees.specs.Tree.{Tree, node};
 ghost use Rattle.alike.specs.Agreeing.{state_of};
 ghost use Rattle.alike.specs.Known.{Holds, NamedAbove};
+ghost use Rattle.uses.specs.Settings.{SearchableIn};
 
 use format::{MAX_ARITY, MAX_NODES, wide};
 use packed::output;
 use subtrees::{CHILD_NUMBERS, search};
+use uses::Setting;
 
 // The child numbers of the subtree at index i, and zeros after them.
 pub fn children_of(children: &[u8; CHILD_NUMBERS], i: usize, arity: usize) -> [u8; MAX_ARITY]
@@ -81,32 +83,26 @@ pub fn step_node(
 // The name of a node over the subtrees with these numbers. One of them must be at least j, and the names above j must
 // be known. A node that is no subtree has its state as its name.
 pub fn node_name(
-    transitions: &[u8],
-    count: usize,
-    m: usize,
-    labels: &[u16; MAX_NODES],
-    arities: &[u8; MAX_NODES],
-    children: &[u8; CHILD_NUMBERS],
-    states: &[u8; MAX_NODES],
+    setting: &Setting<'_>,
     names: &[u8; MAX_NODES],
     label: u16,
     arity: u8,
     numbers: [u8; MAX_ARITY],
 ) -> u8
-    requires searchable { Searchable transitions.now count }
-    requires m_le_max_nodes { m ≤ max_nodes }
-    requires children { Children numbers arity m }
+    requires searchable { SearchableIn setting.now }
+    requires m_le_max_nodes { setting.now.subtrees.now.count ≤ max_nodes }
+    requires children { Children numbers arity setting.now.subtrees.now.count }
     ensures { (A : Automaton) (t : Tree) (ts : List Tree) (N : Tree → ℕ) (j : ℕ) (k : ℕ) →
-        A.transitions ≡ transitions_in transitions.now count →
-        Holds A t ts m labels.now arities.now children.now states.now →
-        NamedAbove A t ts m j names.now N → k < arity → j ≤ get_or numbers k 0 →
+        A.transitions ≡ transitions_in setting.now.transitions.now setting.now.count →
+        Holds A t ts setting.now.subtrees.now.count setting.now.subtrees.now.labels setting.now.subtrees.now.arities setting.now.subtrees.now.children setting.now.subtrees.now.states →
+        NamedAbove A t ts setting.now.subtrees.now.count j names.now N → k < arity → j ≤ get_or numbers k 0 →
         result ≡ N (node label (trees_numbered ts (take arity numbers))) }
 {
-    let i = search(labels, arities, children, m, label, arity, numbers);
-    if i < m {
+    let i = search(setting.subtrees, label, arity, numbers);
+    if i < setting.subtrees.count {
         return names[i];
     }
     let width = wide(arity);
-    let qs = states_of(states, numbers, width);
-    step_node(transitions, count, label, width, qs)
+    let qs = states_of(&setting.subtrees.states, numbers, width);
+    step_node(setting.transitions, setting.count, label, width, qs)
 }

@@ -28,22 +28,12 @@ use models::find_subtree;
 use parents::{anchored, note_parents};
 use seeking::find_state;
 use subtrees::CHILD_NUMBERS;
+use uses::Setting;
 
 // The name of subtree j, from the names of the subtrees with greater numbers.
 fn name_subtree(
     table: &[u8],
-    transitions: &[u8],
-    count: usize,
-    n: usize,
-    m: usize,
-    labels: &[u16; MAX_NODES],
-    arities: &[u8; MAX_NODES],
-    children: &[u8; CHILD_NUMBERS],
-    states: &[u8; MAX_NODES],
-    weights: &[u8; BYTE_VALUES],
-    classes: &[u8; MAX_NODES],
-    lows: &[u16; BYTE_VALUES],
-    lasts: &[u16; BYTE_VALUES],
+    setting: &Setting<'_>,
     marks: &[u8; BYTE_VALUES],
     names: &[u8; MAX_NODES],
     shared: &[u8; MAX_NODES],
@@ -51,70 +41,33 @@ fn name_subtree(
     tos: &[u8; MAX_NODES],
     j: usize,
 ) -> u8
-    requires sized { Sized table.now transitions.now count n m arities.now children.now
-        lows.now lasts.now }
-    requires shared { Shared n m j names.now shared.now }
-    requires spans_of { SpansOf m arities.now children.now froms.now tos.now }
+    requires sized { Sized table.now setting.now.transitions.now setting.now.count setting.now.n setting.now.subtrees.now.count setting.now.subtrees.now.arities setting.now.subtrees.now.children
+        setting.now.lows.now setting.now.lasts.now }
+    requires shared { Shared setting.now.n setting.now.subtrees.now.count j names.now shared.now }
+    requires spans_of { SpansOf setting.now.subtrees.now.count setting.now.subtrees.now.arities setting.now.subtrees.now.children froms.now tos.now }
     requires le_j { 1 ≤ j }
-    requires j_le_m { j ≤ m }
-    ensures upper_bound { result ≤ n + m }
+    requires j_le_m { j ≤ setting.now.subtrees.now.count }
+    ensures upper_bound { result ≤ setting.now.n + setting.now.subtrees.now.count }
     ensures chosen { (A : Automaton) (t : Tree) (ts : List Tree) (S : (Tree → Bool)) (N : (Tree → ℕ)) →
-        Known A t ts S table.now transitions.now count n m
-        labels.now arities.now children.now states.now
-        weights.now classes.now → Open A t marks.now →
-        NamedAbove A t ts m j names.now N → Chosen A t S ts n m N j result }
+        Known A t ts S table.now setting.now.transitions.now setting.now.count setting.now.n setting.now.subtrees.now.count
+        setting.now.subtrees.now.labels setting.now.subtrees.now.arities setting.now.subtrees.now.children setting.now.subtrees.now.states
+        setting.now.weights.now setting.now.classes.now → Open A t marks.now →
+        NamedAbove A t ts setting.now.subtrees.now.count j names.now N → Chosen A t S ts setting.now.n setting.now.subtrees.now.count N j result }
 {
     let from = wide(froms[j - 1]);
     let to = wide(tos[j - 1]);
-    if anchored(n, m, arities, children, names, shared, j, from, to) {
-        return (n + j) as u8;
+    if anchored(setting.n, setting.subtrees, names, shared, j, from, to) {
+        return (setting.n + j) as u8;
     }
-    let q = find_state(
-        table,
-        transitions,
-        count,
-        n,
-        m,
-        labels,
-        arities,
-        children,
-        states,
-        weights,
-        classes,
-        lows,
-        lasts,
-        marks,
-        names,
-        j,
-        from,
-        to,
-    );
-    if q <= n {
+    let q = find_state(table, setting, marks, names, j, from, to);
+    if q <= setting.n {
         return q as u8;
     }
-    let v = find_subtree(
-        table,
-        transitions,
-        count,
-        n,
-        m,
-        labels,
-        arities,
-        children,
-        states,
-        weights,
-        classes,
-        lows,
-        lasts,
-        names,
-        froms,
-        tos,
-        j,
-    );
-    if v <= m {
-        return (n + v) as u8;
+    let v = find_subtree(table, setting, names, froms, tos, j);
+    if v <= setting.subtrees.count {
+        return (setting.n + v) as u8;
     }
-    (n + j) as u8
+    (setting.n + j) as u8
 }
 
 // Marks subtree i if subtree j has the own name of i and is not i itself.
@@ -140,59 +93,28 @@ fn mark_shared(n: usize, m: usize, shared: &mut [u8; MAX_NODES], j: usize, name:
 // Fills in the names of the m subtrees, from the last to the first.
 pub fn name_all(
     table: &[u8],
-    transitions: &[u8],
-    count: usize,
-    n: usize,
-    m: usize,
-    labels: &[u16; MAX_NODES],
-    arities: &[u8; MAX_NODES],
-    children: &[u8; CHILD_NUMBERS],
-    states: &[u8; MAX_NODES],
-    weights: &[u8; BYTE_VALUES],
-    classes: &[u8; MAX_NODES],
-    lows: &[u16; BYTE_VALUES],
-    lasts: &[u16; BYTE_VALUES],
+    setting: &Setting<'_>,
     marks: &[u8; BYTE_VALUES],
     names: &mut [u8; MAX_NODES],
 )
-    requires { Sized table.now transitions.now count n m arities.now children.now
-        lows.now lasts.now }
-    ensures bounded { Bounded n m names.new }
+    requires { Sized table.now setting.now.transitions.now setting.now.count setting.now.n setting.now.subtrees.now.count setting.now.subtrees.now.arities setting.now.subtrees.now.children
+        setting.now.lows.now setting.now.lasts.now }
+    ensures bounded { Bounded setting.now.n setting.now.subtrees.now.count names.new }
     ensures searched { (A : Automaton) (t : Tree) (ts : List Tree) (S : (Tree → Bool)) →
-        Known A t ts S table.now transitions.now count n m
-        labels.now arities.now children.now states.now
-        weights.now classes.now → Open A t marks.now →
+        Known A t ts S table.now setting.now.transitions.now setting.now.count setting.now.n setting.now.subtrees.now.count
+        setting.now.subtrees.now.labels setting.now.subtrees.now.arities setting.now.subtrees.now.children setting.now.subtrees.now.states
+        setting.now.weights.now setting.now.classes.now → Open A t marks.now →
         Searched A t S (subtree_number ts) (name_in ts names.new) }
 {
     let mut froms = [0u8; MAX_NODES];
     let mut tos = [0u8; MAX_NODES];
-    note_parents(m, arities, children, &mut froms, &mut tos);
+    note_parents(setting.subtrees, &mut froms, &mut tos);
     *names = [0u8; MAX_NODES];
     let mut shared = [0u8; MAX_NODES];
-    let mut j = m;
+    let mut j = setting.subtrees.count;
     while j > 0 {
-        let name = name_subtree(
-            table,
-            transitions,
-            count,
-            n,
-            m,
-            labels,
-            arities,
-            children,
-            states,
-            weights,
-            classes,
-            lows,
-            lasts,
-            marks,
-            names,
-            &shared,
-            &froms,
-            &tos,
-            j,
-        );
-        mark_shared(n, m, &mut shared, j, name);
+        let name = name_subtree(table, setting, marks, names, &shared, &froms, &tos, j);
+        mark_shared(setting.n, setting.subtrees.count, &mut shared, j, name);
         names[j - 1] = name;
         j -= 1;
     }

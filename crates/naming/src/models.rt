@@ -10,6 +10,7 @@ ghost use Rattle.naming.specs.Parents.{SpansOf};
 use alike::like_subtree;
 use format::{BYTE_VALUES, MAX_NODES, wide};
 use subtrees::CHILD_NUMBERS;
+use uses::Setting;
 
 // The lesser of two numbers.
 fn least(a: u8, b: u8) -> u8
@@ -37,118 +38,59 @@ fn greatest(a: u8, b: u8) -> u8
 // Whether subtree v has its own name and subtree j is like it. The span that is looked at has the parents of both.
 fn fits_subtree(
     table: &[u8],
-    transitions: &[u8],
-    count: usize,
-    n: usize,
-    m: usize,
-    labels: &[u16; MAX_NODES],
-    arities: &[u8; MAX_NODES],
-    children: &[u8; CHILD_NUMBERS],
-    states: &[u8; MAX_NODES],
-    weights: &[u8; BYTE_VALUES],
-    classes: &[u8; MAX_NODES],
-    lows: &[u16; BYTE_VALUES],
-    lasts: &[u16; BYTE_VALUES],
+    setting: &Setting<'_>,
     names: &[u8; MAX_NODES],
     froms: &[u8; MAX_NODES],
     tos: &[u8; MAX_NODES],
     j: usize,
     v: usize,
 ) -> bool
-    requires sized { Sized table.now transitions.now count n m arities.now children.now
-        lows.now lasts.now }
-    requires spans_of { SpansOf m arities.now children.now froms.now tos.now }
+    requires sized { Sized table.now setting.now.transitions.now setting.now.count setting.now.n setting.now.subtrees.now.count setting.now.subtrees.now.arities setting.now.subtrees.now.children
+        setting.now.lows.now setting.now.lasts.now }
+    requires spans_of { SpansOf setting.now.subtrees.now.count setting.now.subtrees.now.arities setting.now.subtrees.now.children froms.now tos.now }
     requires le_j { 1 ≤ j }
     requires j_lt_v { j < v }
-    requires v_le_m { v ≤ m }
+    requires v_le_m { v ≤ setting.now.subtrees.now.count }
     ensures { (A : Automaton) (t : Tree) (ts : List Tree) (S : (Tree → Bool)) (N : (Tree → ℕ)) →
-        Known A t ts S table.now transitions.now count n m
-        labels.now arities.now children.now states.now
-        weights.now classes.now →
-        NamedAbove A t ts m j names.now N → SubtreeTried A t S ts n N j v result }
+        Known A t ts S table.now setting.now.transitions.now setting.now.count setting.now.n setting.now.subtrees.now.count
+        setting.now.subtrees.now.labels setting.now.subtrees.now.arities setting.now.subtrees.now.children setting.now.subtrees.now.states
+        setting.now.weights.now setting.now.classes.now →
+        NamedAbove A t ts setting.now.subtrees.now.count j names.now N → SubtreeTried A t S ts setting.now.n N j v result }
 {
-    if wide(names[v - 1]) != n + v {
+    if wide(names[v - 1]) != setting.n + v {
         return false;
     }
     let first = j as u8;
     let second = v as u8;
     let from = wide(least(froms[j - 1], froms[v - 1]));
     let to = wide(greatest(tos[j - 1], tos[v - 1]));
-    like_subtree(
-        transitions,
-        count,
-        n,
-        m,
-        labels,
-        arities,
-        children,
-        states,
-        weights,
-        lows,
-        lasts,
-        names,
-        classes,
-        first,
-        second,
-        from,
-        to,
-    )
+    like_subtree(setting, names, first, second, from, to)
 }
 
 // The first subtree after j that has its own name and that j is like; m + 1 if there is none.
 pub fn find_subtree(
     table: &[u8],
-    transitions: &[u8],
-    count: usize,
-    n: usize,
-    m: usize,
-    labels: &[u16; MAX_NODES],
-    arities: &[u8; MAX_NODES],
-    children: &[u8; CHILD_NUMBERS],
-    states: &[u8; MAX_NODES],
-    weights: &[u8; BYTE_VALUES],
-    classes: &[u8; MAX_NODES],
-    lows: &[u16; BYTE_VALUES],
-    lasts: &[u16; BYTE_VALUES],
+    setting: &Setting<'_>,
     names: &[u8; MAX_NODES],
     froms: &[u8; MAX_NODES],
     tos: &[u8; MAX_NODES],
     j: usize,
 ) -> usize
-    requires sized { Sized table.now transitions.now count n m arities.now children.now
-        lows.now lasts.now }
-    requires spans_of { SpansOf m arities.now children.now froms.now tos.now }
+    requires sized { Sized table.now setting.now.transitions.now setting.now.count setting.now.n setting.now.subtrees.now.count setting.now.subtrees.now.arities setting.now.subtrees.now.children
+        setting.now.lows.now setting.now.lasts.now }
+    requires spans_of { SpansOf setting.now.subtrees.now.count setting.now.subtrees.now.arities setting.now.subtrees.now.children froms.now tos.now }
     requires le_j { 1 ≤ j }
-    requires j_le_m { j ≤ m }
+    requires j_le_m { j ≤ setting.now.subtrees.now.count }
     ensures lower_bound { j < result }
     ensures subtree_sought { (A : Automaton) (t : Tree) (ts : List Tree) (S : (Tree → Bool)) (N : (Tree → ℕ)) →
-        Known A t ts S table.now transitions.now count n m
-        labels.now arities.now children.now states.now
-        weights.now classes.now →
-        NamedAbove A t ts m j names.now N → SubtreeSought A t S ts n m N j result }
+        Known A t ts S table.now setting.now.transitions.now setting.now.count setting.now.n setting.now.subtrees.now.count
+        setting.now.subtrees.now.labels setting.now.subtrees.now.arities setting.now.subtrees.now.children setting.now.subtrees.now.states
+        setting.now.weights.now setting.now.classes.now →
+        NamedAbove A t ts setting.now.subtrees.now.count j names.now N → SubtreeSought A t S ts setting.now.n setting.now.subtrees.now.count N j result }
 {
     let mut v = j + 1;
-    while v <= m {
-        if fits_subtree(
-            table,
-            transitions,
-            count,
-            n,
-            m,
-            labels,
-            arities,
-            children,
-            states,
-            weights,
-            classes,
-            lows,
-            lasts,
-            names,
-            froms,
-            tos,
-            j,
-            v,
-        ) {
+    while v <= setting.subtrees.count {
+        if fits_subtree(table, setting, names, froms, tos, j, v) {
             return v;
         }
         v += 1;

@@ -8,9 +8,10 @@ ghost use Rattle.lists.specs.Tests.{any};
 ghost use Rattle.subtrees.specs.Parents.{ParentsWithin};
 ghost use Rattle.naming.specs.Parents.{ChildNoted, ParentsNoted, SpansOf, anchors, is_child, raises};
 ghost use Rattle.alike.specs.Known.{Shaped};
+ghost use Rattle.uses.specs.Settings.{ParentsFrom};
 
 use format::{MAX_ARITY, MAX_NODES, wide};
-use subtrees::CHILD_NUMBERS;
+use subtrees::{CHILD_NUMBERS, Subtrees};
 
 // Notes the subtree at index i as the last parent of subtree j so far.
 fn note_child(froms: &mut [u8; MAX_NODES], tos: &mut [u8; MAX_NODES], i: usize, j: usize)
@@ -31,61 +32,47 @@ fn note_child(froms: &mut [u8; MAX_NODES], tos: &mut [u8; MAX_NODES], i: usize, 
 
 // The same for each child of the subtree at index i.
 fn note_children(
-    m: usize,
-    arities: &[u8; MAX_NODES],
-    children: &[u8; CHILD_NUMBERS],
+    subtrees: &Subtrees,
     froms: &mut [u8; MAX_NODES],
     tos: &mut [u8; MAX_NODES],
     i: usize,
 )
-    requires shaped { Shaped m arities.now children.now }
-    requires i_lt_m { i < m }
-    requires parents_noted { ParentsNoted arities.now children.now i (max_arity * i) froms.old tos.old }
-    ensures { ParentsNoted arities.now children.now (i + 1) (max_arity * (i + 1))
+    requires shaped { Shaped subtrees.now.count subtrees.now.arities subtrees.now.children }
+    requires i_lt_m { i < subtrees.now.count }
+    requires parents_noted { ParentsNoted subtrees.now.arities subtrees.now.children i (max_arity * i) froms.old tos.old }
+    ensures { ParentsNoted subtrees.now.arities subtrees.now.children (i + 1) (max_arity * (i + 1))
         froms.new tos.new }
 {
-    let arity = wide(arities[i]);
+    let arity = wide(subtrees.arities[i]);
     for k in 0..arity {
-        let j = wide(children[MAX_ARITY * i + k]);
+        let j = wide(subtrees.children[MAX_ARITY * i + k]);
         note_child(froms, tos, i, j);
     }
 }
 
 // For each of the m subtrees, the index of its first parent and the index of its last parent plus 1; both 0 if it has
 // none.
-pub fn note_parents(
-    m: usize,
-    arities: &[u8; MAX_NODES],
-    children: &[u8; CHILD_NUMBERS],
-    froms: &mut [u8; MAX_NODES],
-    tos: &mut [u8; MAX_NODES],
-)
-    requires { Shaped m arities.now children.now }
-    ensures { SpansOf m arities.now children.now froms.new tos.new }
+pub fn note_parents(subtrees: &Subtrees, froms: &mut [u8; MAX_NODES], tos: &mut [u8; MAX_NODES])
+    requires { Shaped subtrees.now.count subtrees.now.arities subtrees.now.children }
+    ensures { SpansOf subtrees.now.count subtrees.now.arities subtrees.now.children froms.new tos.new }
 {
     *froms = [0u8; MAX_NODES];
     *tos = [0u8; MAX_NODES];
-    for i in 0..m {
-        note_children(m, arities, children, froms, tos, i);
+    for i in 0..subtrees.count {
+        note_children(subtrees, froms, tos, i);
     }
 }
 
 // Whether subtree j is a child of subtree i.
-fn is_child(
-    m: usize,
-    arities: &[u8; MAX_NODES],
-    children: &[u8; CHILD_NUMBERS],
-    i: usize,
-    j: usize,
-) -> bool
-    requires shaped { Shaped m arities.now children.now }
+fn is_child(subtrees: &Subtrees, i: usize, j: usize) -> bool
+    requires shaped { Shaped subtrees.now.count subtrees.now.arities subtrees.now.children }
     requires le_i { 1 ≤ i }
-    requires i_le_m { i ≤ m }
-    ensures { result ≡ is_child arities.now children.now i j }
+    requires i_le_m { i ≤ subtrees.now.count }
+    ensures { result ≡ is_child subtrees.now.arities subtrees.now.children i j }
 {
-    let arity = wide(arities[i - 1]);
+    let arity = wide(subtrees.arities[i - 1]);
     for k in 0..arity {
-        if wide(children[MAX_ARITY * (i - 1) + k]) == j {
+        if wide(subtrees.children[MAX_ARITY * (i - 1) + k]) == j {
             return true;
         }
     }
@@ -95,19 +82,17 @@ fn is_child(
 // Whether subtree i is a parent of subtree j, has its own name and no other subtree has that name.
 fn anchors_child(
     n: usize,
-    m: usize,
-    arities: &[u8; MAX_NODES],
-    children: &[u8; CHILD_NUMBERS],
+    subtrees: &Subtrees,
     names: &[u8; MAX_NODES],
     shared: &[u8; MAX_NODES],
     i: usize,
     j: usize,
 ) -> bool
     requires n_le_max_states { n ≤ max_states }
-    requires shaped { Shaped m arities.now children.now }
+    requires shaped { Shaped subtrees.now.count subtrees.now.arities subtrees.now.children }
     requires le_i { 1 ≤ i }
-    requires i_le_m { i ≤ m }
-    ensures { result ≡ anchors n arities.now children.now names.now
+    requires i_le_m { i ≤ subtrees.now.count }
+    ensures { result ≡ anchors n subtrees.now.arities subtrees.now.children names.now
         shared.now j i }
 {
     if wide(names[i - 1]) != n + i {
@@ -116,16 +101,14 @@ fn anchors_child(
     if shared[i - 1] != 0 {
         return false;
     }
-    is_child(m, arities, children, i, j)
+    is_child(subtrees, i, j)
 }
 
 // Whether some parent of subtree j has its own name and shares it with no other subtree. `shared` marks the subtrees
 // whose own names others have too. The parents of j have indices from `from` on and below `to`.
 pub fn anchored(
     n: usize,
-    m: usize,
-    arities: &[u8; MAX_NODES],
-    children: &[u8; CHILD_NUMBERS],
+    subtrees: &Subtrees,
     names: &[u8; MAX_NODES],
     shared: &[u8; MAX_NODES],
     j: usize,
@@ -133,15 +116,15 @@ pub fn anchored(
     to: usize,
 ) -> bool
     requires n_le_max_states { n ≤ max_states }
-    requires shaped { Shaped m arities.now children.now }
-    requires parents_within { ParentsWithin m arities.now children.now j from to }
-    ensures { result ≡ any (anchors n arities.now children.now names.now
-        shared.now j) (up_from (j + 1) (m - j)) }
+    requires shaped { Shaped subtrees.now.count subtrees.now.arities subtrees.now.children }
+    requires parents_within { ParentsFrom subtrees.now j from to }
+    ensures { result ≡ any (anchors n subtrees.now.arities subtrees.now.children names.now
+        shared.now j) (up_from (j + 1) (subtrees.now.count - j)) }
 {
     let mut i = from;
     while i < to {
         i += 1;
-        if anchors_child(n, m, arities, children, names, shared, i, j) {
+        if anchors_child(n, subtrees, names, shared, i, j) {
             return true;
         }
     }
@@ -149,46 +132,36 @@ pub fn anchored(
 }
 
 // Whether subtree i is a parent of subtree j and its name is some subtree's own name.
-fn raises_child(
-    n: usize,
-    m: usize,
-    arities: &[u8; MAX_NODES],
-    children: &[u8; CHILD_NUMBERS],
-    names: &[u8; MAX_NODES],
-    i: usize,
-    j: usize,
-) -> bool
-    requires shaped { Shaped m arities.now children.now }
+fn raises_child(n: usize, subtrees: &Subtrees, names: &[u8; MAX_NODES], i: usize, j: usize) -> bool
+    requires shaped { Shaped subtrees.now.count subtrees.now.arities subtrees.now.children }
     requires le_i { 1 ≤ i }
-    requires i_le_m { i ≤ m }
-    ensures { result ≡ raises n arities.now children.now names.now j i }
+    requires i_le_m { i ≤ subtrees.now.count }
+    ensures { result ≡ raises n subtrees.now.arities subtrees.now.children names.now j i }
 {
     if wide(names[i - 1]) <= n {
         return false;
     }
-    is_child(m, arities, children, i, j)
+    is_child(subtrees, i, j)
 }
 
 // Whether the name of some parent of subtree j is some subtree's own name.
 pub fn raised(
     n: usize,
-    m: usize,
-    arities: &[u8; MAX_NODES],
-    children: &[u8; CHILD_NUMBERS],
+    subtrees: &Subtrees,
     names: &[u8; MAX_NODES],
     j: usize,
     from: usize,
     to: usize,
 ) -> bool
-    requires shaped { Shaped m arities.now children.now }
-    requires parents_within { ParentsWithin m arities.now children.now j from to }
-    ensures { result ≡ any (raises n arities.now children.now names.now j)
-        (up_from (j + 1) (m - j)) }
+    requires shaped { Shaped subtrees.now.count subtrees.now.arities subtrees.now.children }
+    requires parents_within { ParentsFrom subtrees.now j from to }
+    ensures { result ≡ any (raises n subtrees.now.arities subtrees.now.children names.now j)
+        (up_from (j + 1) (subtrees.now.count - j)) }
 {
     let mut i = from;
     while i < to {
         i += 1;
-        if raises_child(n, m, arities, children, names, i, j) {
+        if raises_child(n, subtrees, names, i, j) {
             return true;
         }
     }

@@ -7,105 +7,42 @@ ghost use Rattle.naming.specs.Known.{Known, Sized};
 ghost use Rattle.naming.specs.Choice.{StateSought};
 ghost use Rattle.pairs.specs.Counts.{Open};
 ghost use Rattle.subtrees.specs.Parents.{ParentsWithin};
+ghost use Rattle.uses.specs.Settings.{ParentsFrom};
 
 use crate::parents::raised;
 use crate::slots::{slot_of, state_in_slot};
 use crate::states::{first_state, fits_own_state, fits_state};
 use format::{BYTE_VALUES, MAX_NODES, wide};
 use subtrees::CHILD_NUMBERS;
+use uses::Setting;
 
 // A state, or 0, that subtree j is like; n + 1 if there is none. If every candidate must fit one slot, only the
 // slot's arguments are tried.
 fn other_state(
     table: &[u8],
-    transitions: &[u8],
-    count: usize,
-    n: usize,
-    m: usize,
-    labels: &[u16; MAX_NODES],
-    arities: &[u8; MAX_NODES],
-    children: &[u8; CHILD_NUMBERS],
-    states: &[u8; MAX_NODES],
-    weights: &[u8; BYTE_VALUES],
-    classes: &[u8; MAX_NODES],
-    lows: &[u16; BYTE_VALUES],
-    lasts: &[u16; BYTE_VALUES],
+    setting: &Setting<'_>,
     marks: &[u8; BYTE_VALUES],
     names: &[u8; MAX_NODES],
     j: usize,
     from: usize,
     to: usize,
 ) -> usize
-    requires sized { Sized table.now transitions.now count n m arities.now children.now
-        lows.now lasts.now }
+    requires sized { Sized table.now setting.now.transitions.now setting.now.count setting.now.n setting.now.subtrees.now.count setting.now.subtrees.now.arities setting.now.subtrees.now.children
+        setting.now.lows.now setting.now.lasts.now }
     requires le_j { 1 ≤ j }
-    requires j_le_m { j ≤ m }
-    requires parents_within { ParentsWithin m arities.now children.now j from to }
+    requires j_le_m { j ≤ setting.now.subtrees.now.count }
+    requires parents_within { ParentsFrom setting.now.subtrees.now j from to }
     ensures { (A : Automaton) (t : Tree) (ts : List Tree) (S : (Tree → Bool)) (N : (Tree → ℕ)) →
-        Known A t ts S table.now transitions.now count n m
-        labels.now arities.now children.now states.now
-        weights.now classes.now → Open A t marks.now →
-        NamedAbove A t ts m j names.now N → StateSought A t S ts n N j result }
+        Known A t ts S table.now setting.now.transitions.now setting.now.count setting.now.n setting.now.subtrees.now.count
+        setting.now.subtrees.now.labels setting.now.subtrees.now.arities setting.now.subtrees.now.children setting.now.subtrees.now.states
+        setting.now.weights.now setting.now.classes.now → Open A t marks.now →
+        NamedAbove A t ts setting.now.subtrees.now.count j names.now N → StateSought A t S ts setting.now.n N j result }
 {
-    let z = slot_of(
-        transitions,
-        count,
-        n,
-        m,
-        labels,
-        arities,
-        children,
-        states,
-        weights,
-        lasts,
-        names,
-        j,
-        from,
-        to,
-    );
+    let z = slot_of(setting, names, j, from, to);
     if z.out != 0 {
-        return state_in_slot(
-            table,
-            transitions,
-            count,
-            n,
-            m,
-            labels,
-            arities,
-            children,
-            states,
-            weights,
-            classes,
-            lows,
-            lasts,
-            marks,
-            names,
-            j,
-            from,
-            to,
-            z,
-        );
+        return state_in_slot(table, setting, marks, names, j, from, to, z);
     }
-    first_state(
-        table,
-        transitions,
-        count,
-        n,
-        m,
-        labels,
-        arities,
-        children,
-        states,
-        weights,
-        classes,
-        lows,
-        lasts,
-        marks,
-        names,
-        j,
-        from,
-        to,
-    )
+    first_state(table, setting, marks, names, j, from, to)
 }
 
 // A state, or 0, that subtree j is like; n + 1 if there is none. There is none if the name of some parent is a
@@ -113,101 +50,32 @@ fn other_state(
 // occur in no tree any more.
 pub fn find_state(
     table: &[u8],
-    transitions: &[u8],
-    count: usize,
-    n: usize,
-    m: usize,
-    labels: &[u16; MAX_NODES],
-    arities: &[u8; MAX_NODES],
-    children: &[u8; CHILD_NUMBERS],
-    states: &[u8; MAX_NODES],
-    weights: &[u8; BYTE_VALUES],
-    classes: &[u8; MAX_NODES],
-    lows: &[u16; BYTE_VALUES],
-    lasts: &[u16; BYTE_VALUES],
+    setting: &Setting<'_>,
     marks: &[u8; BYTE_VALUES],
     names: &[u8; MAX_NODES],
     j: usize,
     from: usize,
     to: usize,
 ) -> usize
-    requires sized { Sized table.now transitions.now count n m arities.now children.now
-        lows.now lasts.now }
+    requires sized { Sized table.now setting.now.transitions.now setting.now.count setting.now.n setting.now.subtrees.now.count setting.now.subtrees.now.arities setting.now.subtrees.now.children
+        setting.now.lows.now setting.now.lasts.now }
     requires le_j { 1 ≤ j }
-    requires j_le_m { j ≤ m }
-    requires parents_within { ParentsWithin m arities.now children.now j from to }
+    requires j_le_m { j ≤ setting.now.subtrees.now.count }
+    requires parents_within { ParentsFrom setting.now.subtrees.now j from to }
     ensures { (A : Automaton) (t : Tree) (ts : List Tree) (S : (Tree → Bool)) (N : (Tree → ℕ)) →
-        Known A t ts S table.now transitions.now count n m
-        labels.now arities.now children.now states.now
-        weights.now classes.now → Open A t marks.now →
-        NamedAbove A t ts m j names.now N → StateSought A t S ts n N j result }
+        Known A t ts S table.now setting.now.transitions.now setting.now.count setting.now.n setting.now.subtrees.now.count
+        setting.now.subtrees.now.labels setting.now.subtrees.now.arities setting.now.subtrees.now.children setting.now.subtrees.now.states
+        setting.now.weights.now setting.now.classes.now → Open A t marks.now →
+        NamedAbove A t ts setting.now.subtrees.now.count j names.now N → StateSought A t S ts setting.now.n N j result }
 {
-    if raised(n, m, arities, children, names, j, from, to) {
-        return n + 1;
+    if raised(setting.n, setting.subtrees, names, j, from, to) {
+        return setting.n + 1;
     }
-    if fits_own_state(
-        table,
-        transitions,
-        count,
-        n,
-        m,
-        labels,
-        arities,
-        children,
-        states,
-        weights,
-        classes,
-        lows,
-        lasts,
-        marks,
-        names,
-        j,
-        from,
-        to,
-    ) {
-        return wide(states[j - 1]);
+    if fits_own_state(table, setting, marks, names, j, from, to) {
+        return wide(setting.subtrees.states[j - 1]);
     }
-    if fits_state(
-        table,
-        transitions,
-        count,
-        n,
-        m,
-        labels,
-        arities,
-        children,
-        states,
-        weights,
-        classes,
-        lows,
-        lasts,
-        marks,
-        names,
-        j,
-        from,
-        to,
-        0,
-    ) {
+    if fits_state(table, setting, marks, names, j, from, to, 0) {
         return 0;
     }
-    other_state(
-        table,
-        transitions,
-        count,
-        n,
-        m,
-        labels,
-        arities,
-        children,
-        states,
-        weights,
-        classes,
-        lows,
-        lasts,
-        marks,
-        names,
-        j,
-        from,
-        to,
-    )
+    other_state(table, setting, marks, names, j, from, to)
 }

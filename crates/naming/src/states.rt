@@ -9,11 +9,13 @@ ghost use Rattle.marking.specs.Marks.{marked};
 ghost use Rattle.naming.specs.Choice.{StateSought, StateTaken, StateTried};
 ghost use Rattle.pairs.specs.Counts.{Open};
 ghost use Rattle.subtrees.specs.Parents.{ParentsWithin};
+ghost use Rattle.uses.specs.Settings.{ParentsFrom};
 
 use crate::classes::class_in;
 use alike::like_state;
 use format::{BYTE_VALUES, MAX_NODES, wide};
 use subtrees::CHILD_NUMBERS;
+use uses::Setting;
 
 // Whether q is 0 or marked.
 fn is_free(marks: &[u8; BYTE_VALUES], q: usize) -> bool
@@ -29,18 +31,7 @@ fn is_free(marks: &[u8; BYTE_VALUES], q: usize) -> bool
 // Whether q is 0 or open, and subtree j is like it.
 pub fn fits_state(
     table: &[u8],
-    transitions: &[u8],
-    count: usize,
-    n: usize,
-    m: usize,
-    labels: &[u16; MAX_NODES],
-    arities: &[u8; MAX_NODES],
-    children: &[u8; CHILD_NUMBERS],
-    states: &[u8; MAX_NODES],
-    weights: &[u8; BYTE_VALUES],
-    classes: &[u8; MAX_NODES],
-    lows: &[u16; BYTE_VALUES],
-    lasts: &[u16; BYTE_VALUES],
+    setting: &Setting<'_>,
     marks: &[u8; BYTE_VALUES],
     names: &[u8; MAX_NODES],
     j: usize,
@@ -48,17 +39,17 @@ pub fn fits_state(
     to: usize,
     q: usize,
 ) -> bool
-    requires sized { Sized table.now transitions.now count n m arities.now children.now
-        lows.now lasts.now }
+    requires sized { Sized table.now setting.now.transitions.now setting.now.count setting.now.n setting.now.subtrees.now.count setting.now.subtrees.now.arities setting.now.subtrees.now.children
+        setting.now.lows.now setting.now.lasts.now }
     requires le_j { 1 ≤ j }
-    requires j_le_m { j ≤ m }
-    requires parents_within { ParentsWithin m arities.now children.now j from to }
-    requires q_le_n { q ≤ n }
+    requires j_le_m { j ≤ setting.now.subtrees.now.count }
+    requires parents_within { ParentsFrom setting.now.subtrees.now j from to }
+    requires q_le_n { q ≤ setting.now.n }
     ensures { (A : Automaton) (t : Tree) (ts : List Tree) (S : (Tree → Bool)) (N : (Tree → ℕ)) →
-        Known A t ts S table.now transitions.now count n m
-        labels.now arities.now children.now states.now
-        weights.now classes.now → Open A t marks.now →
-        NamedAbove A t ts m j names.now N → StateTried A t S ts N j q result }
+        Known A t ts S table.now setting.now.transitions.now setting.now.count setting.now.n setting.now.subtrees.now.count
+        setting.now.subtrees.now.labels setting.now.subtrees.now.arities setting.now.subtrees.now.children setting.now.subtrees.now.states
+        setting.now.weights.now setting.now.classes.now → Open A t marks.now →
+        NamedAbove A t ts setting.now.subtrees.now.count j names.now N → StateTried A t S ts N j q result }
 {
     if !is_free(marks, q) {
         return false;
@@ -66,83 +57,33 @@ pub fn fits_state(
     let class = class_in(table, q);
     let number = j as u8;
     let state = q as u8;
-    like_state(
-        transitions,
-        count,
-        n,
-        m,
-        labels,
-        arities,
-        children,
-        states,
-        weights,
-        lows,
-        lasts,
-        names,
-        classes,
-        number,
-        state,
-        class,
-        from,
-        to,
-    )
+    like_state(setting, names, number, state, class, from, to)
 }
 
 // The first of 0 and the open states that subtree j is like; n + 1 if there is none.
 pub fn first_state(
     table: &[u8],
-    transitions: &[u8],
-    count: usize,
-    n: usize,
-    m: usize,
-    labels: &[u16; MAX_NODES],
-    arities: &[u8; MAX_NODES],
-    children: &[u8; CHILD_NUMBERS],
-    states: &[u8; MAX_NODES],
-    weights: &[u8; BYTE_VALUES],
-    classes: &[u8; MAX_NODES],
-    lows: &[u16; BYTE_VALUES],
-    lasts: &[u16; BYTE_VALUES],
+    setting: &Setting<'_>,
     marks: &[u8; BYTE_VALUES],
     names: &[u8; MAX_NODES],
     j: usize,
     from: usize,
     to: usize,
 ) -> usize
-    requires sized { Sized table.now transitions.now count n m arities.now children.now
-        lows.now lasts.now }
+    requires sized { Sized table.now setting.now.transitions.now setting.now.count setting.now.n setting.now.subtrees.now.count setting.now.subtrees.now.arities setting.now.subtrees.now.children
+        setting.now.lows.now setting.now.lasts.now }
     requires le_j { 1 ≤ j }
-    requires j_le_m { j ≤ m }
-    requires parents_within { ParentsWithin m arities.now children.now j from to }
+    requires j_le_m { j ≤ setting.now.subtrees.now.count }
+    requires parents_within { ParentsFrom setting.now.subtrees.now j from to }
     ensures { (A : Automaton) (t : Tree) (ts : List Tree) (S : (Tree → Bool)) (N : (Tree → ℕ)) →
-        Known A t ts S table.now transitions.now count n m
-        labels.now arities.now children.now states.now
-        weights.now classes.now → Open A t marks.now →
-        NamedAbove A t ts m j names.now N → StateSought A t S ts n N j result }
+        Known A t ts S table.now setting.now.transitions.now setting.now.count setting.now.n setting.now.subtrees.now.count
+        setting.now.subtrees.now.labels setting.now.subtrees.now.arities setting.now.subtrees.now.children setting.now.subtrees.now.states
+        setting.now.weights.now setting.now.classes.now → Open A t marks.now →
+        NamedAbove A t ts setting.now.subtrees.now.count j names.now N → StateSought A t S ts setting.now.n N j result }
 {
     let mut q = 0;
-    while q <= n {
-        if fits_state(
-            table,
-            transitions,
-            count,
-            n,
-            m,
-            labels,
-            arities,
-            children,
-            states,
-            weights,
-            classes,
-            lows,
-            lasts,
-            marks,
-            names,
-            j,
-            from,
-            to,
-            q,
-        ) {
+    while q <= setting.n {
+        if fits_state(table, setting, marks, names, j, from, to, q) {
             return q;
         }
         q += 1;
@@ -153,58 +94,27 @@ pub fn first_state(
 // The same as `fits_state` for the state that subtree j has.
 pub fn fits_own_state(
     table: &[u8],
-    transitions: &[u8],
-    count: usize,
-    n: usize,
-    m: usize,
-    labels: &[u16; MAX_NODES],
-    arities: &[u8; MAX_NODES],
-    children: &[u8; CHILD_NUMBERS],
-    states: &[u8; MAX_NODES],
-    weights: &[u8; BYTE_VALUES],
-    classes: &[u8; MAX_NODES],
-    lows: &[u16; BYTE_VALUES],
-    lasts: &[u16; BYTE_VALUES],
+    setting: &Setting<'_>,
     marks: &[u8; BYTE_VALUES],
     names: &[u8; MAX_NODES],
     j: usize,
     from: usize,
     to: usize,
 ) -> bool
-    requires sized { Sized table.now transitions.now count n m arities.now children.now
-        lows.now lasts.now }
+    requires sized { Sized table.now setting.now.transitions.now setting.now.count setting.now.n setting.now.subtrees.now.count setting.now.subtrees.now.arities setting.now.subtrees.now.children
+        setting.now.lows.now setting.now.lasts.now }
     requires le_j { 1 ≤ j }
-    requires j_le_m { j ≤ m }
-    requires parents_within { ParentsWithin m arities.now children.now j from to }
+    requires j_le_m { j ≤ setting.now.subtrees.now.count }
+    requires parents_within { ParentsFrom setting.now.subtrees.now j from to }
     ensures { (A : Automaton) (t : Tree) (ts : List Tree) (S : (Tree → Bool)) (N : (Tree → ℕ)) →
-        Known A t ts S table.now transitions.now count n m
-        labels.now arities.now children.now states.now
-        weights.now classes.now → Open A t marks.now →
-        NamedAbove A t ts m j names.now N → StateTaken A t S ts N j (get_or states.now (j - 1) 0) result }
+        Known A t ts S table.now setting.now.transitions.now setting.now.count setting.now.n setting.now.subtrees.now.count
+        setting.now.subtrees.now.labels setting.now.subtrees.now.arities setting.now.subtrees.now.children setting.now.subtrees.now.states
+        setting.now.weights.now setting.now.classes.now → Open A t marks.now →
+        NamedAbove A t ts setting.now.subtrees.now.count j names.now N → StateTaken A t S ts N j (get_or setting.now.subtrees.now.states (j - 1) 0) result }
 {
-    let q = wide(states[j - 1]);
-    if q > n {
+    let q = wide(setting.subtrees.states[j - 1]);
+    if q > setting.n {
         return false;
     }
-    fits_state(
-        table,
-        transitions,
-        count,
-        n,
-        m,
-        labels,
-        arities,
-        children,
-        states,
-        weights,
-        classes,
-        lows,
-        lasts,
-        marks,
-        names,
-        j,
-        from,
-        to,
-        q,
-    )
+    fits_state(table, setting, marks, names, j, from, to, q)
 }

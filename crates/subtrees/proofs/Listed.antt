@@ -5,7 +5,8 @@ use Prim.Native.Nat.{◌-◌, ◌≤◌, ℕ}
 use native.Mathlib.Omega.{arith}
 use lib.ListN.{get_or}
 use Rattle.automata.specs.Automaton.{Automaton, run}
-use Rattle.subtrees.specs.Store.{Lists, Subtrees, tree_numbered}
+use Rattle.subtrees.specs.Store.{Lists, tree_numbered}
+use Rattle.subtrees.specs.declared.Subtrees.{Subtrees}
 use Rattle.trees.specs.Tree.{Tree}
 use Rattle.subtrees.proofs.Numbers.{distinct-index}
 

@@ -8,6 +8,7 @@ use Rattle.format.specs.Format.{max_arity, max_label, max_nodes}
 use Rattle.lists.specs.Positions.{up_from}
 use Rattle.lists.specs.Tests.{Distinct, ◌∈◌}
 use Rattle.running.specs.Running.{HoldsStates}
+use Rattle.subtrees.specs.declared.Subtrees.{Subtrees}
 use Rattle.trees.specs.Tree.{Forest, Tree, cons, nil, no_tree, node}
 
 -- ---- trees by number
@@ -51,14 +52,7 @@ pub record Stored (A : Automaton) (ts : List Tree) (n : ℕ) (l r c q : List ℕ
 abbrev pub Held : Tree → List ℕ → Type 0
 Held t bs = (A : Automaton) × HoldsStates A t bs
 
--- how many subtrees arrays hold, and the arrays
-pub record Subtrees : Type 0 where
-  pub count : ℕ
-  pub labels : List ℕ
-  pub arities : List ℕ
-  pub children : List ℕ
-  pub states : List ℕ
-
+-- the subtrees in arrays of their own
 abbrev pub arrays : ℕ → List ℕ → List ℕ → List ℕ → List ℕ → Subtrees
 arrays n l r c q = record { count = n; labels = l; arities = r; children = c; states = q }
 

@@ -19,11 +19,15 @@ use listing::{children_at, label_at};
 
 pub const CHILD_NUMBERS: usize = MAX_NODES * MAX_ARITY;
 
-// The number of a subtree, and how many subtrees have been found.
+// The distinct subtrees of a tree by number, children first: the label, the number of children and the state of subtree
+// j are at index j - 1, its child k at 8 (j - 1) + k, with 0 beyond the number of children.
 #[derive(Drop)]
-struct Place {
-    number: u8,
-    found: usize,
+pub struct Subtrees {
+    pub count: usize,
+    pub labels: [u16; MAX_NODES],
+    pub arities: [u8; MAX_NODES],
+    pub children: [u8; CHILD_NUMBERS],
+    pub states: [u8; MAX_NODES],
 }
 
 // The numbers on top of a stack that grows downwards.
@@ -59,50 +63,34 @@ fn same_children(
 }
 
 // Whether the subtree at index j has this label and these children.
-fn same_node(
-    labels: &[u16; MAX_NODES],
-    arities: &[u8; MAX_NODES],
-    children: &[u8; CHILD_NUMBERS],
-    j: usize,
-    label: u16,
-    arity: u8,
-    numbers: [u8; MAX_ARITY],
-) -> bool
+fn same_node(subtrees: &Subtrees, j: usize, label: u16, arity: u8, numbers: [u8; MAX_ARITY]) -> bool
     requires j_lt_max_nodes { j < max_nodes }
     requires arity_le_max_arity { arity ≤ max_arity }
-    ensures { result ≡ same_node labels.now arities.now children.now label arity
+    ensures { result ≡ same_node subtrees.now.labels subtrees.now.arities subtrees.now.children label arity
         numbers j }
 {
-    if labels[j] != label {
+    if subtrees.labels[j] != label {
         return false;
     }
-    if arities[j] != arity {
+    if subtrees.arities[j] != arity {
         return false;
     }
-    same_children(children, j, wide(arity), numbers)
+    same_children(&subtrees.children, j, wide(arity), numbers)
 }
 
-// The index of the subtree with this label and these children; `found` if there is none.
-pub fn search(
-    labels: &[u16; MAX_NODES],
-    arities: &[u8; MAX_NODES],
-    children: &[u8; CHILD_NUMBERS],
-    found: usize,
-    label: u16,
-    arity: u8,
-    numbers: [u8; MAX_ARITY],
-) -> usize
-    requires found_le_max_nodes { found ≤ max_nodes }
+// The index of the subtree with this label and these children; as many as there are if there is none.
+pub fn search(subtrees: &Subtrees, label: u16, arity: u8, numbers: [u8; MAX_ARITY]) -> usize
+    requires found_le_max_nodes { subtrees.now.count ≤ max_nodes }
     requires arity_le_max_arity { arity ≤ max_arity }
-    ensures { First (same_node labels.now arities.now children.now label arity
-        numbers) found result }
+    ensures { First (same_node subtrees.now.labels subtrees.now.arities subtrees.now.children label arity
+        numbers) subtrees.now.count result }
 {
-    for j in 0..found {
-        if same_node(labels, arities, children, j, label, arity, numbers) {
+    for j in 0..subtrees.count {
+        if same_node(subtrees, j, label, arity, numbers) {
             return j;
         }
     }
-    found
+    subtrees.count
 }
 
 fn store_children(children: &mut [u8; CHILD_NUMBERS], j: usize, numbers: [u8; MAX_ARITY])
@@ -117,80 +105,50 @@ fn store_children(children: &mut [u8; CHILD_NUMBERS], j: usize, numbers: [u8; MA
 
 // The number of the subtree with this label and these children. If it was not found before, it is stored with its
 // state q.
-fn enter(
-    labels: &mut [u16; MAX_NODES],
-    arities: &mut [u8; MAX_NODES],
-    children: &mut [u8; CHILD_NUMBERS],
-    states: &mut [u8; MAX_NODES],
-    found: usize,
-    label: u16,
-    arity: u8,
-    numbers: [u8; MAX_ARITY],
-    q: u8,
-) -> Place
-    requires sized { Sized labels.old arities.old children.old states.old }
-    requires found_lt_max_nodes { found < max_nodes }
+fn enter(subtrees: &mut Subtrees, label: u16, arity: u8, numbers: [u8; MAX_ARITY], q: u8) -> u8
+    requires sized { Sized subtrees.old.labels subtrees.old.arities subtrees.old.children subtrees.old.states }
+    requires found_lt_max_nodes { subtrees.old.count < max_nodes }
     requires label_le_max_label { label ≤ max_label }
-    requires children { Children numbers arity found }
-    ensures sized_2 { Sized labels.new arities.new children.new states.new }
-    ensures number_given { NumberGiven found result.found result.number }
+    requires children { Children numbers arity subtrees.old.count }
+    ensures sized_2 { Sized subtrees.new.labels subtrees.new.arities subtrees.new.children subtrees.new.states }
+    ensures number_given { NumberGiven subtrees.old.count subtrees.new.count result }
     ensures entered { (A : Automaton) (ts : List Tree) → q ≡ run A (node label (trees_numbered ts (take arity numbers))) →
-        Stored A ts found labels.old arities.old children.old states.old →
-        Entered A ts (node label (trees_numbered ts (take arity numbers))) result.found result.number
-        labels.new arities.new children.new states.new }
+        Stored A ts subtrees.old.count subtrees.old.labels subtrees.old.arities subtrees.old.children subtrees.old.states →
+        Entered A ts (node label (trees_numbered ts (take arity numbers))) subtrees.new.count result
+        subtrees.new.labels subtrees.new.arities subtrees.new.children subtrees.new.states }
 {
-    let j = search(labels, arities, children, found, label, arity, numbers);
+    let found = subtrees.count;
+    let j = search(subtrees, label, arity, numbers);
     if j < found {
-        let old = (j + 1) as u8;
-        return Place {
-            number: old,
-            found: found,
-        };
+        return (j + 1) as u8;
     }
-    labels[found] = label;
-    arities[found] = arity;
-    store_children(children, found, numbers);
-    states[found] = q;
-    let new = (found + 1) as u8;
-    Place {
-        number: new,
-        found: found + 1,
-    }
+    subtrees.labels[found] = label;
+    subtrees.arities[found] = arity;
+    store_children(&mut subtrees.children, found, numbers);
+    subtrees.states[found] = q;
+    subtrees.count = found + 1;
+    (found + 1) as u8
 }
 
 // Collects the distinct subtrees of the listed tree and their states; `reached` has the states of the tree's nodes.
-// Subtree j, from 1 on, is at index j - 1 of the arrays, its child k at 8 (j - 1) + k, with 0 beyond the arity.
-// Returns how many there are. That is also the number of the tree itself, because children are numbered first.
-pub fn collect(
-    tree: &[u8],
-    reached: &[u8; MAX_NODES],
-    labels: &mut [u16; MAX_NODES],
-    arities: &mut [u8; MAX_NODES],
-    children: &mut [u8; CHILD_NUMBERS],
-    states: &mut [u8; MAX_NODES],
-) -> usize
+// Their count is also the number of the tree itself, because children are numbered first.
+pub fn collect(tree: &[u8], reached: &[u8; MAX_NODES], subtrees: &mut Subtrees)
     requires tree_value { listing_refusal tree.now ≡ 0 }
     requires held { Held (read_tree tree.now) reached.now }
-    requires sized { Sized labels.old arities.old children.old states.old }
+    requires sized { Sized subtrees.old.labels subtrees.old.arities subtrees.old.children subtrees.old.states }
     ensures { (A : Automaton) → HoldsStates A (read_tree tree.now) reached.now →
-        Lists A (read_tree tree.now) (bottom_up (read_tree tree.now)) (arrays result labels.new arities.new children.new states.new) }
+        Lists A (read_tree tree.now) (bottom_up (read_tree tree.now)) subtrees.new }
 {
     let mut stack = [0u8; MAX_NODES];
     let mut top = MAX_NODES;
-    let mut found = 0;
-    let mut i = tree.len() / NODE_BYTES;
-    while i > 0 {
-        i -= 1;
+    subtrees.count = 0;
+    for i in (0..tree.len() / NODE_BYTES).rev() {
         let label = label_at(tree, i);
         let arity = children_at(tree, i);
         let width = wide(arity);
         let numbers = popped(&stack, top, width);
-        let place = enter(
-            labels, arities, children, states, found, label, arity, numbers, reached[i],
-        );
-        found = place.found;
+        let number = enter(subtrees, label, arity, numbers, reached[i]);
         top = top + width - 1;
-        stack[top] = place.number;
+        stack[top] = number;
     }
-    found
 }

@@ -7,11 +7,14 @@ ghost use Rattle.subtrees.specs.Parents.{ParentsWithin};
 ghost use Rattle.table.specs.Layout.{arity_of};
 ghost use Rattle.uses.specs.Frames.{Nodes};
 ghost use Rattle.uses.specs.Uses.{arrays, covered_at, factor_at, product_at, product_cap};
+ghost use Rattle.uses.specs.Settings.{AreNodes, ParentsFrom, arrays_of};
 
 use crate::frames::frame_count;
+use crate::setting::Frames;
 use fields::{arg_of, arity_of};
 use format::{BYTE_VALUES, MAX_ARITY, MAX_NODES};
 use pairs::index;
+use subtrees::Subtrees;
 
 const CHILD_NUMBERS: usize = MAX_NODES * MAX_ARITY;
 
@@ -57,37 +60,17 @@ pub fn is_covered(
     transitions: &[u8],
     at: usize,
     k: usize,
-    labels: &[u16; MAX_NODES],
-    arities: &[u8; MAX_NODES],
-    children: &[u8; CHILD_NUMBERS],
-    states: &[u8; MAX_NODES],
+    subtrees: &Subtrees,
     weights: &[u8; BYTE_VALUES],
-    m: usize,
-    j: u8,
-    v: u8,
-    start: usize,
-    end: usize,
+    frames: Frames,
 ) -> bool
     requires readable { Readable transitions.now at }
-    requires nodes { Nodes m arities.now children.now }
+    requires nodes { AreNodes subtrees.now }
     requires k_bound { k < arity_of transitions.now at }
-    requires parents_within { ParentsWithin m arities.now children.now j start end }
-    requires parents_within_2 { ParentsWithin m arities.now children.now v start end }
-    ensures { result ≡ covered_at (arrays labels.now arities.now children.now states.now weights.now m j v) transitions.now at k }
+    requires parents_within { ParentsFrom subtrees.now frames.first frames.start frames.end }
+    requires parents_within_2 { ParentsFrom subtrees.now frames.second frames.start frames.end }
+    ensures { result ≡ covered_at (arrays_of subtrees.now weights.now frames.first frames.second) transitions.now at k }
 {
-    let found = frame_count(
-        transitions,
-        at,
-        k,
-        labels,
-        arities,
-        children,
-        states,
-        m,
-        j,
-        v,
-        start,
-        end,
-    );
+    let found = frame_count(transitions, at, k, subtrees, frames);
     choices(transitions, at, k, weights) == found
 }

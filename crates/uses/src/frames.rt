@@ -8,9 +8,12 @@ ghost use Rattle.subtrees.specs.Parents.{ParentsWithin};
 ghost use Rattle.subtrees.specs.Store.{child_at};
 ghost use Rattle.table.specs.Layout.{arity_of};
 ghost use Rattle.uses.specs.Frames.{Nodes, frame_count, frame_of, framed, in_slot, same_child, same_sibling, twin};
+ghost use Rattle.uses.specs.Settings.{AreNodes, ParentsFrom};
 
+use crate::setting::Frames;
 use fields::{arg_of, arity_of, label_of};
 use format::{MAX_ARITY, MAX_NODES, wide};
+use subtrees::Subtrees;
 
 const CHILD_NUMBERS: usize = MAX_NODES * MAX_ARITY;
 
@@ -39,25 +42,24 @@ fn same_sibling(
 }
 
 // Whether each child of node i other than child k runs to the transition's argument at its place.
-fn same_siblings(
-    transitions: &[u8],
-    at: usize,
-    k: usize,
-    m: usize,
-    arities: &[u8; MAX_NODES],
-    children: &[u8; CHILD_NUMBERS],
-    states: &[u8; MAX_NODES],
-    i: usize,
-) -> bool
+fn same_siblings(transitions: &[u8], at: usize, k: usize, subtrees: &Subtrees, i: usize) -> bool
     requires readable { Readable transitions.now at }
-    requires nodes { Nodes m arities.now children.now }
-    requires i_lt_m { i < m }
-    requires i_value { get_or arities.now i 0 ≡ arity_of transitions.now at }
-    ensures { result ≡ every (same_sibling transitions.now at k children.now states.now i) (up_from 0 (arity_of transitions.now at)) }
+    requires nodes { AreNodes subtrees.now }
+    requires i_lt_m { i < subtrees.now.count }
+    requires i_value { get_or subtrees.now.arities i 0 ≡ arity_of transitions.now at }
+    ensures { result ≡ every (same_sibling transitions.now at k subtrees.now.children subtrees.now.states i) (up_from 0 (arity_of transitions.now at)) }
 {
     let arity = arity_of(transitions, at);
     for x in 0..arity {
-        if !same_sibling(transitions, at, k, children, states, i, x) {
+        if !same_sibling(
+            transitions,
+            at,
+            k,
+            &subtrees.children,
+            &subtrees.states,
+            i,
+            x,
+        ) {
             return false;
         }
     }
@@ -65,29 +67,19 @@ fn same_siblings(
 }
 
 // Whether node i with child k left out runs to the slot of the transition with argument k left out.
-fn in_slot(
-    transitions: &[u8],
-    at: usize,
-    k: usize,
-    m: usize,
-    labels: &[u16; MAX_NODES],
-    arities: &[u8; MAX_NODES],
-    children: &[u8; CHILD_NUMBERS],
-    states: &[u8; MAX_NODES],
-    i: usize,
-) -> bool
+fn in_slot(transitions: &[u8], at: usize, k: usize, subtrees: &Subtrees, i: usize) -> bool
     requires readable { Readable transitions.now at }
-    requires nodes { Nodes m arities.now children.now }
-    requires i_lt_m { i < m }
-    ensures { result ≡ in_slot transitions.now at k labels.now arities.now children.now states.now i }
+    requires nodes { AreNodes subtrees.now }
+    requires i_lt_m { i < subtrees.now.count }
+    ensures { result ≡ in_slot transitions.now at k subtrees.now.labels subtrees.now.arities subtrees.now.children subtrees.now.states i }
 {
-    if labels[i] != label_of(transitions, at) {
+    if subtrees.labels[i] != label_of(transitions, at) {
         return false;
     }
-    if wide(arities[i]) != arity_of(transitions, at) {
+    if wide(subtrees.arities[i]) != arity_of(transitions, at) {
         return false;
     }
-    same_siblings(transitions, at, k, m, arities, children, states, i)
+    same_siblings(transitions, at, k, subtrees, i)
 }
 
 // Whether child x is left out or is the same in nodes i and h.
@@ -119,53 +111,37 @@ fn same_children(children: &[u8; CHILD_NUMBERS], k: usize, i: usize, h: usize, a
 }
 
 // Whether node h has subtree j as child k and is otherwise the same as node i.
-fn is_twin(
-    labels: &[u16; MAX_NODES],
-    arities: &[u8; MAX_NODES],
-    children: &[u8; CHILD_NUMBERS],
-    j: u8,
-    k: usize,
-    i: usize,
-    h: usize,
-) -> bool
+fn is_twin(subtrees: &Subtrees, j: u8, k: usize, i: usize, h: usize) -> bool
     requires k_lt_max_arity { k < max_arity }
     requires i_lt_max_nodes { i < max_nodes }
     requires h_lt_max_nodes { h < max_nodes }
-    requires i_bound { get_or arities.now i 0 ≤ max_arity }
-    ensures { result ≡ twin labels.now arities.now children.now j k i h }
+    requires i_bound { get_or subtrees.now.arities i 0 ≤ max_arity }
+    ensures { result ≡ twin subtrees.now.labels subtrees.now.arities subtrees.now.children j k i h }
 {
-    if children[MAX_ARITY * h + k] != j {
+    if subtrees.children[MAX_ARITY * h + k] != j {
         return false;
     }
-    if labels[h] != labels[i] {
+    if subtrees.labels[h] != subtrees.labels[i] {
         return false;
     }
-    if arities[h] != arities[i] {
+    if subtrees.arities[h] != subtrees.arities[i] {
         return false;
     }
-    same_children(children, k, i, h, wide(arities[i]))
+    same_children(&subtrees.children, k, i, h, wide(subtrees.arities[i]))
 }
 
 // Whether some node has subtree j as child k and is otherwise the same as node i. Then the frame at place k of node i
 // is a frame of subtree j.
-fn has_twin(
-    labels: &[u16; MAX_NODES],
-    arities: &[u8; MAX_NODES],
-    children: &[u8; CHILD_NUMBERS],
-    m: usize,
-    j: u8,
-    k: usize,
-    i: usize,
-) -> bool
-    requires m_le_max_nodes { m ≤ max_nodes }
+fn has_twin(subtrees: &Subtrees, j: u8, k: usize, i: usize) -> bool
+    requires m_le_max_nodes { subtrees.now.count ≤ max_nodes }
     requires k_lt_max_arity { k < max_arity }
     requires i_lt_max_nodes { i < max_nodes }
-    requires i_bound { get_or arities.now i 0 ≤ max_arity }
-    ensures { result ≡ any (twin labels.now arities.now children.now j k i)
-        (up_from 0 m) }
+    requires i_bound { get_or subtrees.now.arities i 0 ≤ max_arity }
+    ensures { result ≡ any (twin subtrees.now.labels subtrees.now.arities subtrees.now.children j k i)
+        (up_from 0 subtrees.now.count) }
 {
-    for h in 0..m {
-        if is_twin(labels, arities, children, j, k, i, h) {
+    for h in 0..subtrees.count {
+        if is_twin(subtrees, j, k, i, h) {
             return true;
         }
     }
@@ -173,29 +149,20 @@ fn has_twin(
 }
 
 // Whether the frame at place k of node i counts: it is one of subtree j, or one of subtree v and not of j.
-fn frame_of(
-    labels: &[u16; MAX_NODES],
-    arities: &[u8; MAX_NODES],
-    children: &[u8; CHILD_NUMBERS],
-    m: usize,
-    j: u8,
-    v: u8,
-    k: usize,
-    i: usize,
-) -> bool
-    requires nodes { Nodes m arities.now children.now }
+fn frame_of(subtrees: &Subtrees, j: u8, v: u8, k: usize, i: usize) -> bool
+    requires nodes { AreNodes subtrees.now }
     requires k_lt_max_arity { k < max_arity }
-    requires i_lt_m { i < m }
-    ensures { result ≡ frame_of labels.now arities.now children.now m j v k i }
+    requires i_lt_m { i < subtrees.now.count }
+    ensures { result ≡ frame_of subtrees.now.labels subtrees.now.arities subtrees.now.children subtrees.now.count j v k i }
 {
-    let child = children[MAX_ARITY * i + k];
+    let child = subtrees.children[MAX_ARITY * i + k];
     if child == j {
         return true;
     }
     if child != v {
         return false;
     }
-    !has_twin(labels, arities, children, m, j, k, i)
+    !has_twin(subtrees, j, k, i)
 }
 
 // 1 if the frame at place k of node i counts and runs to the transition's slot, else 0.
@@ -203,25 +170,21 @@ fn framed_at(
     transitions: &[u8],
     at: usize,
     k: usize,
-    labels: &[u16; MAX_NODES],
-    arities: &[u8; MAX_NODES],
-    children: &[u8; CHILD_NUMBERS],
-    states: &[u8; MAX_NODES],
-    m: usize,
+    subtrees: &Subtrees,
     j: u8,
     v: u8,
     i: usize,
 ) -> usize
     requires readable { Readable transitions.now at }
-    requires nodes { Nodes m arities.now children.now }
+    requires nodes { AreNodes subtrees.now }
     requires k_lt_max_arity { k < max_arity }
-    requires i_lt_m { i < m }
-    ensures { result ≡ bit (framed transitions.now at k labels.now arities.now children.now states.now m j v i) }
+    requires i_lt_m { i < subtrees.now.count }
+    ensures { result ≡ bit (framed transitions.now at k subtrees.now.labels subtrees.now.arities subtrees.now.children subtrees.now.states subtrees.now.count j v i) }
 {
-    if !frame_of(labels, arities, children, m, j, v, k, i) {
+    if !frame_of(subtrees, j, v, k, i) {
         return 0;
     }
-    if !in_slot(transitions, at, k, m, labels, arities, children, states, i) {
+    if !in_slot(transitions, at, k, subtrees, i) {
         return 0;
     }
     1
@@ -233,40 +196,20 @@ pub fn frame_count(
     transitions: &[u8],
     at: usize,
     k: usize,
-    labels: &[u16; MAX_NODES],
-    arities: &[u8; MAX_NODES],
-    children: &[u8; CHILD_NUMBERS],
-    states: &[u8; MAX_NODES],
-    m: usize,
-    j: u8,
-    v: u8,
-    start: usize,
-    end: usize,
+    subtrees: &Subtrees,
+    frames: Frames,
 ) -> usize
     requires readable { Readable transitions.now at }
-    requires nodes { Nodes m arities.now children.now }
+    requires nodes { AreNodes subtrees.now }
     requires k_bound { k < arity_of transitions.now at }
-    requires parents_within { ParentsWithin m arities.now children.now j start end }
-    requires parents_within_2 { ParentsWithin m arities.now children.now v start end }
-    ensures value { result ≡ frame_count transitions.now at k labels.now arities.now children.now states.now m j v }
+    requires parents_within { ParentsFrom subtrees.now frames.first frames.start frames.end }
+    requires parents_within_2 { ParentsFrom subtrees.now frames.second frames.start frames.end }
+    ensures value { result ≡ frame_count transitions.now at k subtrees.now.labels subtrees.now.arities subtrees.now.children subtrees.now.states subtrees.now.count frames.first frames.second }
     ensures upper_bound { result ≤ max_nodes }
 {
     let mut found = 0;
-    for i in start..end {
-        found = found
-            + framed_at(
-                transitions,
-                at,
-                k,
-                labels,
-                arities,
-                children,
-                states,
-                m,
-                j,
-                v,
-                i,
-            );
+    for i in frames.start..frames.end {
+        found = found + framed_at(transitions, at, k, subtrees, frames.first, frames.second, i);
     }
     found
 }

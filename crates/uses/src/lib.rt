@@ -4,6 +4,7 @@
 // between its entries of `lows` and `lasts`, the parents of the given subtrees between `start` and `end`.
 #![tactic(auto)]
 
+mod setting; // what uses are compared in
 mod spans; // for each state, its first and last use
 mod frames; // frames over a slot, counted
 mod covering; // covered slots
@@ -24,9 +25,11 @@ ghost use Rattle.trees.specs.Tree.{Tree};
 ghost use Rattle.uses.specs.Frames.{Nodes};
 ghost use Rattle.uses.specs.Spans.{UsesWithin};
 ghost use Rattle.uses.specs.Uses.{FramesOf, Holds, Scannable};
+ghost use Rattle.uses.specs.Settings.{AreNodes, HoldsIn, OverStates, ParentsFrom, ScannableIn, SearchableIn, UsesBounded};
 
 use format::{BYTE_VALUES, MAX_ARITY, MAX_NODES, wide};
 use scanning::{hint_agrees, transitions_agree};
+pub use setting::{Frames, Setting};
 pub use spans::note_uses;
 pub use using::use_slot;
 use walking::walk_agrees;
@@ -36,223 +39,83 @@ const CHILD_NUMBERS: usize = MAX_NODES * MAX_ARITY;
 // Whether p and q, each a state or 0, are used alike but for the slots that the frames of subtrees j and v cover; v
 // is 0 for none. The last use of each is tried first, because most states that differ do so there. Then the uses are
 // walked in step. Only if the walk fails, each use is looked up.
-fn uses_agree(
-    transitions: &[u8],
-    count: usize,
-    n: usize,
-    labels: &[u16; MAX_NODES],
-    arities: &[u8; MAX_NODES],
-    children: &[u8; CHILD_NUMBERS],
-    states: &[u8; MAX_NODES],
-    weights: &[u8; BYTE_VALUES],
-    lows: &[u16; BYTE_VALUES],
-    lasts: &[u16; BYTE_VALUES],
-    start: usize,
-    end: usize,
-    m: usize,
-    j: u8,
-    v: u8,
-    p: u8,
-    q: u8,
-) -> bool
-    requires scannable { Scannable transitions.now count n m arities.now children.now j v start end }
-    requires uses_within { UsesWithin transitions.now count lows.now lasts.now }
+fn uses_agree(setting: &Setting<'_>, frames: Frames, p: u8, q: u8) -> bool
+    requires scannable { ScannableIn setting.now frames }
+    requires uses_within { UsesBounded setting.now }
     ensures { (A : Automaton) (t : Tree) (ts : List Tree) (F : List Frame) →
-        Holds A t ts transitions.now count n labels.now arities.now children.now states.now weights.now m → FramesOf t ts m j v F →
+        HoldsIn A t ts setting.now → FramesOf t ts setting.now.subtrees.now.count frames.first frames.second F →
         result ≡ uses_agree A t F p q }
 {
     if p == q {
         return true;
     }
-    if !hint_agrees(
-        transitions,
-        count,
-        n,
-        labels,
-        arities,
-        children,
-        states,
-        weights,
-        lows,
-        lasts,
-        start,
-        end,
-        m,
-        j,
-        v,
-        p,
-        q,
-        q,
-    ) {
+    if !hint_agrees(setting, frames, p, q, q) {
         return false;
     }
-    if !hint_agrees(
-        transitions,
-        count,
-        n,
-        labels,
-        arities,
-        children,
-        states,
-        weights,
-        lows,
-        lasts,
-        start,
-        end,
-        m,
-        j,
-        v,
-        p,
-        q,
-        p,
-    ) {
+    if !hint_agrees(setting, frames, p, q, p) {
         return false;
     }
-    if walk_agrees(
-        transitions,
-        count,
-        n,
-        labels,
-        arities,
-        children,
-        states,
-        weights,
-        lows,
-        lasts,
-        start,
-        end,
-        m,
-        j,
-        v,
-        p,
-        q,
-    ) {
+    if walk_agrees(setting, frames, p, q) {
         return true;
     }
-    transitions_agree(
-        transitions,
-        count,
-        n,
-        labels,
-        arities,
-        children,
-        states,
-        weights,
-        lows,
-        lasts,
-        start,
-        end,
-        m,
-        j,
-        v,
-        p,
-        q,
-    )
+    transitions_agree(setting, frames, p, q)
 }
 
 // The same for the state of subtree j and q, but for the slots that the frames of j cover.
-pub fn state_uses_agree(
-    transitions: &[u8],
-    count: usize,
-    n: usize,
-    labels: &[u16; MAX_NODES],
-    arities: &[u8; MAX_NODES],
-    children: &[u8; CHILD_NUMBERS],
-    states: &[u8; MAX_NODES],
-    weights: &[u8; BYTE_VALUES],
-    lows: &[u16; BYTE_VALUES],
-    lasts: &[u16; BYTE_VALUES],
-    start: usize,
-    end: usize,
-    m: usize,
-    j: u8,
-    q: u8,
-) -> bool
-    requires searchable { Searchable transitions.now count }
-    requires holds_transitions_over { HoldsTransitionsOver transitions.now count n }
-    requires nodes { Nodes m arities.now children.now }
+pub fn state_uses_agree(setting: &Setting<'_>, start: usize, end: usize, j: u8, q: u8) -> bool
+    requires searchable { SearchableIn setting.now }
+    requires holds_transitions_over { OverStates setting.now }
+    requires nodes { AreNodes setting.now.subtrees.now }
     requires le_j { 1 ≤ j }
-    requires j_le_m { j ≤ m }
-    requires uses_within { UsesWithin transitions.now count lows.now lasts.now }
-    requires parents_within { ParentsWithin m arities.now children.now j start end }
+    requires j_le_m { j ≤ setting.now.subtrees.now.count }
+    requires uses_within { UsesBounded setting.now }
+    requires parents_within { ParentsFrom setting.now.subtrees.now j start end }
     ensures { (A : Automaton) (t : Tree) (ts : List Tree) →
-        Holds A t ts transitions.now count n labels.now arities.now children.now states.now weights.now m →
+        HoldsIn A t ts setting.now →
         result ≡ uses_agree A t (frames_of t (tree_numbered ts j)) (run A (tree_numbered ts j)) q }
 {
-    let p = states[wide(j) - 1];
+    let p = setting.subtrees.states[wide(j) - 1];
     uses_agree(
-        transitions,
-        count,
-        n,
-        labels,
-        arities,
-        children,
-        states,
-        weights,
-        lows,
-        lasts,
-        start,
-        end,
-        m,
-        j,
-        0,
+        setting,
+        Frames {
+            first: j,
+            second: 0,
+            start: start,
+            end: end,
+        },
         p,
         q,
     )
 }
 
 // The same for the states of subtrees j and v, but for the slots that the frames of both cover.
-pub fn subtree_uses_agree(
-    transitions: &[u8],
-    count: usize,
-    n: usize,
-    labels: &[u16; MAX_NODES],
-    arities: &[u8; MAX_NODES],
-    children: &[u8; CHILD_NUMBERS],
-    states: &[u8; MAX_NODES],
-    weights: &[u8; BYTE_VALUES],
-    lows: &[u16; BYTE_VALUES],
-    lasts: &[u16; BYTE_VALUES],
-    start: usize,
-    end: usize,
-    m: usize,
-    j: u8,
-    v: u8,
-) -> bool
-    requires searchable { Searchable transitions.now count }
-    requires holds_transitions_over { HoldsTransitionsOver transitions.now count n }
-    requires nodes { Nodes m arities.now children.now }
+pub fn subtree_uses_agree(setting: &Setting<'_>, start: usize, end: usize, j: u8, v: u8) -> bool
+    requires searchable { SearchableIn setting.now }
+    requires holds_transitions_over { OverStates setting.now }
+    requires nodes { AreNodes setting.now.subtrees.now }
     requires le_j { 1 ≤ j }
-    requires j_le_m { j ≤ m }
+    requires j_le_m { j ≤ setting.now.subtrees.now.count }
     requires le_v { 1 ≤ v }
-    requires v_le_m { v ≤ m }
+    requires v_le_m { v ≤ setting.now.subtrees.now.count }
     requires fact { j ≡ v → ⊥ }
-    requires uses_within { UsesWithin transitions.now count lows.now lasts.now }
-    requires parents_within { ParentsWithin m arities.now children.now j start end }
-    requires parents_within_2 { ParentsWithin m arities.now children.now v start end }
+    requires uses_within { UsesBounded setting.now }
+    requires parents_within { ParentsFrom setting.now.subtrees.now j start end }
+    requires parents_within_2 { ParentsFrom setting.now.subtrees.now v start end }
     ensures { (A : Automaton) (t : Tree) (ts : List Tree) →
-        Holds A t ts transitions.now count n labels.now arities.now children.now states.now weights.now m →
+        HoldsIn A t ts setting.now →
         result ≡ uses_agree A t (frames_of t (tree_numbered ts j) ++ frames_of t (tree_numbered ts v))
         (run A (tree_numbered ts j)) (run A (tree_numbered ts v)) }
 {
-    let p = states[wide(j) - 1];
-    let q = states[wide(v) - 1];
+    let p = setting.subtrees.states[wide(j) - 1];
+    let q = setting.subtrees.states[wide(v) - 1];
     uses_agree(
-        transitions,
-        count,
-        n,
-        labels,
-        arities,
-        children,
-        states,
-        weights,
-        lows,
-        lasts,
-        start,
-        end,
-        m,
-        j,
-        v,
+        setting,
+        Frames {
+            first: j,
+            second: v,
+            start: start,
+            end: end,
+        },
         p,
         q,
     )

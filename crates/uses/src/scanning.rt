@@ -7,7 +7,9 @@ ghost use Rattle.lists.specs.Tests.{every};
 ghost use Rattle.uses.specs.Spans.{UsesWithin};
 ghost use Rattle.uses.specs.Uses.{Hinted, Scannable, arrays, neither_at};
 ghost use Rattle.uses.specs.Uses.{transition_agrees, transitions_agree};
+ghost use Rattle.uses.specs.Settings.{ScannableIn, UsesBounded, arrays_in};
 
+use crate::setting::{Frames, Setting};
 use crate::spans::entry;
 use crate::swapping::place_agrees;
 use fields::arity_of;
@@ -37,54 +39,17 @@ fn has_neither(transitions: &[u8], at: usize, p: u8, q: u8) -> bool
 }
 
 // Whether exchanging p and q in any argument of transition i keeps the output, or the slot is covered.
-fn transition_agrees(
-    transitions: &[u8],
-    count: usize,
-    n: usize,
-    labels: &[u16; MAX_NODES],
-    arities: &[u8; MAX_NODES],
-    children: &[u8; CHILD_NUMBERS],
-    states: &[u8; MAX_NODES],
-    weights: &[u8; BYTE_VALUES],
-    start: usize,
-    end: usize,
-    m: usize,
-    j: u8,
-    v: u8,
-    p: u8,
-    q: u8,
-    i: usize,
-) -> bool
-    requires scannable { Scannable transitions.now count n m arities.now children.now j v start end }
-    requires i_lt_count { i < count }
-    ensures { result ≡ transition_agrees (arrays labels.now arities.now children.now states.now weights.now m j v) transitions.now count p q i }
+fn transition_agrees(setting: &Setting<'_>, frames: Frames, p: u8, q: u8, i: usize) -> bool
+    requires scannable { ScannableIn setting.now frames }
+    requires i_lt_count { i < setting.now.count }
+    ensures { result ≡ transition_agrees (arrays_in setting.now frames) setting.now.transitions.now setting.now.count p q i }
 {
     let at = TRANSITION_BYTES * i;
-    let meta = meta_at(transitions, at);
-    let args = args_at(transitions, at);
-    let arity = arity_of(transitions, at);
+    let meta = meta_at(setting.transitions, at);
+    let args = args_at(setting.transitions, at);
+    let arity = arity_of(setting.transitions, at);
     for k in 0..arity {
-        if !place_agrees(
-            transitions,
-            count,
-            n,
-            labels,
-            arities,
-            children,
-            states,
-            weights,
-            start,
-            end,
-            m,
-            j,
-            v,
-            p,
-            q,
-            meta,
-            args,
-            i,
-            k,
-        ) {
+        if !place_agrees(setting, frames, p, q, meta, args, i, k) {
             return false;
         }
     }
@@ -93,49 +58,15 @@ fn transition_agrees(
 
 // The same with a test first whether transition i has p or q at all. A small function of its own, because most
 // transitions of a scan end here.
-fn unused_or_agrees(
-    transitions: &[u8],
-    count: usize,
-    n: usize,
-    labels: &[u16; MAX_NODES],
-    arities: &[u8; MAX_NODES],
-    children: &[u8; CHILD_NUMBERS],
-    states: &[u8; MAX_NODES],
-    weights: &[u8; BYTE_VALUES],
-    start: usize,
-    end: usize,
-    m: usize,
-    j: u8,
-    v: u8,
-    p: u8,
-    q: u8,
-    i: usize,
-) -> bool
-    requires scannable { Scannable transitions.now count n m arities.now children.now j v start end }
-    requires i_lt_count { i < count }
-    ensures { result ≡ transition_agrees (arrays labels.now arities.now children.now states.now weights.now m j v) transitions.now count p q i }
+fn unused_or_agrees(setting: &Setting<'_>, frames: Frames, p: u8, q: u8, i: usize) -> bool
+    requires scannable { ScannableIn setting.now frames }
+    requires i_lt_count { i < setting.now.count }
+    ensures { result ≡ transition_agrees (arrays_in setting.now frames) setting.now.transitions.now setting.now.count p q i }
 {
-    if has_neither(transitions, TRANSITION_BYTES * i, p, q) {
+    if has_neither(setting.transitions, TRANSITION_BYTES * i, p, q) {
         return true;
     }
-    transition_agrees(
-        transitions,
-        count,
-        n,
-        labels,
-        arities,
-        children,
-        states,
-        weights,
-        start,
-        end,
-        m,
-        j,
-        v,
-        p,
-        q,
-        i,
-    )
+    transition_agrees(setting, frames, p, q, i)
 }
 
 pub fn lesser(x: usize, y: usize) -> usize
@@ -157,49 +88,14 @@ pub fn greater(x: usize, y: usize) -> usize
 }
 
 // Whether every transition agrees. Only those from the first use of p or q to the last are looked at.
-pub fn transitions_agree(
-    transitions: &[u8],
-    count: usize,
-    n: usize,
-    labels: &[u16; MAX_NODES],
-    arities: &[u8; MAX_NODES],
-    children: &[u8; CHILD_NUMBERS],
-    states: &[u8; MAX_NODES],
-    weights: &[u8; BYTE_VALUES],
-    lows: &[u16; BYTE_VALUES],
-    lasts: &[u16; BYTE_VALUES],
-    start: usize,
-    end: usize,
-    m: usize,
-    j: u8,
-    v: u8,
-    p: u8,
-    q: u8,
-) -> bool
-    requires scannable { Scannable transitions.now count n m arities.now children.now j v start end }
-    requires uses_within { UsesWithin transitions.now count lows.now lasts.now }
-    ensures { result ≡ transitions_agree (arrays labels.now arities.now children.now states.now weights.now m j v) transitions.now count p q }
+pub fn transitions_agree(setting: &Setting<'_>, frames: Frames, p: u8, q: u8) -> bool
+    requires scannable { ScannableIn setting.now frames }
+    requires uses_within { UsesBounded setting.now }
+    ensures { result ≡ transitions_agree (arrays_in setting.now frames) setting.now.transitions.now setting.now.count p q }
 {
-    let to = greater(entry(lasts, p), entry(lasts, q));
-    for i in lesser(entry(lows, p), entry(lows, q))..to {
-        if !unused_or_agrees(
-            transitions,
-            count,
-            n,
-            labels,
-            arities,
-            children,
-            states,
-            weights,
-            start,
-            end,
-            m,
-            j,
-            v,
-            p,
-            q,
-            i,
-        ) {
+    let to = greater(entry(setting.lasts, p), entry(setting.lasts, q));
+    for i in lesser(entry(setting.lows, p), entry(setting.lows, q))..to {
+        if !unused_or_agrees(setting, frames, p, q, i) {
             return false;
         }
     }
@@ -207,50 +103,14 @@ pub fn transitions_agree(
 }
 
 // Whether the last transition that uses state x agrees; true if there is none.
-pub fn hint_agrees(
-    transitions: &[u8],
-    count: usize,
-    n: usize,
-    labels: &[u16; MAX_NODES],
-    arities: &[u8; MAX_NODES],
-    children: &[u8; CHILD_NUMBERS],
-    states: &[u8; MAX_NODES],
-    weights: &[u8; BYTE_VALUES],
-    lows: &[u16; BYTE_VALUES],
-    lasts: &[u16; BYTE_VALUES],
-    start: usize,
-    end: usize,
-    m: usize,
-    j: u8,
-    v: u8,
-    p: u8,
-    q: u8,
-    x: u8,
-) -> bool
-    requires scannable { Scannable transitions.now count n m arities.now children.now j v start end }
-    requires uses_within { UsesWithin transitions.now count lows.now lasts.now }
-    ensures { Hinted (arrays labels.now arities.now children.now states.now weights.now m j v) transitions.now count p q result }
+pub fn hint_agrees(setting: &Setting<'_>, frames: Frames, p: u8, q: u8, x: u8) -> bool
+    requires scannable { ScannableIn setting.now frames }
+    requires uses_within { UsesBounded setting.now }
+    ensures { Hinted (arrays_in setting.now frames) setting.now.transitions.now setting.now.count p q result }
 {
-    let number = entry(lasts, x);
+    let number = entry(setting.lasts, x);
     if number == 0 {
         return true;
     }
-    transition_agrees(
-        transitions,
-        count,
-        n,
-        labels,
-        arities,
-        children,
-        states,
-        weights,
-        start,
-        end,
-        m,
-        j,
-        v,
-        p,
-        q,
-        number - 1,
-    )
+    transition_agrees(setting, frames, p, q, number - 1)
 }

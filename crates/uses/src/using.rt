@@ -13,8 +13,10 @@ ghost use Rattle.table.specs.Layout.{arg_of, arity_of, out_of};
 ghost use Rattle.trees.specs.Tree.{Tree};
 ghost use Rattle.uses.specs.Frames.{Nodes};
 ghost use Rattle.uses.specs.Uses.{Holds, Scannable, SlotUsed, arrays};
+ghost use Rattle.uses.specs.Settings.{AreNodes, HoldsIn, OverStates, ParentsFrom, SearchableIn, arrays_of};
 
 use crate::covering::is_covered;
+use crate::setting::{Frames, Setting};
 use crate::spans::entry;
 use fields::{arg_of, arity_of, out_of};
 use format::{BYTE_VALUES, MAX_ARITY, MAX_NODES, TRANSITION_BYTES, wide};
@@ -47,91 +49,50 @@ fn slot_at(transitions: &[u8], count: usize, i: usize, k: usize, p: u8) -> Slot
 
 // The same, but no slot if argument k is not p or the frames of subtree j cover the slot.
 fn place_slot(
-    transitions: &[u8],
-    count: usize,
-    n: usize,
-    labels: &[u16; MAX_NODES],
-    arities: &[u8; MAX_NODES],
-    children: &[u8; CHILD_NUMBERS],
-    states: &[u8; MAX_NODES],
-    weights: &[u8; BYTE_VALUES],
+    setting: &Setting<'_>,
     start: usize,
     end: usize,
-    m: usize,
     j: u8,
     p: u8,
     i: usize,
     k: usize,
 ) -> Slot
-    requires scannable { Scannable transitions.now count n m arities.now children.now j 0 start end }
-    requires i_lt_count { i < count }
-    requires k_bound { k < arity_of transitions.now (transition_bytes * i) }
-    ensures { SlotUsed (arrays labels.now arities.now children.now states.now weights.now m j 0) transitions.now count p result }
+    requires scannable { Scannable setting.now.transitions.now setting.now.count setting.now.n setting.now.subtrees.now.count setting.now.subtrees.now.arities setting.now.subtrees.now.children j 0 start end }
+    requires i_lt_count { i < setting.now.count }
+    requires k_bound { k < arity_of setting.now.transitions.now (transition_bytes * i) }
+    ensures { SlotUsed (arrays_of setting.now.subtrees.now setting.now.weights.now j 0) setting.now.transitions.now setting.now.count p result }
 {
     let at = TRANSITION_BYTES * i;
-    if arg_of(transitions, at, k) != wide(p) {
+    if arg_of(setting.transitions, at, k) != wide(p) {
         return no_slot();
     }
     if is_covered(
-        transitions,
+        setting.transitions,
         at,
         k,
-        labels,
-        arities,
-        children,
-        states,
-        weights,
-        m,
-        j,
-        0,
-        start,
-        end,
+        setting.subtrees,
+        setting.weights,
+        Frames {
+            first: j,
+            second: 0,
+            start: start,
+            end: end,
+        },
     ) {
         return no_slot();
     }
-    slot_at(transitions, count, i, k, p)
+    slot_at(setting.transitions, setting.count, i, k, p)
 }
 
 // The slot of the first place of transition i that gives one.
-fn transition_slot(
-    transitions: &[u8],
-    count: usize,
-    n: usize,
-    labels: &[u16; MAX_NODES],
-    arities: &[u8; MAX_NODES],
-    children: &[u8; CHILD_NUMBERS],
-    states: &[u8; MAX_NODES],
-    weights: &[u8; BYTE_VALUES],
-    start: usize,
-    end: usize,
-    m: usize,
-    j: u8,
-    p: u8,
-    i: usize,
-) -> Slot
-    requires scannable { Scannable transitions.now count n m arities.now children.now j 0 start end }
-    requires i_lt_count { i < count }
-    ensures { SlotUsed (arrays labels.now arities.now children.now states.now weights.now m j 0) transitions.now count p result }
+fn transition_slot(setting: &Setting<'_>, start: usize, end: usize, j: u8, p: u8, i: usize) -> Slot
+    requires scannable { Scannable setting.now.transitions.now setting.now.count setting.now.n setting.now.subtrees.now.count setting.now.subtrees.now.arities setting.now.subtrees.now.children j 0 start end }
+    requires i_lt_count { i < setting.now.count }
+    ensures { SlotUsed (arrays_of setting.now.subtrees.now setting.now.weights.now j 0) setting.now.transitions.now setting.now.count p result }
 {
-    let arity = arity_of(transitions, TRANSITION_BYTES * i);
+    let arity = arity_of(setting.transitions, TRANSITION_BYTES * i);
     for k in 0..arity {
-        let z = place_slot(
-            transitions,
-            count,
-            n,
-            labels,
-            arities,
-            children,
-            states,
-            weights,
-            start,
-            end,
-            m,
-            j,
-            p,
-            i,
-            k,
-        );
+        let z = place_slot(setting, start, end, j, p, i, k);
         if z.out != 0 {
             return z;
         }
@@ -141,55 +102,26 @@ fn transition_slot(
 
 // A slot in which the state of subtree j is used and which the frames of j do not cover. Only the last transition
 // that uses the state is tried; no slot if it gives none.
-pub fn use_slot(
-    transitions: &[u8],
-    count: usize,
-    n: usize,
-    labels: &[u16; MAX_NODES],
-    arities: &[u8; MAX_NODES],
-    children: &[u8; CHILD_NUMBERS],
-    states: &[u8; MAX_NODES],
-    weights: &[u8; BYTE_VALUES],
-    lasts: &[u16; BYTE_VALUES],
-    start: usize,
-    end: usize,
-    m: usize,
-    j: u8,
-) -> Slot
-    requires searchable { Searchable transitions.now count }
-    requires holds_transitions_over { HoldsTransitionsOver transitions.now count n }
-    requires nodes { Nodes m arities.now children.now }
+pub fn use_slot(setting: &Setting<'_>, start: usize, end: usize, j: u8) -> Slot
+    requires searchable { SearchableIn setting.now }
+    requires holds_transitions_over { OverStates setting.now }
+    requires nodes { AreNodes setting.now.subtrees.now }
     requires le_j { 1 ≤ j }
-    requires j_le_m { j ≤ m }
-    requires parents_within { ParentsWithin m arities.now children.now j start end }
+    requires j_le_m { j ≤ setting.now.subtrees.now.count }
+    requires parents_within { ParentsFrom setting.now.subtrees.now j start end }
     ensures place_lt_max_arity { result.place < max_arity }
     ensures slot_takes { (A : Automaton) (t : Tree) (ts : List Tree) →
-        Holds A t ts transitions.now count n labels.now arities.now children.now states.now weights.now m → 1 ≤ result.out → (q : ℕ) →
+        HoldsIn A t ts setting.now → 1 ≤ result.out → (q : ℕ) →
         uses_agree A t (frames_of t (tree_numbered ts j)) (run A (tree_numbered ts j)) q ≡ true →
-        SlotTakes transitions.now count result q }
+        SlotTakes setting.now.transitions.now setting.now.count result q }
 {
-    let p = states[wide(j) - 1];
-    let number = entry(lasts, p);
+    let p = setting.subtrees.states[wide(j) - 1];
+    let number = entry(setting.lasts, p);
     if number == 0 {
         return no_slot();
     }
-    if number > count {
+    if number > setting.count {
         return no_slot();
     }
-    transition_slot(
-        transitions,
-        count,
-        n,
-        labels,
-        arities,
-        children,
-        states,
-        weights,
-        start,
-        end,
-        m,
-        j,
-        p,
-        number - 1,
-    )
+    transition_slot(setting, start, end, j, p, number - 1)
 }

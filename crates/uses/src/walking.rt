@@ -8,9 +8,11 @@ ghost use Rattle.table.specs.Layout.{arity_of};
 ghost use Rattle.uses.specs.Spans.{UsesWithin};
 ghost use Rattle.uses.specs.Uses.{Scannable, arrays, covered_at, transitions_agree};
 ghost use Rattle.uses.specs.Walks.{AtUse, NextUse, Paired, Stepped, Walkable, Walked};
+ghost use Rattle.uses.specs.Settings.{ScannableIn, UsesBounded, arrays_in};
 
 use crate::covering::is_covered;
 use crate::scanning::{greater, lesser};
+use crate::setting::{Frames, Setting};
 use crate::spans::entry;
 use fields::{arity_of, out_of};
 use format::{ARGS_AT, BYTE_VALUES, MAX_ARITY, MAX_NODES, TRANSITION_BYTES, wide};
@@ -55,21 +57,11 @@ fn args_without(transitions: &[u8], at: usize, k: usize, p: u8) -> u64
 }
 
 // Whether transitions i and x, which have p and q as argument k, are otherwise the same.
-fn pair_agrees(
-    transitions: &[u8],
-    count: usize,
-    n: usize,
-    k: usize,
-    p: u8,
-    q: u8,
-    to: usize,
-    i: usize,
-    x: usize,
-) -> bool
-    requires walkable { Walkable transitions.now count n k p q to }
-    requires at_use { AtUse transitions.now k p to i }
-    requires at_use_2 { AtUse transitions.now k q to x }
-    ensures { result ≡ true → Paired transitions.now count k p q to i x }
+fn pair_agrees(setting: &Setting<'_>, k: usize, p: u8, q: u8, to: usize, i: usize, x: usize) -> bool
+    requires walkable { Walkable setting.now.transitions.now setting.now.count setting.now.n k p q to }
+    requires at_use { AtUse setting.now.transitions.now k p to i }
+    requires at_use_2 { AtUse setting.now.transitions.now k q to x }
+    ensures { result ≡ true → Paired setting.now.transitions.now setting.now.count k p q to i x }
 {
     if i >= to {
         return false;
@@ -79,76 +71,42 @@ fn pair_agrees(
     }
     let first = TRANSITION_BYTES * i;
     let second = TRANSITION_BYTES * x;
-    if meta_at(transitions, first) != meta_at(transitions, second) {
+    if meta_at(setting.transitions, first) != meta_at(setting.transitions, second) {
         return false;
     }
-    if out_of(transitions, first) != out_of(transitions, second) {
+    if out_of(setting.transitions, first) != out_of(setting.transitions, second) {
         return false;
     }
-    args_without(transitions, first, k, p) == args_without(transitions, second, k, q)
+    args_without(setting.transitions, first, k, p)
+        == args_without(setting.transitions, second, k, q)
 }
 
 // Whether the walk is not at its end, and the slot of transition i without argument k is covered.
-fn use_covered(
-    transitions: &[u8],
-    count: usize,
-    n: usize,
-    labels: &[u16; MAX_NODES],
-    arities: &[u8; MAX_NODES],
-    children: &[u8; CHILD_NUMBERS],
-    states: &[u8; MAX_NODES],
-    weights: &[u8; BYTE_VALUES],
-    start: usize,
-    end: usize,
-    m: usize,
-    j: u8,
-    v: u8,
-    k: usize,
-    to: usize,
-    i: usize,
-) -> bool
-    requires scannable { Scannable transitions.now count n m arities.now children.now j v start end }
-    requires to_le_count { to ≤ count }
-    requires k_bound { i < to → k < arity_of transitions.now (transition_bytes * i) }
+fn use_covered(setting: &Setting<'_>, frames: Frames, k: usize, to: usize, i: usize) -> bool
+    requires scannable { ScannableIn setting.now frames }
+    requires to_le_count { to ≤ setting.now.count }
+    requires k_bound { i < to → k < arity_of setting.now.transitions.now (transition_bytes * i) }
     ensures i_lt_to { result ≡ true → i < to }
-    ensures k_value { result ≡ true → covered_at (arrays labels.now arities.now children.now states.now weights.now m j v) transitions.now
+    ensures k_value { result ≡ true → covered_at (arrays_in setting.now frames) setting.now.transitions.now
         (transition_bytes * i) k ≡ true }
 {
     if i >= to {
         return false;
     }
     is_covered(
-        transitions,
+        setting.transitions,
         TRANSITION_BYTES * i,
         k,
-        labels,
-        arities,
-        children,
-        states,
-        weights,
-        m,
-        j,
-        v,
-        start,
-        end,
+        setting.subtrees,
+        setting.weights,
+        frames,
     )
 }
 
 // One step of the walk: past two uses that are a pair, else past one whose slot is covered.
 fn step(
-    transitions: &[u8],
-    count: usize,
-    n: usize,
-    labels: &[u16; MAX_NODES],
-    arities: &[u8; MAX_NODES],
-    children: &[u8; CHILD_NUMBERS],
-    states: &[u8; MAX_NODES],
-    weights: &[u8; BYTE_VALUES],
-    start: usize,
-    end: usize,
-    m: usize,
-    j: u8,
-    v: u8,
+    setting: &Setting<'_>,
+    frames: Frames,
     p: u8,
     q: u8,
     k: usize,
@@ -156,62 +114,28 @@ fn step(
     i: usize,
     x: usize,
 ) -> Stand
-    requires scannable { Scannable transitions.now count n m arities.now children.now j v start end }
-    requires walkable { Walkable transitions.now count n k p q to }
-    requires at_use { AtUse transitions.now k p to i }
-    requires at_use_2 { AtUse transitions.now k q to x }
-    ensures { Stepped (arrays labels.now arities.now children.now states.now weights.now m j v) transitions.now count k p q to i x
+    requires scannable { ScannableIn setting.now frames }
+    requires walkable { Walkable setting.now.transitions.now setting.now.count setting.now.n k p q to }
+    requires at_use { AtUse setting.now.transitions.now k p to i }
+    requires at_use_2 { AtUse setting.now.transitions.now k q to x }
+    ensures { Stepped (arrays_in setting.now frames) setting.now.transitions.now setting.now.count k p q to i x
         result.i result.x result.right }
 {
-    if pair_agrees(transitions, count, n, k, p, q, to, i, x) {
+    if pair_agrees(setting, k, p, q, to, i, x) {
         return Stand {
             i: i + 1,
             x: x + 1,
             right: true,
         };
     }
-    if use_covered(
-        transitions,
-        count,
-        n,
-        labels,
-        arities,
-        children,
-        states,
-        weights,
-        start,
-        end,
-        m,
-        j,
-        v,
-        k,
-        to,
-        i,
-    ) {
+    if use_covered(setting, frames, k, to, i) {
         return Stand {
             i: i + 1,
             x: x,
             right: true,
         };
     }
-    if use_covered(
-        transitions,
-        count,
-        n,
-        labels,
-        arities,
-        children,
-        states,
-        weights,
-        start,
-        end,
-        m,
-        j,
-        v,
-        k,
-        to,
-        x,
-    ) {
+    if use_covered(setting, frames, k, to, x) {
         return Stand {
             i: i,
             x: x + 1,
@@ -227,60 +151,29 @@ fn step(
 
 // Whether the walk over the uses of p and q as argument k, from an index on, reaches its end.
 fn place_agrees_in_step(
-    transitions: &[u8],
-    count: usize,
-    n: usize,
-    labels: &[u16; MAX_NODES],
-    arities: &[u8; MAX_NODES],
-    children: &[u8; CHILD_NUMBERS],
-    states: &[u8; MAX_NODES],
-    weights: &[u8; BYTE_VALUES],
-    start: usize,
-    end: usize,
-    m: usize,
-    j: u8,
-    v: u8,
+    setting: &Setting<'_>,
+    frames: Frames,
     p: u8,
     q: u8,
     k: usize,
     from: usize,
     to: usize,
 ) -> bool
-    requires scannable { Scannable transitions.now count n m arities.now children.now j v start end }
-    requires walkable { Walkable transitions.now count n k p q to }
+    requires scannable { ScannableIn setting.now frames }
+    requires walkable { Walkable setting.now.transitions.now setting.now.count setting.now.n k p q to }
     requires from_le_to { from ≤ to }
-    requires walked { Walked (arrays labels.now arities.now children.now states.now weights.now m j v) transitions.now count k p q from from }
-    ensures { result ≡ true → Walked (arrays labels.now arities.now children.now states.now weights.now m j v) transitions.now count k p q to to }
+    requires walked { Walked (arrays_in setting.now frames) setting.now.transitions.now setting.now.count k p q from from }
+    ensures { result ≡ true → Walked (arrays_in setting.now frames) setting.now.transitions.now setting.now.count k p q to to }
 {
-    let mut i = next_with(transitions, k, p, from, to);
-    let mut x = next_with(transitions, k, q, from, to);
+    let mut i = next_with(setting.transitions, k, p, from, to);
+    let mut x = next_with(setting.transitions, k, q, from, to);
     while (i < to) | (x < to) {
-        let stand = step(
-            transitions,
-            count,
-            n,
-            labels,
-            arities,
-            children,
-            states,
-            weights,
-            start,
-            end,
-            m,
-            j,
-            v,
-            p,
-            q,
-            k,
-            to,
-            i,
-            x,
-        );
+        let stand = step(setting, frames, p, q, k, to, i, x);
         if !stand.right {
             return false;
         }
-        i = next_with(transitions, k, p, stand.i, to);
-        x = next_with(transitions, k, q, stand.x, to);
+        i = next_with(setting.transitions, k, p, stand.i, to);
+        x = next_with(setting.transitions, k, q, stand.x, to);
     }
     true
 }
@@ -301,28 +194,10 @@ fn width(transitions: &[u8], count: usize, to: usize) -> usize
 
 // Whether the walk reaches its end at each place. Then p and q are used alike; if not, they may still be. False if p
 // or q is 0, because 0 stands at each place beyond the arguments.
-pub fn walk_agrees(
-    transitions: &[u8],
-    count: usize,
-    n: usize,
-    labels: &[u16; MAX_NODES],
-    arities: &[u8; MAX_NODES],
-    children: &[u8; CHILD_NUMBERS],
-    states: &[u8; MAX_NODES],
-    weights: &[u8; BYTE_VALUES],
-    lows: &[u16; BYTE_VALUES],
-    lasts: &[u16; BYTE_VALUES],
-    start: usize,
-    end: usize,
-    m: usize,
-    j: u8,
-    v: u8,
-    p: u8,
-    q: u8,
-) -> bool
-    requires scannable { Scannable transitions.now count n m arities.now children.now j v start end }
-    requires uses_within { UsesWithin transitions.now count lows.now lasts.now }
-    ensures { result ≡ true → transitions_agree (arrays labels.now arities.now children.now states.now weights.now m j v) transitions.now count p q ≡ true }
+pub fn walk_agrees(setting: &Setting<'_>, frames: Frames, p: u8, q: u8) -> bool
+    requires scannable { ScannableIn setting.now frames }
+    requires uses_within { UsesBounded setting.now }
+    ensures { result ≡ true → transitions_agree (arrays_in setting.now frames) setting.now.transitions.now setting.now.count p q ≡ true }
 {
     if p == 0 {
         return false;
@@ -330,30 +205,11 @@ pub fn walk_agrees(
     if q == 0 {
         return false;
     }
-    let to = greater(entry(lasts, p), entry(lasts, q));
-    let from = lesser(lesser(entry(lows, p), entry(lows, q)), to);
-    let places = width(transitions, count, to);
+    let to = greater(entry(setting.lasts, p), entry(setting.lasts, q));
+    let from = lesser(lesser(entry(setting.lows, p), entry(setting.lows, q)), to);
+    let places = width(setting.transitions, setting.count, to);
     for k in 0..places {
-        if !place_agrees_in_step(
-            transitions,
-            count,
-            n,
-            labels,
-            arities,
-            children,
-            states,
-            weights,
-            start,
-            end,
-            m,
-            j,
-            v,
-            p,
-            q,
-            k,
-            from,
-            to,
-        ) {
+        if !place_agrees_in_step(setting, frames, p, q, k, from, to) {
             return false;
         }
     }

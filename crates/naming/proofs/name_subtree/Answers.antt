@@ -33,10 +33,10 @@ find_state-q-requires c =
       parents_within = within;
     }
 
-pub returns-then-q-n : goal.returns-then-q-n
-returns-then-q-n c = record {
-  upper_bound = omega (arith, c.if-q-n.true);
-  chosen = λ A t ts S N K O X. inl ((c.find_state-q.ensures A t ts S N K O X).there c.if-q-n.true);
+pub returns-then-q-setting : goal.returns-then-q-setting
+returns-then-q-setting c = record {
+  upper_bound = omega (arith, c.if-q-setting.true);
+  chosen = λ A t ts S N K O X. inl ((c.find_state-q.ensures A t ts S N K O X).there c.if-q-setting.true);
 }
 
 pub find_subtree-v-requires : goal.find_subtree-v-requires
@@ -48,23 +48,23 @@ find_subtree-v-requires c =
       j_le_m = c.requires.j_le_m;
     }
 
-pub overflow_add-result-then-v-m : goal.overflow_add-result-then-v-m
-overflow_add-result-then-v-m c =
-    omega (arith, c.requires.sized.states, c.requires.sized.shaped.few, c.if-v-m.true)
+pub overflow_add-result-then-v-setting : goal.overflow_add-result-then-v-setting
+overflow_add-result-then-v-setting c =
+    omega (arith, c.requires.sized.states, c.requires.sized.shaped.few, c.if-v-setting.true)
 
-pub overflow_cast-result-then-v-m : goal.overflow_cast-result-then-v-m
-overflow_cast-result-then-v-m c =
-    omega (arith, c.requires.sized.states, c.requires.sized.shaped.few, c.if-v-m.true)
+pub overflow_cast-result-then-v-setting : goal.overflow_cast-result-then-v-setting
+overflow_cast-result-then-v-setting c =
+    omega (arith, c.requires.sized.states, c.requires.sized.shaped.few, c.if-v-setting.true)
 
-pub returns-then-v-m : goal.returns-then-v-m
-returns-then-v-m c = record {
-  upper_bound = omega (arith, c.if-v-m.true);
+pub returns-then-v-setting : goal.returns-then-v-setting
+returns-then-v-setting c = record {
+  upper_bound = omega (arith, c.if-v-setting.true);
   chosen = λ A t ts S N K O X. inr (inl (record {
     model = c.find_subtree-v.result;
     above = c.find_subtree-v.ensures.lower_bound;
-    known = c.if-v-m.true;
+    known = c.if-v-setting.true;
     same = refl;
-    chosen = (c.find_subtree-v.ensures.subtree_sought A t ts S N K X).there c.if-v-m.true;
+    chosen = (c.find_subtree-v.ensures.subtree_sought A t ts S N K X).there c.if-v-setting.true;
   }));
 }
 
@@ -80,6 +80,6 @@ pub returns : goal.returns
 returns c = record {
   upper_bound = omega (arith, c.requires.j_le_m);
   chosen = λ A t ts S N K O X. inr (inr (own-chosen (c.find_state-q.ensures A t ts S N K O X)
-      (omega (arith, c.if-q-n.false))
-      (c.find_subtree-v.ensures.subtree_sought A t ts S N K X) (omega (arith, c.if-v-m.false))));
+      (omega (arith, c.if-q-setting.false))
+      (c.find_subtree-v.ensures.subtree_sought A t ts S N K X) (omega (arith, c.if-v-setting.false))));
 }

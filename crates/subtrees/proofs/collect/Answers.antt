@@ -25,8 +25,8 @@ bounds-reached-i c =
     let ok = passed c.args.tree.now c.requires.tree_value in
     omega (arith, c.loop-i.invariant.left, ok.short, c.loop-i-test.true)
 
-pub enter-place-requires : goal.enter-place-requires
-enter-place-requires c =
+pub enter-number-requires : goal.enter-number-requires
+enter-number-requires c =
     let ok = passed c.args.tree.now c.requires.tree_value in
     let filled = filled_at c.popped-numbers.ensures (c.wide-width.ensures ∙ c.children_at-arity.ensures) in
     let more = c.loop-i-test.true in
@@ -59,8 +59,8 @@ loop-i-preserved c =
     let filled = filled_at c.popped-numbers.ensures width in
     let more = c.loop-i-test.true in
     rw width
-    (collecting-next ok c.loop-i.invariant more filled c.enter-place.ensures.number_given c.enter-place.ensures.sized_2 c.requires.held
-    (rw (label, c.children_at-arity.ensures) at c.enter-place.ensures.entered))
+    (collecting-next ok c.loop-i.invariant more filled c.enter-number.ensures.number_given c.enter-number.ensures.sized_2 c.requires.held
+    (rw (label, c.children_at-arity.ensures) at c.enter-number.ensures.entered))
 
 pub returns : goal.returns
 returns c =

@@ -3,7 +3,4 @@ use Rattle.subtrees.proofs.Collecting.{Collecting}
 use Rattle.subtrees.proofs.collect.Given as goal
 
 abbrev pub invariant-loop-i : goal.invariant-loop-i
-invariant-loop-i l = Collecting l.tree l.reached l.i l.top l.found l.stack l.labels l.arities l.children l.states
-
-abbrev pub decreases-loop-i : goal.decreases-loop-i
-decreases-loop-i l = l.i
+invariant-loop-i l = Collecting l.tree l.reached l.i l.top l.subtrees.count l.stack l.subtrees.labels l.subtrees.arities l.subtrees.children l.subtrees.states

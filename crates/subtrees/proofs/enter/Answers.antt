@@ -20,7 +20,7 @@ pub returns : goal.returns
 returns c =
     let eight : length c.args.numbers ≡ max_arity = omega (arith, c.well_formed) in
     record {
-      sized_2 = sized_new c.requires.sized c.args.found c.args.label c.args.arity c.args.q c.store_children.ensures;
+      sized_2 = sized_new c.requires.sized c.args.subtrees.now.count c.args.label c.args.arity c.args.q c.store_children.ensures;
       number_given = omega arith;
       entered = λ A ts e st. enter-new st c.args.label c.requires.children eight c.requires.sized c.requires.found_lt_max_nodes c.requires.label_le_max_label
           c.store_children.ensures e (enter-missing st c.args.label c.requires.children eight c.search-j.ensures c.if-j-found.false);

@@ -1,5 +1,5 @@
 -- The loop at k has filled the first k bytes from the stack.
-use Prim.Native.Nat.{◌-◌, ◌≤◌}
+use Prim.Native.Nat.{◌≤◌}
 use Rattle.subtrees.specs.Steps.{Filled}
 use Rattle.lists.specs.Positions.{byte_from}
 use Rattle.subtrees.proofs.popped.Given as goal

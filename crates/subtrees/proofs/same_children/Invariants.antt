@@ -1,5 +1,4 @@
 -- At k the loop's result is that for the children from k on.
-use Prim.Native.Nat.{◌-◌}
 use Rattle.lists.proofs.Loops.{EveryFrom}
 use Rattle.lists.specs.Positions.{up_from}
 use Rattle.lists.specs.Tests.{every}

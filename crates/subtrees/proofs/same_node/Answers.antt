@@ -2,18 +2,18 @@
 use Rattle.subtrees.proofs.Arrays.{by-children, other-arity, other-label}
 use Rattle.subtrees.proofs.same_node.Goals as goal
 
-pub returns-then-labels-j : goal.returns-then-labels-j
-returns-then-labels-j c =
-    other-label c.args.labels.now c.args.arities.now c.args.children.now c.args.label c.args.arity c.args.numbers c.args.j
-    c.if-labels-j.true
+pub returns-then-subtrees-j : goal.returns-then-subtrees-j
+returns-then-subtrees-j c =
+    other-label c.args.subtrees.now.labels c.args.subtrees.now.arities c.args.subtrees.now.children c.args.label c.args.arity c.args.numbers c.args.j
+    c.if-subtrees-j.true
 
-pub returns-then-arities-j : goal.returns-then-arities-j
-returns-then-arities-j c =
-    other-arity c.args.labels.now c.args.arities.now c.args.children.now c.args.label c.args.arity c.args.numbers c.args.j
-    c.if-labels-j.false c.if-arities-j.true
+pub returns-then-subtrees-j-2 : goal.returns-then-subtrees-j-2
+returns-then-subtrees-j-2 c =
+    other-arity c.args.subtrees.now.labels c.args.subtrees.now.arities c.args.subtrees.now.children c.args.label c.args.arity c.args.numbers c.args.j
+    c.if-subtrees-j.false c.if-subtrees-j-2.true
 
 pub returns : goal.returns
 returns c =
-    by-children c.args.labels.now c.args.arities.now c.args.children.now c.args.label c.args.arity c.args.numbers c.args.j _ _
-    c.if-labels-j.false c.if-arities-j.false c.wide.ensures
+    by-children c.args.subtrees.now.labels c.args.subtrees.now.arities c.args.subtrees.now.children c.args.label c.args.arity c.args.numbers c.args.j _ _
+    c.if-subtrees-j.false c.if-subtrees-j-2.false c.wide.ensures
     c.same_children.ensures

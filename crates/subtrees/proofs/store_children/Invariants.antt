@@ -1,5 +1,4 @@
 -- The loop at k has stored the first k numbers.
-use Prim.Native.Nat.{◌-◌}
 use Rattle.subtrees.proofs.Arrays.{StoredTo}
 use Rattle.subtrees.proofs.store_children.Given as goal
 

@@ -9,7 +9,7 @@ use Rattle.alike.proofs.classed.named_like_subtree.Goals as goal
 
 pub returns-then-not-same_class : goal.returns-then-not-same_class
 returns-then-not-same_class c =
-    let cl = c.args.classes.now in
+    let cl = c.args.setting.now.classes.now in
     let w = c.wide-first in
     let w2 = c.wide-second in
     λ A t ts S N e holds known mine other.
@@ -27,7 +27,7 @@ frames_agree-requires c = record {
 
 pub returns-then-not-frames_agree : goal.returns-then-not-frames_agree
 returns-then-not-frames_agree c =
-    let cl = c.args.classes.now in
+    let cl = c.args.setting.now.classes.now in
     let w = c.wide-first in
     let w2 = c.wide-second in
     λ A t ts S N e holds known mine other.
@@ -47,7 +47,7 @@ frames_agree-requires-2 c = record {
 
 pub returns : goal.returns
 returns c =
-    let cl = c.args.classes.now in
+    let cl = c.args.setting.now.classes.now in
     let w = c.wide-first in
     let w2 = c.wide-second in
     λ A t ts S N e holds known mine other.

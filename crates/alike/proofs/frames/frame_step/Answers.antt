@@ -12,7 +12,7 @@ children_of-numbers-requires c = record {
 
 pub states_of-qs-requires : goal.states_of-qs-requires
 states_of-qs-requires c =
-    children-more c.requires.shaped.few (frame-children c.args.arities.now c.args.children.now c.args.i c.wide-arity.ensures c.children_of-numbers.ensures c.requires.shaped c.requires.i_lt_m)
+    children-more c.requires.shaped.few (frame-children c.args.setting.now.subtrees.now.arities c.args.setting.now.subtrees.now.children c.args.i c.wide-arity.ensures c.children_of-numbers.ensures c.requires.shaped c.requires.i_lt_m)
 
 pub bounds-qs-k : goal.bounds-qs-k
 bounds-qs-k c =
@@ -26,5 +26,5 @@ step_node-requires c = record {
 
 pub returns : goal.returns
 returns c =
-    λ A t ts e holds. frame-stepped c.args.arities.now c.args.children.now c.args.i c.wide-arity.ensures c.children_of-numbers.ensures c.requires.shaped holds c.args.k c.args.x c.requires.i_lt_m c.requires.k_bound
+    λ A t ts e holds. frame-stepped c.args.setting.now.subtrees.now.arities c.args.setting.now.subtrees.now.children c.args.i c.wide-arity.ensures c.children_of-numbers.ensures c.requires.shaped holds c.args.k c.args.x c.requires.i_lt_m c.requires.k_bound
     c.states_of-qs.ensures (c.step_node.ensures A e)

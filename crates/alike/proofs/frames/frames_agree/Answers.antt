@@ -7,7 +7,7 @@ use Rattle.alike.proofs.frames.frames_agree.Goals as goal
 pub loop-i-init : goal.loop-i-init
 loop-i-init c = (
   omega arith,
-  λ A t ts N j e holds known above sub. parents-within A N ts c.args.labels.now c.args.arities.now c.args.children.now
+  λ A t ts N j e holds known above sub. parents-within A N ts c.args.setting.now.subtrees.now.labels c.args.setting.now.subtrees.now.arities c.args.setting.now.subtrees.now.children
       c.args.a c.args.state c.args.x c.requires.parents_within,
 )
 

@@ -9,13 +9,13 @@ pub overflow_add-i : goal.overflow_add-i
 overflow_add-i c =
     omega (arith, c.requires.shaped.few, c.requires.shaped.narrow c.args.i (omega arith))
 
-pub bounds-children-i : goal.bounds-children-i
-bounds-children-i c =
+pub bounds-setting-i : goal.bounds-setting-i
+bounds-setting-i c =
     omega (arith, c.requires.shaped.few, c.requires.shaped.narrow c.args.i (omega arith))
 
 pub returns-then-wide-a : goal.returns-then-wide-a
 returns-then-wide-a c =
-    λ A t ts N j e holds known above sub. place_other A N ts c.args.labels.now c.args.arities.now c.args.children.now c.args.a c.args.state c.args.x c.args.i c.args.k (λ z. c.if-wide-a.true (c.wide.ensures ∙ z))
+    λ A t ts N j e holds known above sub. place_other A N ts c.args.setting.now.subtrees.now.labels c.args.setting.now.subtrees.now.arities c.args.setting.now.subtrees.now.children c.args.a c.args.state c.args.x c.args.i c.args.k (λ z. c.if-wide-a.true (c.wide.ensures ∙ z))
 
 pub frame_name-name-requires : goal.frame_name-name-requires
 frame_name-name-requires c = record {
@@ -28,5 +28,5 @@ frame_name-name-requires c = record {
 
 pub returns : goal.returns
 returns c =
-    λ A t ts N j e holds known above sub. place-own A N ts c.args.labels.now c.args.arities.now c.args.children.now c.args.a c.args.state c.args.x c.args.i c.args.k
+    λ A t ts N j e holds known above sub. place-own A N ts c.args.setting.now.subtrees.now.labels c.args.setting.now.subtrees.now.arities c.args.setting.now.subtrees.now.children c.args.a c.args.state c.args.x c.args.i c.args.k
     c.requires.shaped c.requires.i_lt_m c.requires.k_bound known above (sym c.wide.ensures ∙ c.if-wide-a.false) refl (c.frame_name-name.ensures A t ts N j e holds known sub)

@@ -1,5 +1,5 @@
 -- The loop at k has filled the first k bytes with child numbers.
-use Prim.Native.Nat.{◌-◌, ◌≤◌}
+use Prim.Native.Nat.{◌≤◌}
 use Rattle.subtrees.specs.Steps.{Filled}
 use Rattle.subtrees.specs.Store.{child_at}
 use Rattle.alike.proofs.nodes.children_of.Given as goal

@@ -6,10 +6,10 @@ use Rattle.format.specs.Format.{max_arity}
 use Rattle.alike.proofs.NodeNames.{children-more, filled-places, name-found, name-missing, states-run, widened-children, widened-step}
 use Rattle.alike.proofs.nodes.node_name.Goals as goal
 
-pub returns-then-i-m : goal.returns-then-i-m
-returns-then-i-m c =
+pub returns-then-i-setting : goal.returns-then-i-setting
+returns-then-i-setting c =
     let eight : length c.args.numbers ≡ max_arity = omega (arith, c.well_formed) in
-    λ A t ts N j k e holds known h l. name-found holds known eight c.requires.children c.search-i.ensures k h l c.if-i-m.true
+    λ A t ts N j k e holds known h l. name-found holds known eight c.requires.children c.search-i.ensures k h l c.if-i-setting.true
 
 pub states_of-qs-requires : goal.states_of-qs-requires
 states_of-qs-requires c =
@@ -25,6 +25,6 @@ pub returns : goal.returns
 returns c =
     let eight : length c.args.numbers ≡ max_arity = omega (arith, c.well_formed) in
     λ A t ts N j k e holds known h l.
-    name-missing holds known eight c.requires.children c.search-i.ensures c.if-i-m.false
+    name-missing holds known eight c.requires.children c.search-i.ensures c.if-i-setting.false
     (widened-step A ts c.args.label c.args.numbers c.states_of-qs.result c.wide-width.ensures (c.step_node.ensures A e)
     (states-run holds.stored eight (widened-children c.wide-width.ensures c.requires.children) c.states_of-qs.ensures))

@@ -1,6 +1,6 @@
 -- The loop at k has passed k bytes, none of them 0.
 use mathlib.Core.Path.{◌≡◌}
-use Prim.Native.Nat.{◌-◌, ◌<◌, ◌≤◌, ℕ}
+use Prim.Native.Nat.{◌<◌, ◌≤◌, ℕ}
 use lib.ListN.{get_or}
 use Rattle.alike.proofs.nodes.some_zero.Given as goal
 

@@ -1,5 +1,5 @@
 -- The loop at k has filled the first k bytes with states.
-use Prim.Native.Nat.{◌-◌, ◌≤◌}
+use Prim.Native.Nat.{◌≤◌}
 use Rattle.subtrees.specs.Steps.{Filled}
 use Rattle.alike.specs.Agreeing.{state_of}
 use Rattle.alike.proofs.nodes.states_of.Given as goal

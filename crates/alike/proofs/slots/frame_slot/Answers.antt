@@ -17,7 +17,7 @@ children_of-numbers-requires c =
 pub states_of-qs-requires : goal.states_of-qs-requires
 states_of-qs-requires c =
     children-more c.requires.shaped.few
-    (frame-children c.args.arities.now c.args.children.now c.args.i c.wide-arity.ensures c.children_of-numbers.ensures
+    (frame-children c.args.subtrees.now.arities c.args.subtrees.now.children c.args.i c.wide-arity.ensures c.children_of-numbers.ensures
     c.requires.shaped c.requires.i_lt_m)
 
 pub bounds-qs-k : goal.bounds-qs-k
@@ -28,7 +28,7 @@ meta_of-meta-requires c = omega (arith, c.wide-arity.ensures, c.requires.shaped.
 
 pub returns : goal.returns
 returns c =
-    frame-slot c.args.arities.now c.args.children.now c.args.i c.wide-arity.ensures
-    c.children_of-numbers.ensures c.args.states.now c.states_of-qs.ensures c.requires.shaped c.args.k
+    frame-slot c.args.subtrees.now.arities c.args.subtrees.now.children c.args.i c.wide-arity.ensures
+    c.children_of-numbers.ensures c.args.subtrees.now.states c.states_of-qs.ensures c.requires.shaped c.args.k
     c.requires.i_lt_m c.requires.k_bound _ c.meta_of-meta.ensures c.pack-args.ensures.value refl
     c.wide-name.ensures

@@ -9,5 +9,5 @@ pub returns-then-z-ne0 : goal.returns-then-z-ne0
 returns-then-z-ne0 c = c.parent_slot-z.ensures
 
 pub returns : goal.returns
-returns c = slot-none c.args.m c.args.j c.args.labels.now c.args.arities.now c.args.children.now c.args.states.now c.args.names.now
+returns c = slot-none c.args.subtrees.now.count c.args.j c.args.subtrees.now.labels c.args.subtrees.now.arities c.args.subtrees.now.children c.args.subtrees.now.states c.args.names.now
     c.no_slot.result c.no_slot.ensures.place_value c.no_slot.ensures.out_value

@@ -1,5 +1,5 @@
 -- `alike::slots::frame_slot_of` meets its contract: any frame over subtree j will do.
-use Prim.Native.Nat.{◌-◌, ◌≤◌}
+use Prim.Native.Nat.{◌≤◌}
 use Rattle.alike.proofs.slots.frame_slot_of.Given as goal
 
 abbrev pub invariant-loop-i : goal.invariant-loop-i

@@ -1,5 +1,5 @@
 -- `naming::classes::classify` meets its contract: in the loop the classes below index `j` are there.
-use Prim.Native.Nat.{◌-◌, ◌≤◌}
+use Prim.Native.Nat.{◌≤◌}
 use Rattle.naming.specs.Classes.{subtree_class}
 use Rattle.naming.proofs.Classing.{ClassedTo}
 use Rattle.naming.proofs.classes.classify.Given as goal

@@ -30,7 +30,7 @@ loop-v-preserved c =
       above = omega (arith, now.invariant.above);
       within = omega arith;
       each = λ A t ts S N K X. no-subtree-next
-          (now.invariant.each A t ts S N K X) (subst (SubtreeTried A t S ts c.args.n N c.args.j now.v) c.if-fits_subtree.false (c.fits_subtree.ensures A t ts S N K X));
+          (now.invariant.each A t ts S N K X) (subst (SubtreeTried A t S ts c.args.setting.now.n N c.args.j now.v) c.if-fits_subtree.false (c.fits_subtree.ensures A t ts S N K X));
     }
 
 pub returns : goal.returns

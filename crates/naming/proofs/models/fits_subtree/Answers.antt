@@ -5,9 +5,9 @@ use Rattle.naming.proofs.Choosing.{not_own, own-tried}
 use Rattle.naming.proofs.Spans.{joined}
 use Rattle.naming.proofs.models.fits_subtree.Goals as goal
 
-pub returns-then-wide-n : goal.returns-then-wide-n
-returns-then-wide-n c =
-    λ A t ts S N K X. not_own X c.requires.j_lt_v c.requires.v_le_m (λ e. c.if-wide-n.true (c.wide.ensures ∙ e))
+pub returns-then-wide-setting : goal.returns-then-wide-setting
+returns-then-wide-setting c =
+    λ A t ts S N K X. not_own X c.requires.j_lt_v c.requires.v_le_m (λ e. c.if-wide-setting.true (c.wide.ensures ∙ e))
 
 pub like_subtree-requires : goal.like_subtree-requires
 like_subtree-requires c =
@@ -16,7 +16,7 @@ like_subtree-requires c =
     let both = joined {f = c.wide-from.result} {t = c.wide-to.result} c.requires.spans_of c.requires.le_j
     c.requires.j_lt_v c.requires.v_le_m (omega (arith, c.wide-from.ensures, c.least.ensures.upper_bound)) (omega (arith, c.wide-from.ensures, c.least.ensures.upper_bound_2))
     (omega (arith, c.wide-to.ensures, c.greatest.ensures.lower_bound)) (omega (arith, c.wide-to.ensures, c.greatest.ensures.lower_bound_2))
-    (omega (arith, c.wide-to.ensures, c.greatest.ensures.by_index c.args.m first.known second.known)) in
+    (omega (arith, c.wide-to.ensures, c.greatest.ensures.by_index c.args.setting.now.subtrees.now.count first.known second.known)) in
     record {
       searchable = c.requires.sized.searchable;
       holds_transitions_over = c.requires.sized.over;
@@ -31,6 +31,6 @@ like_subtree-requires c =
 
 pub returns : goal.returns
 returns c =
-    λ A t ts S N K X. own-tried X c.requires.j_lt_v c.requires.v_le_m (sym c.wide.ensures ∙ c.if-wide-n.false)
+    λ A t ts S N K X. own-tried X c.requires.j_lt_v c.requires.v_le_m (sym c.wide.ensures ∙ c.if-wide-setting.false)
     (c.like_subtree.ensures A t ts S N K.holds X (K.classed.each c.args.j c.requires.le_j (omega (arith, c.requires.j_lt_v, c.requires.v_le_m)))
     (K.classed.each c.args.v (omega (arith, c.requires.j_lt_v, c.requires.v_le_m)) c.requires.v_le_m))

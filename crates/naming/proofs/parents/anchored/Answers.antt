@@ -8,7 +8,7 @@ pub loop-i-init : goal.loop-i-init
 loop-i-init c = (
   omega arith,
   parents-tested c.requires.shaped c.requires.parents_within
-      (anchor-child c.args.n c.args.arities.now c.args.children.now c.args.names.now c.args.shared.now c.args.j),
+      (anchor-child c.args.n c.args.subtrees.now.arities c.args.subtrees.now.children c.args.names.now c.args.shared.now c.args.j),
 )
 
 pub anchors_child-requires : goal.anchors_child-requires

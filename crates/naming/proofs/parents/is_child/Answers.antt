@@ -10,7 +10,7 @@ use Rattle.naming.proofs.parents.is_child.Goals as goal
 pub loop-k-init : goal.loop-k-init
 unfolding is_child
 loop-k-init c =
-    (c.wide-arity.ensures, any-start (get_or c.args.arities.now (c.args.i - 1) 0) (omega arith))
+    (c.wide-arity.ensures, any-start (get_or c.args.subtrees.now.arities (c.args.i - 1) 0) (omega arith))
 
 pub overflow_add-i : goal.overflow_add-i
 overflow_add-i c =
@@ -22,8 +22,8 @@ overflow_add-i c =
       c.loop-k.invariant.0,
     )
 
-pub bounds-children-i : goal.bounds-children-i
-bounds-children-i c =
+pub bounds-subtrees-i-in-loop-k : goal.bounds-subtrees-i-in-loop-k
+bounds-subtrees-i-in-loop-k c =
     omega (arith, c.requires.shaped.few, c.requires.shaped.narrow (c.args.i - 1) (omega arith))
 
 pub returns-then-wide-j : goal.returns-then-wide-j

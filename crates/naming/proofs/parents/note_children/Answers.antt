@@ -21,14 +21,14 @@ pub overflow_add-i : goal.overflow_add-i
 overflow_add-i c =
     omega (arith, c.requires.shaped.few, c.requires.shaped.narrow c.args.i c.requires.i_lt_m, c.loop-k-test.true, c.loop-k.invariant.0)
 
-pub bounds-children-i : goal.bounds-children-i
-bounds-children-i c =
+pub bounds-subtrees-i-in-loop-k : goal.bounds-subtrees-i-in-loop-k
+bounds-subtrees-i-in-loop-k c =
     omega (arith, c.requires.shaped.few, c.requires.shaped.narrow c.args.i c.requires.i_lt_m, c.loop-k-test.true, c.loop-k.invariant.0)
 
 pub note_child-requires : goal.note_child-requires
 note_child-requires c =
     let now = c.loop-k in
-    let inside : now.k < get_or c.args.arities.now c.args.i 0 =
+    let inside : now.k < get_or c.args.subtrees.now.arities c.args.i 0 =
     omega (arith, now.invariant.0, c.loop-k-test.true) in
     record {
       i_lt_max_nodes = omega (arith, c.requires.shaped.few);

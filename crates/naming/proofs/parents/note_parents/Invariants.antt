@@ -1,8 +1,8 @@
 -- `naming::parents::note_parents` meets its contract: the parents before index `i` are noted.
-use Prim.Native.Nat.{◌*◌, ◌-◌, ◌≤◌}
+use Prim.Native.Nat.{◌*◌, ◌≤◌}
 use Rattle.format.specs.Format.{max_arity}
 use Rattle.naming.specs.Parents.{ParentsNoted}
 use Rattle.naming.proofs.parents.note_parents.Given as goal
 
 abbrev pub invariant-loop-i : goal.invariant-loop-i
-invariant-loop-i l = (l.i ≤ l.m) × ParentsNoted l.arities l.children l.i (max_arity * l.i) l.froms l.tos
+invariant-loop-i l = (l.i ≤ l.subtrees.count) × ParentsNoted l.subtrees.arities l.subtrees.children l.i (max_arity * l.i) l.froms l.tos

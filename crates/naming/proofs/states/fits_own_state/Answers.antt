@@ -5,8 +5,8 @@ use native.Mathlib.Omega.{arith}
 use Rattle.naming.specs.Choice.{StateChosen}
 use Rattle.naming.proofs.states.fits_own_state.Goals as goal
 
-pub returns-then-q-n : goal.returns-then-q-n
-returns-then-q-n c = λ A t ts S N K O X. record { yes = λ d. absurd (true≢false (sym d)) }
+pub returns-then-q-setting : goal.returns-then-q-setting
+returns-then-q-setting c = λ A t ts S N K O X. record { yes = λ d. absurd (true≢false (sym d)) }
 
 pub fits_state-requires : goal.fits_state-requires
 fits_state-requires c = record {
@@ -14,7 +14,7 @@ fits_state-requires c = record {
   le_j = c.requires.le_j;
   j_le_m = c.requires.j_le_m;
   parents_within = c.requires.parents_within;
-  q_le_n = omega (arith, c.if-q-n.false);
+  q_le_n = omega (arith, c.if-q-setting.false);
 }
 
 pub returns : goal.returns

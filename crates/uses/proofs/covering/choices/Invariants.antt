@@ -1,6 +1,5 @@
 -- In the loop the product so far times the product of the rest is the whole.
 use mathlib.Core.Path.{◌≡◌}
-use Prim.Native.Nat.{◌-◌}
 use Rattle.table.specs.Layout.{arity_of}
 use Rattle.uses.specs.Uses.{factor_at, product_at}
 use Rattle.uses.proofs.Counting.{ProductFrom}

@@ -5,4 +5,4 @@ use Rattle.uses.proofs.covering.is_covered.Goals as goal
 
 pub returns : goal.returns
 returns c =
-    covered-is (arrays c.args.labels.now c.args.arities.now c.args.children.now c.args.states.now c.args.weights.now c.args.m c.args.j c.args.v) c.args.transitions.now c.args.at c.args.k c.choices.ensures c.frame_count-found.ensures.value c.frame_count-found.ensures.upper_bound
+    covered-is (arrays c.args.subtrees.now.labels c.args.subtrees.now.arities c.args.subtrees.now.children c.args.subtrees.now.states c.args.weights.now c.args.subtrees.now.count c.args.frames.first c.args.frames.second) c.args.transitions.now c.args.at c.args.k c.choices.ensures c.frame_count-found.ensures.value c.frame_count-found.ensures.upper_bound

@@ -5,8 +5,8 @@ use Rattle.uses.proofs.frames.frame_count.Goals as goal
 
 pub loop-i-init : goal.loop-i-init
 loop-i-init c =
-    frames-start c.args.transitions.now c.args.at c.args.k c.args.labels.now c.args.arities.now c.args.children.now
-    c.args.states.now c.args.m c.args.j c.args.v c.requires.k_bound c.requires.parents_within c.requires.parents_within_2
+    frames-start c.args.transitions.now c.args.at c.args.k c.args.subtrees.now.labels c.args.subtrees.now.arities c.args.subtrees.now.children
+    c.args.subtrees.now.states c.args.subtrees.now.count c.args.frames.first c.args.frames.second c.requires.k_bound c.requires.parents_within c.requires.parents_within_2
 
 pub framed_at-found-requires : goal.framed_at-found-requires
 framed_at-found-requires c = record {
@@ -40,7 +40,7 @@ loop-i-preserved c =
 
 pub returns : goal.returns
 returns c = record {
-  value = frames-end c.args.transitions.now c.args.at c.args.k c.args.labels.now c.args.arities.now c.args.children.now
-      c.args.states.now c.args.m c.args.j c.args.v c.requires.k_bound c.requires.parents_within c.requires.parents_within_2 c.loop-i.invariant c.loop-i-test.false;
+  value = frames-end c.args.transitions.now c.args.at c.args.k c.args.subtrees.now.labels c.args.subtrees.now.arities c.args.subtrees.now.children
+      c.args.subtrees.now.states c.args.subtrees.now.count c.args.frames.first c.args.frames.second c.requires.k_bound c.requires.parents_within c.requires.parents_within_2 c.loop-i.invariant c.loop-i-test.false;
   upper_bound = omega (arith, c.loop-i.invariant.within, c.requires.nodes.few);
 }

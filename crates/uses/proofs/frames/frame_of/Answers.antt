@@ -5,11 +5,11 @@ use Rattle.uses.proofs.frames.frame_of.Goals as goal
 
 pub returns-then-child-j : goal.returns-then-child-j
 returns-then-child-j c =
-    of-first c.args.labels.now c.args.arities.now c.args.children.now c.args.m c.args.j c.args.v c.args.k c.args.i c.if-child-j.true
+    of-first c.args.subtrees.now.labels c.args.subtrees.now.arities c.args.subtrees.now.children c.args.subtrees.now.count c.args.j c.args.v c.args.k c.args.i c.if-child-j.true
 
 pub returns-then-child-v : goal.returns-then-child-v
 returns-then-child-v c =
-    of_none c.args.labels.now c.args.arities.now c.args.children.now c.args.m c.args.j c.args.v c.args.k c.args.i c.if-child-j.false c.if-child-v.true
+    of_none c.args.subtrees.now.labels c.args.subtrees.now.arities c.args.subtrees.now.children c.args.subtrees.now.count c.args.j c.args.v c.args.k c.args.i c.if-child-j.false c.if-child-v.true
 
 pub has_twin-requires : goal.has_twin-requires
 has_twin-requires c = record {
@@ -21,4 +21,4 @@ has_twin-requires c = record {
 
 pub returns : goal.returns
 returns c =
-    of-second c.args.labels.now c.args.arities.now c.args.children.now c.args.m c.args.j c.args.v c.args.k c.args.i c.if-child-j.false c.if-child-v.false c.has_twin.ensures
+    of-second c.args.subtrees.now.labels c.args.subtrees.now.arities c.args.subtrees.now.children c.args.subtrees.now.count c.args.j c.args.v c.args.k c.args.i c.if-child-j.false c.if-child-v.false c.has_twin.ensures

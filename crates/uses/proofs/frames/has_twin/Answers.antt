@@ -5,7 +5,7 @@ use Rattle.lists.proofs.Loops.{any-end, any_found, any_next, any-start}
 use Rattle.uses.proofs.frames.has_twin.Goals as goal
 
 pub loop-h-init : goal.loop-h-init
-loop-h-init c = any-start c.args.m (zero-add c.args.m)
+loop-h-init c = any-start c.args.subtrees.now.count (zero-add c.args.subtrees.now.count)
 
 pub returns-then-is_twin : goal.returns-then-is_twin
 returns-then-is_twin c =

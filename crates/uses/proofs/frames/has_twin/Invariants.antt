@@ -1,5 +1,4 @@
 -- At h the loop's result is that for the nodes from h on.
-use Prim.Native.Nat.{◌-◌}
 use Rattle.lists.proofs.Loops.{AnyFrom}
 use Rattle.lists.specs.Positions.{up_from}
 use Rattle.lists.specs.Tests.{any}
@@ -7,4 +6,4 @@ use Rattle.uses.specs.Frames.{twin}
 use Rattle.uses.proofs.frames.has_twin.Given as goal
 
 abbrev pub invariant-loop-h : goal.invariant-loop-h
-invariant-loop-h l = AnyFrom (any (twin l.labels l.arities l.children l.j l.k l.i) (up_from 0 l.m)) (twin l.labels l.arities l.children l.j l.k l.i) l.m l.h
+invariant-loop-h l = AnyFrom (any (twin l.subtrees.labels l.subtrees.arities l.subtrees.children l.j l.k l.i) (up_from 0 l.subtrees.count)) (twin l.subtrees.labels l.subtrees.arities l.subtrees.children l.j l.k l.i) l.subtrees.count l.h

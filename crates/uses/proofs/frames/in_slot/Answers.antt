@@ -3,13 +3,13 @@ use mathlib.Core.Path.{◌∙◌, sym}
 use Rattle.uses.proofs.Nodes.{arity-differs, in-siblings, label-differs}
 use Rattle.uses.proofs.frames.in_slot.Goals as goal
 
-pub returns-then-labels-i : goal.returns-then-labels-i
-returns-then-labels-i c =
-    label-differs c.args.transitions.now c.args.at c.args.k c.args.labels.now c.args.arities.now c.args.children.now c.args.states.now c.args.i c.if-labels-i.true c.label_of.ensures.value
+pub returns-then-subtrees-i : goal.returns-then-subtrees-i
+returns-then-subtrees-i c =
+    label-differs c.args.transitions.now c.args.at c.args.k c.args.subtrees.now.labels c.args.subtrees.now.arities c.args.subtrees.now.children c.args.subtrees.now.states c.args.i c.if-subtrees-i.true c.label_of.ensures.value
 
 pub returns-then-wide-arity_of : goal.returns-then-wide-arity_of
 returns-then-wide-arity_of c =
-    arity-differs c.args.transitions.now c.args.at c.args.k c.args.labels.now c.args.arities.now c.args.children.now c.args.states.now c.args.i c.if-labels-i.false c.label_of.ensures.value c.if-wide-arity_of.true c.wide.ensures c.arity_of.ensures
+    arity-differs c.args.transitions.now c.args.at c.args.k c.args.subtrees.now.labels c.args.subtrees.now.arities c.args.subtrees.now.children c.args.subtrees.now.states c.args.i c.if-subtrees-i.false c.label_of.ensures.value c.if-wide-arity_of.true c.wide.ensures c.arity_of.ensures
 
 pub same_siblings-requires : goal.same_siblings-requires
 same_siblings-requires c = record {
@@ -21,4 +21,4 @@ same_siblings-requires c = record {
 
 pub returns : goal.returns
 returns c =
-    in-siblings c.args.transitions.now c.args.at c.args.k c.args.labels.now c.args.arities.now c.args.children.now c.args.states.now c.args.i c.if-labels-i.false c.label_of.ensures.value (sym c.wide.ensures ∙ c.if-wide-arity_of.false ∙ c.arity_of.ensures) c.same_siblings.ensures
+    in-siblings c.args.transitions.now c.args.at c.args.k c.args.subtrees.now.labels c.args.subtrees.now.arities c.args.subtrees.now.children c.args.subtrees.now.states c.args.i c.if-subtrees-i.false c.label_of.ensures.value (sym c.wide.ensures ∙ c.if-wide-arity_of.false ∙ c.arity_of.ensures) c.same_siblings.ensures

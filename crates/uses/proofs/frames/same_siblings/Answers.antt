@@ -13,7 +13,7 @@ loop-x-init c =
 
 pub same_sibling-requires : goal.same_sibling-requires
 same_sibling-requires c =
-    let h : c.loop-x.x < get_or c.args.arities.now c.args.i 0 = omega (arith, c.loop-x.invariant.0, c.requires.i_value, c.loop-x-test.true) in
+    let h : c.loop-x.x < get_or c.args.subtrees.now.arities c.args.i 0 = omega (arith, c.loop-x.invariant.0, c.requires.i_value, c.loop-x-test.true) in
     record {
       readable = c.requires.readable;
       i_lt_max_nodes = omega (arith, c.requires.i_lt_m, (c.requires.nodes).few);

@@ -1,5 +1,4 @@
 -- At x the loop's result is that for the children from x on.
-use Prim.Native.Nat.{◌-◌}
 use Rattle.lists.proofs.Loops.{EveryFrom}
 use Rattle.lists.specs.Positions.{up_from}
 use Rattle.lists.specs.Tests.{every}
@@ -9,4 +8,4 @@ use mathlib.Core.Path.{◌≡◌}
 use Rattle.uses.proofs.frames.same_siblings.Given as goal
 
 abbrev pub invariant-loop-x : goal.invariant-loop-x
-invariant-loop-x l = (l.arity ≡ arity_of l.transitions l.at) × EveryFrom (every (same_sibling l.transitions l.at l.k l.children l.states l.i) (up_from 0 (arity_of l.transitions l.at))) (same_sibling l.transitions l.at l.k l.children l.states l.i) (arity_of l.transitions l.at) l.x
+invariant-loop-x l = (l.arity ≡ arity_of l.transitions l.at) × EveryFrom (every (same_sibling l.transitions l.at l.k l.subtrees.children l.subtrees.states l.i) (up_from 0 (arity_of l.transitions l.at))) (same_sibling l.transitions l.at l.k l.subtrees.children l.subtrees.states l.i) (arity_of l.transitions l.at) l.x

@@ -1,5 +1,4 @@
 -- The loop at k has compared the places before it.
-use Prim.Native.Nat.{◌-◌}
 use Rattle.format.specs.Format.{max_arity}
 use Rattle.lists.specs.Positions.{up_from}
 use Rattle.lists.specs.Tests.{every}

@@ -7,8 +7,8 @@ use Rattle.uses.proofs.scanning.hint_agrees.Goals as goal
 
 pub returns-then-number-eq0 : goal.returns-then-number-eq0
 returns-then-number-eq0 c =
-    hint-none (arrays c.args.labels.now c.args.arities.now c.args.children.now c.args.states.now c.args.weights.now c.args.m
-    c.args.j c.args.v) c.args.transitions.now c.args.count c.args.p c.args.q
+    hint-none (arrays c.args.setting.now.subtrees.now.labels c.args.setting.now.subtrees.now.arities c.args.setting.now.subtrees.now.children c.args.setting.now.subtrees.now.states c.args.setting.now.weights.now c.args.setting.now.subtrees.now.count
+    c.args.frames.first c.args.frames.second) c.args.setting.now.transitions.now c.args.setting.now.count c.args.p c.args.q
 
 pub transition_agrees-requires : goal.transition_agrees-requires
 transition_agrees-requires c = record {
@@ -18,7 +18,7 @@ transition_agrees-requires c = record {
 
 pub returns : goal.returns
 returns c =
-    hint-at (arrays c.args.labels.now c.args.arities.now c.args.children.now c.args.states.now c.args.weights.now c.args.m
-    c.args.j c.args.v) c.args.transitions.now c.args.count c.args.p c.args.q (c.entry-number.result - 1)
+    hint-at (arrays c.args.setting.now.subtrees.now.labels c.args.setting.now.subtrees.now.arities c.args.setting.now.subtrees.now.children c.args.setting.now.subtrees.now.states c.args.setting.now.weights.now c.args.setting.now.subtrees.now.count
+    c.args.frames.first c.args.frames.second) c.args.setting.now.transitions.now c.args.setting.now.count c.args.p c.args.q (c.entry-number.result - 1)
     (omega (arith, c.requires.uses_within.known c.args.x, c.entry-number.ensures, c.if-number-eq0.false))
     c.transition_agrees.ensures

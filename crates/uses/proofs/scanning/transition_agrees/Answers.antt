@@ -7,8 +7,8 @@ use Rattle.uses.proofs.scanning.transition_agrees.Goals as goal
 
 pub loop-k-init : goal.loop-k-init
 loop-k-init c =
-    agrees_start (arrays c.args.labels.now c.args.arities.now c.args.children.now c.args.states.now c.args.weights.now c.args.m
-    c.args.j c.args.v) c.args.transitions.now c.args.count c.args.p c.args.q c.args.i
+    agrees_start (arrays c.args.setting.now.subtrees.now.labels c.args.setting.now.subtrees.now.arities c.args.setting.now.subtrees.now.children c.args.setting.now.subtrees.now.states c.args.setting.now.weights.now c.args.setting.now.subtrees.now.count
+    c.args.frames.first c.args.frames.second) c.args.setting.now.transitions.now c.args.setting.now.count c.args.p c.args.q c.args.i
 
 pub place_agrees-requires : goal.place_agrees-requires
 place_agrees-requires c = record {

@@ -1,5 +1,5 @@
 -- At k the loop's result is that for the arguments from k on.
-use Prim.Native.Nat.{◌*◌, ◌-◌}
+use Prim.Native.Nat.{◌*◌}
 use Rattle.format.specs.Format.{transition_bytes}
 use Rattle.table.specs.Layout.{arity_of}
 use Rattle.lists.proofs.Loops.{EveryFrom}
@@ -7,6 +7,6 @@ use Rattle.uses.specs.Uses.{arrays, place_agrees, transition_agrees}
 use Rattle.uses.proofs.scanning.transition_agrees.Given as goal
 
 abbrev pub invariant-loop-k : goal.invariant-loop-k
-invariant-loop-k l = EveryFrom (transition_agrees (arrays l.labels l.arities l.children l.states l.weights l.m l.j l.v) l.transitions l.count l.p l.q l.i)
-    (place_agrees (arrays l.labels l.arities l.children l.states l.weights l.m l.j l.v) l.transitions l.count (transition_bytes * l.i) l.p l.q)
-    (arity_of l.transitions (transition_bytes * l.i)) l.k
+invariant-loop-k l = EveryFrom (transition_agrees (arrays l.setting.subtrees.now.labels l.setting.subtrees.now.arities l.setting.subtrees.now.children l.setting.subtrees.now.states l.setting.weights.now l.setting.subtrees.now.count l.frames.first l.frames.second) l.setting.transitions.now l.setting.count l.p l.q l.i)
+    (place_agrees (arrays l.setting.subtrees.now.labels l.setting.subtrees.now.arities l.setting.subtrees.now.children l.setting.subtrees.now.states l.setting.weights.now l.setting.subtrees.now.count l.frames.first l.frames.second) l.setting.transitions.now l.setting.count (transition_bytes * l.i) l.p l.q)
+    (arity_of l.setting.transitions.now (transition_bytes * l.i)) l.k

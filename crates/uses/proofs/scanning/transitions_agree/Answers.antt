@@ -7,8 +7,8 @@ use Rattle.uses.proofs.scanning.transitions_agree.Goals as goal
 
 pub loop-i-init : goal.loop-i-init
 loop-i-init c =
-    agrees-before (arrays c.args.labels.now c.args.arities.now c.args.children.now c.args.states.now c.args.weights.now
-    c.args.m c.args.j c.args.v) c.args.transitions.now c.args.count c.args.p c.args.q c.requires.uses_within
+    agrees-before (arrays c.args.setting.now.subtrees.now.labels c.args.setting.now.subtrees.now.arities c.args.setting.now.subtrees.now.children c.args.setting.now.subtrees.now.states c.args.setting.now.weights.now
+    c.args.setting.now.subtrees.now.count c.args.frames.first c.args.frames.second) c.args.setting.now.transitions.now c.args.setting.now.count c.args.p c.args.q c.requires.uses_within
     (c.lesser-i.ensures ∙ ap₂ min c.entry-3.ensures c.entry-4.ensures)
 
 pub unused_or_agrees-requires : goal.unused_or_agrees-requires
@@ -34,6 +34,6 @@ loop-i-preserved c =
 pub returns : goal.returns
 returns c =
     let last = c.greater-to.ensures ∙ ap₂ max c.entry.ensures c.entry-2.ensures in
-    agrees-past (arrays c.args.labels.now c.args.arities.now c.args.children.now c.args.states.now c.args.weights.now c.args.m
-    c.args.j c.args.v) c.args.transitions.now c.args.count c.args.p c.args.q c.requires.uses_within c.loop-i.invariant last
+    agrees-past (arrays c.args.setting.now.subtrees.now.labels c.args.setting.now.subtrees.now.arities c.args.setting.now.subtrees.now.children c.args.setting.now.subtrees.now.states c.args.setting.now.weights.now c.args.setting.now.subtrees.now.count
+    c.args.frames.first c.args.frames.second) c.args.setting.now.transitions.now c.args.setting.now.count c.args.p c.args.q c.requires.uses_within c.loop-i.invariant last
     c.loop-i-test.false

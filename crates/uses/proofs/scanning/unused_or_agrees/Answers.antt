@@ -7,6 +7,6 @@ use Rattle.uses.proofs.scanning.unused_or_agrees.Goals as goal
 pub returns-then-has_neither : goal.returns-then-has_neither
 returns-then-has_neither c =
     let r = readable c.requires.scannable.over.runs c.args.i c.requires.i_lt_count in
-    agrees-neither (arrays c.args.labels.now c.args.arities.now c.args.children.now c.args.states.now c.args.weights.now
-    c.args.m c.args.j c.args.v) c.args.transitions.now c.args.count c.args.p c.args.q c.args.i r.narrow
+    agrees-neither (arrays c.args.setting.now.subtrees.now.labels c.args.setting.now.subtrees.now.arities c.args.setting.now.subtrees.now.children c.args.setting.now.subtrees.now.states c.args.setting.now.weights.now
+    c.args.setting.now.subtrees.now.count c.args.frames.first c.args.frames.second) c.args.setting.now.transitions.now c.args.setting.now.count c.args.p c.args.q c.args.i r.narrow
     c.has_neither.ensures c.if-has_neither.true

@@ -1,6 +1,6 @@
 -- The loop at k has noted the arguments before it.
 use mathlib.Core.Path.{◌≡◌}
-use Prim.Native.Nat.{◌*◌, ◌-◌}
+use Prim.Native.Nat.{◌*◌}
 use Rattle.format.specs.Format.{transition_bytes}
 use Rattle.table.specs.Layout.{arity_of}
 use Rattle.uses.specs.Spans.{NotedTo}

@@ -1,5 +1,5 @@
 -- The loop at i has noted the transitions before it.
-use Prim.Native.Nat.{◌-◌, ◌≤◌}
+use Prim.Native.Nat.{◌≤◌}
 use Rattle.uses.specs.Spans.{Noted}
 use Rattle.uses.proofs.spans.note_uses.Given as goal
 

@@ -18,8 +18,8 @@ arg_of-arg-requires c =
 
 pub returns-then-is_neither : goal.returns-then-is_neither
 returns-then-is_neither c =
-    place_other (arrays c.args.labels.now c.args.arities.now c.args.children.now c.args.states.now c.args.weights.now c.args.m
-    c.args.j c.args.v) c.args.transitions.now c.args.count (transition_bytes * c.args.i) c.args.p c.args.q c.args.k
+    place_other (arrays c.args.setting.now.subtrees.now.labels c.args.setting.now.subtrees.now.arities c.args.setting.now.subtrees.now.children c.args.setting.now.subtrees.now.states c.args.setting.now.weights.now c.args.setting.now.subtrees.now.count
+    c.args.frames.first c.args.frames.second) c.args.setting.now.transitions.now c.args.setting.now.count (transition_bytes * c.args.i) c.args.p c.args.q c.args.k
     c.arg_of-arg.ensures.value (sym c.is_neither.ensures ∙ c.if-is_neither.true)
 
 pub swap_agrees-requires : goal.swap_agrees-requires
@@ -40,7 +40,7 @@ swap_agrees-requires c =
 pub returns : goal.returns
 returns c =
     let none = sym c.is_neither.ensures ∙ c.if-is_neither.false in
-    place-either (arrays c.args.labels.now c.args.arities.now c.args.children.now c.args.states.now c.args.weights.now c.args.m
-    c.args.j c.args.v) c.args.transitions.now c.args.count (transition_bytes * c.args.i) c.args.p c.args.q c.args.k
+    place-either (arrays c.args.setting.now.subtrees.now.labels c.args.setting.now.subtrees.now.arities c.args.setting.now.subtrees.now.children c.args.setting.now.subtrees.now.states c.args.setting.now.weights.now c.args.setting.now.subtrees.now.count
+    c.args.frames.first c.args.frames.second) c.args.setting.now.transitions.now c.args.setting.now.count (transition_bytes * c.args.i) c.args.p c.args.q c.args.k
     c.arg_of-arg.ensures.value none c.either-y.ensures
     c.swap_agrees.ensures

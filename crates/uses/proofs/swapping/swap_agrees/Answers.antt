@@ -19,8 +19,8 @@ swapped_out-out-requires c = record {
 
 pub returns-then-out-out_of : goal.returns-then-out-out_of
 returns-then-out-out_of c =
-    swap-same (arrays c.args.labels.now c.args.arities.now c.args.children.now c.args.states.now c.args.weights.now c.args.m
-    c.args.j c.args.v) c.args.transitions.now c.args.count (transition_bytes * c.args.i) c.args.k c.args.y
+    swap-same (arrays c.args.setting.now.subtrees.now.labels c.args.setting.now.subtrees.now.arities c.args.setting.now.subtrees.now.children c.args.setting.now.subtrees.now.states c.args.setting.now.weights.now c.args.setting.now.subtrees.now.count
+    c.args.frames.first c.args.frames.second) c.args.setting.now.transitions.now c.args.setting.now.count (transition_bytes * c.args.i) c.args.k c.args.y
     c.swapped_out-out.ensures c.out_of.ensures.value c.if-out-out_of.true
 
 pub is_covered-requires : goal.is_covered-requires
@@ -34,7 +34,7 @@ is_covered-requires c = record {
 
 pub returns : goal.returns
 returns c =
-    swap-covered (arrays c.args.labels.now c.args.arities.now c.args.children.now c.args.states.now c.args.weights.now c.args.m
-    c.args.j c.args.v) c.args.transitions.now c.args.count (transition_bytes * c.args.i) c.args.k c.args.y
+    swap-covered (arrays c.args.setting.now.subtrees.now.labels c.args.setting.now.subtrees.now.arities c.args.setting.now.subtrees.now.children c.args.setting.now.subtrees.now.states c.args.setting.now.weights.now c.args.setting.now.subtrees.now.count
+    c.args.frames.first c.args.frames.second) c.args.setting.now.transitions.now c.args.setting.now.count (transition_bytes * c.args.i) c.args.k c.args.y
     c.swapped_out-out.ensures c.out_of.ensures.value c.if-out-out_of.false
     c.is_covered.ensures

@@ -10,30 +10,30 @@ use Rattle.uses.proofs.swapping.swapped_out.Goals as goal
 
 pub returns-then-y-eq0 : goal.returns-then-y-eq0
 returns-then-y-eq0 c =
-    step-none c.args.transitions.now c.args.count (transition_bytes * c.args.i) c.args.k
-    ∙ ap (step_at c.args.transitions.now c.args.count (transition_bytes * c.args.i) c.args.k) (sym c.if-y-eq0.true)
+    step-none c.args.setting.now.transitions.now c.args.setting.now.count (transition_bytes * c.args.i) c.args.k
+    ∙ ap (step_at c.args.setting.now.transitions.now c.args.setting.now.count (transition_bytes * c.args.i) c.args.k) (sym c.if-y-eq0.true)
 
 pub exchanged-sought-requires : goal.exchanged-sought-requires
 exchanged-sought-requires c =
-    let bytes = c.type_inv.transitions in
+    let bytes = c.args.setting.now.bytes in
     record {
       k_lt_max_arity = omega (arith, c.requires.searchable.padded.runs.narrow c.args.i c.requires.i_lt_count, c.requires.k_bound);
-      k_bound = exchange-inside (λ j. omega (arith, bytes j)) c.requires.searchable c.requires.holds_transitions_over c.args.i c.args.k c.requires.i_lt_count
+      k_bound = exchange-inside bytes c.requires.searchable c.requires.holds_transitions_over c.args.i c.args.k c.requires.i_lt_count
           c.requires.k_bound c.requires.args_value c.requires.x_value;
-      k_bound_2 = exchange-fits (λ j. omega (arith, bytes j)) c.requires.searchable c.requires.holds_transitions_over c.args.i c.args.k c.requires.i_lt_count
+      k_bound_2 = exchange-fits bytes c.requires.searchable c.requires.holds_transitions_over c.args.i c.args.k c.requires.i_lt_count
           c.requires.k_bound c.requires.args_value c.requires.x_value (omega (arith, c.ranges.y));
     }
 
 pub returns-then-number-eq0 : goal.returns-then-number-eq0
 returns-then-number-eq0 c =
-    step-nothing (λ j. omega (arith, c.type_inv.transitions j)) c.requires.searchable c.requires.holds_transitions_over c.args.i
+    step-nothing c.args.setting.now.bytes c.requires.searchable c.requires.holds_transitions_over c.args.i
     c.args.k c.requires.i_lt_count c.requires.k_bound c.requires.args_value c.requires.x_value
     (omega (arith, c.ranges.y)) c.if-y-eq0.false c.requires.meta_value
     c.exchanged-sought.ensures c.seek-number.ensures.by_index c.if-number-eq0.true
 
 pub returns : goal.returns
 returns c =
-    c.out_of.ensures.value ∙ step-found (λ j. omega (arith, c.type_inv.transitions j)) c.requires.searchable c.requires.holds_transitions_over
+    c.out_of.ensures.value ∙ step-found c.args.setting.now.bytes c.requires.searchable c.requires.holds_transitions_over
     c.args.i c.args.k c.requires.i_lt_count c.requires.k_bound c.requires.args_value c.requires.x_value
     (omega (arith, c.ranges.y)) c.if-y-eq0.false c.requires.meta_value
     c.exchanged-sought.ensures c.seek-number.ensures.by_index c.if-number-eq0.false

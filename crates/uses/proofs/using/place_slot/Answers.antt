@@ -17,8 +17,8 @@ arg_of-requires c =
 
 pub returns-then-arg_of-wide : goal.returns-then-arg_of-wide
 returns-then-arg_of-wide c =
-    used-none (arrays c.args.labels.now c.args.arities.now c.args.children.now c.args.states.now c.args.weights.now c.args.m
-    c.args.j 0) c.args.transitions.now c.args.count c.args.p c.no_slot.result c.no_slot.ensures.place_value
+    used-none (arrays c.args.setting.now.subtrees.now.labels c.args.setting.now.subtrees.now.arities c.args.setting.now.subtrees.now.children c.args.setting.now.subtrees.now.states c.args.setting.now.weights.now c.args.setting.now.subtrees.now.count
+    c.args.j 0) c.args.setting.now.transitions.now c.args.setting.now.count c.args.p c.no_slot.result c.no_slot.ensures.place_value
     c.no_slot.ensures.out_value
 
 pub is_covered-requires : goal.is_covered-requires
@@ -33,13 +33,13 @@ is_covered-requires c = record {
 
 pub returns-then-is_covered : goal.returns-then-is_covered
 returns-then-is_covered c =
-    used-none (arrays c.args.labels.now c.args.arities.now c.args.children.now c.args.states.now c.args.weights.now c.args.m
-    c.args.j 0) c.args.transitions.now c.args.count c.args.p c.no_slot-then-is_covered.result c.no_slot-then-is_covered.ensures.place_value
+    used-none (arrays c.args.setting.now.subtrees.now.labels c.args.setting.now.subtrees.now.arities c.args.setting.now.subtrees.now.children c.args.setting.now.subtrees.now.states c.args.setting.now.weights.now c.args.setting.now.subtrees.now.count
+    c.args.j 0) c.args.setting.now.transitions.now c.args.setting.now.count c.args.p c.no_slot-then-is_covered.result c.no_slot-then-is_covered.ensures.place_value
     c.no_slot-then-is_covered.ensures.out_value
 
 pub returns : goal.returns
 returns c =
-    used-slot (arrays c.args.labels.now c.args.arities.now c.args.children.now c.args.states.now c.args.weights.now c.args.m
+    used-slot (arrays c.args.setting.now.subtrees.now.labels c.args.setting.now.subtrees.now.arities c.args.setting.now.subtrees.now.children c.args.setting.now.subtrees.now.states c.args.setting.now.weights.now c.args.setting.now.subtrees.now.count
     c.args.j 0) c.requires.scannable.searchable c.requires.scannable.over c.args.i c.args.k c.requires.i_lt_count c.requires.k_bound (sym
     c.wide.ensures ∙ sym c.if-arg_of-wide.false
     ∙ c.arg_of.ensures.value) (sym c.is_covered.ensures

@@ -16,6 +16,6 @@ place_slot-z-requires c = record {
 
 pub returns : goal.returns
 returns c =
-    used-none (arrays c.args.labels.now c.args.arities.now c.args.children.now c.args.states.now c.args.weights.now c.args.m
-    c.args.j 0) c.args.transitions.now c.args.count c.args.p c.no_slot.result c.no_slot.ensures.place_value
+    used-none (arrays c.args.setting.now.subtrees.now.labels c.args.setting.now.subtrees.now.arities c.args.setting.now.subtrees.now.children c.args.setting.now.subtrees.now.states c.args.setting.now.weights.now c.args.setting.now.subtrees.now.count
+    c.args.j 0) c.args.setting.now.transitions.now c.args.setting.now.count c.args.p c.no_slot.result c.no_slot.ensures.place_value
     c.no_slot.ensures.out_value

@@ -1,5 +1,5 @@
 -- The slot of any place will do.
-use Prim.Native.Nat.{◌-◌, ◌≤◌}
+use Prim.Native.Nat.{◌≤◌}
 use Rattle.uses.proofs.using.transition_slot.Given as goal
 
 abbrev pub invariant-loop-k : goal.invariant-loop-k

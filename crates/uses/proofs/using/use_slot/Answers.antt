@@ -18,12 +18,12 @@ returns-then-number-eq0 c = record {
   ));
 }
 
-pub returns-then-number-count : goal.returns-then-number-count
-returns-then-number-count c = record {
-  place_lt_max_arity = omega (arith, c.no_slot-then-number-count.ensures.place_value);
+pub returns-then-number-setting : goal.returns-then-number-setting
+returns-then-number-setting c = record {
+  place_lt_max_arity = omega (arith, c.no_slot-then-number-setting.ensures.place_value);
   slot_takes = λ A t ts holds some q agree. absurd (omega (
     arith,
-    c.no_slot-then-number-count.ensures.out_value,
+    c.no_slot-then-number-setting.ensures.out_value,
   ));
 }
 
@@ -37,15 +37,15 @@ transition_slot-requires c = record {
     second = no-parents
         c.requires.nodes c.requires.parents_within;
   };
-  i_lt_count = omega (arith, c.if-number-eq0.false, c.if-number-count.false);
+  i_lt_count = omega (arith, c.if-number-eq0.false, c.if-number-setting.false);
 }
 
 pub returns : goal.returns
 returns c = record {
   place_lt_max_arity = c.transition_slot.ensures.place;
   slot_takes = λ A t ts holds some q agree. c.transition_slot.ensures.takes some q (uses-exact c.requires.searchable c.requires.holds_transitions_over holds c.args.j 0
-      (frames_of t (tree_numbered ts c.args.j)) (first-only t ts c.args.m c.args.j c.requires.le_j c.requires.j_le_m) (get_or
-      c.args.states.now (c.wide.result - 1) 0) q ∙ ap (λ (x : ℕ). uses_agree A t
+      (frames_of t (tree_numbered ts c.args.j)) (first-only t ts c.args.setting.now.subtrees.now.count c.args.j c.requires.le_j c.requires.j_le_m) (get_or
+      c.args.setting.now.subtrees.now.states (c.wide.result - 1) 0) q ∙ ap (λ (x : ℕ). uses_agree A t
       (frames_of t (tree_numbered ts c.args.j)) x q) (state-read holds c.args.j c.requires.le_j c.requires.j_le_m
       c.wide.ensures) ∙ agree);
 }

@@ -81,7 +81,7 @@ pub use_covered-requires : goal.use_covered-requires
 use_covered-requires c = record {
   scannable = c.requires.scannable;
   to_le_count = c.requires.walkable.inside;
-  k_bound = λ h. use-place c.args.transitions.now (transition_bytes * c.args.i) c.args.k c.args.p
+  k_bound = λ h. use-place c.args.setting.now.transitions.now (transition_bytes * c.args.i) c.args.k c.args.p
       (c.requires.walkable.searchable.padded.each c.args.i (omega (arith, c.requires.walkable.inside))) c.requires.walkable.place c.requires.walkable.first_some
       (c.requires.at_use.here h);
 }
@@ -94,7 +94,7 @@ pub use_covered-requires-2 : goal.use_covered-requires-2
 use_covered-requires-2 c = record {
   scannable = c.requires.scannable;
   to_le_count = c.requires.walkable.inside;
-  k_bound = λ h. use-place c.args.transitions.now (transition_bytes * c.args.x) c.args.k c.args.q
+  k_bound = λ h. use-place c.args.setting.now.transitions.now (transition_bytes * c.args.x) c.args.k c.args.q
       (c.requires.walkable.searchable.padded.each c.args.x (omega (arith, c.requires.walkable.inside))) c.requires.walkable.place c.requires.walkable.second-some
       (c.requires.at_use_2.here h);
 }

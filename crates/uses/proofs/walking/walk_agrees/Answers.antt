@@ -23,15 +23,15 @@ width-places-requires c =
 
 pub loop-k-init : goal.loop-k-init
 loop-k-init c =
-    places-none (arrays c.args.labels.now c.args.arities.now c.args.children.now c.args.states.now c.args.weights.now c.args.m
-    c.args.j c.args.v) c.args.transitions.now c.args.count c.args.p c.args.q c.greater-to.result
+    places-none (arrays c.args.setting.now.subtrees.now.labels c.args.setting.now.subtrees.now.arities c.args.setting.now.subtrees.now.children c.args.setting.now.subtrees.now.states c.args.setting.now.weights.now c.args.setting.now.subtrees.now.count
+    c.args.frames.first c.args.frames.second) c.args.setting.now.transitions.now c.args.setting.now.count c.args.p c.args.q c.greater-to.result
 
 pub place_agrees_in_step-requires : goal.place_agrees_in_step-requires
 place_agrees_in_step-requires c =
     let last = c.greater-to.ensures ∙ ap₂ max c.entry.ensures c.entry-2.ensures in
     let first = c.lesser.ensures ∙ ap₂ min c.entry-3.ensures c.entry-4.ensures in
     let k = c.loop-k.k in
-    let w : Walkable c.args.transitions.now c.args.count c.args.n k c.args.p c.args.q c.greater-to.result = record {
+    let w : Walkable c.args.setting.now.transitions.now c.args.setting.now.count c.args.setting.now.n k c.args.p c.args.q c.greater-to.result = record {
       searchable = c.requires.scannable.searchable;
       over = c.requires.scannable.over;
       inside = omega (arith, last, c.requires.uses_within.known c.args.p, c.requires.uses_within.known c.args.q);
@@ -43,8 +43,8 @@ place_agrees_in_step-requires c =
       scannable = c.requires.scannable;
       walkable = w;
       from_le_to = omega (arith, c.lesser-from.ensures);
-      walked = walked-before c.requires.uses_within (arrays c.args.labels.now c.args.arities.now c.args.children.now c.args.states.now
-          c.args.weights.now c.args.m c.args.j c.args.v) w c.lesser-from.result (omega (arith, c.lesser-from.ensures))
+      walked = walked-before c.requires.uses_within (arrays c.args.setting.now.subtrees.now.labels c.args.setting.now.subtrees.now.arities c.args.setting.now.subtrees.now.children c.args.setting.now.subtrees.now.states
+          c.args.setting.now.weights.now c.args.setting.now.subtrees.now.count c.args.frames.first c.args.frames.second) w c.lesser-from.result (omega (arith, c.lesser-from.ensures))
           (omega (arith, c.lesser-from.ensures, first)) (omega (arith, c.lesser-from.ensures, first));
     }
 
@@ -63,6 +63,6 @@ pub returns : goal.returns
 returns c =
     let last = c.greater-to.ensures ∙ ap₂ max c.entry.ensures c.entry-2.ensures in
     let past = c.loop-k-test.false in
-    λ _. walked_all c.requires.uses_within (arrays c.args.labels.now c.args.arities.now c.args.children.now c.args.states.now
-    c.args.weights.now c.args.m c.args.j c.args.v) c.args.p c.args.q last (λ i h. c.width-places.ensures.by_index i h)
+    λ _. walked_all c.requires.uses_within (arrays c.args.setting.now.subtrees.now.labels c.args.setting.now.subtrees.now.arities c.args.setting.now.subtrees.now.children c.args.setting.now.subtrees.now.states
+    c.args.setting.now.weights.now c.args.setting.now.subtrees.now.count c.args.frames.first c.args.frames.second) c.args.p c.args.q last (λ i h. c.width-places.ensures.by_index i h)
     (record { each = λ h l. c.loop-k.invariant.each h (omega arith) })

@@ -2,7 +2,7 @@
 use mathlib.Core.Bool.{Bool, false, true}
 use mathlib.Core.List.{List}
 use mathlib.Core.Path.{◌≡◌, ap, refl, subst, sym}
-use Prim.Native.Nat.{◌*◌, ◌+◌, ◌-◌, ◌<◌, ◌≤◌, max, ℕ}
+use Prim.Native.Nat.{◌*◌, ◌+◌, ◌<◌, ◌≤◌, max, ℕ}
 use native.Mathlib.Omega.{arith}
 use lib.Dec.{eqb}
 use lib.ListN.{get_or}
@@ -92,4 +92,4 @@ module _ {s : List ℕ} {c : ℕ} {lows lasts : List ℕ} (within : UsesWithin s
     walked_all = at_every (transition_agrees a s c p q) 0 c (λ i _ h. transition-agreed i (omega arith))
 
 abbrev pub invariant-loop-k : goal.invariant-loop-k
-invariant-loop-k l = PlacesWalked (arrays l.labels l.arities l.children l.states l.weights l.m l.j l.v) l.transitions l.count l.p l.q l.to l.k
+invariant-loop-k l = PlacesWalked (arrays l.setting.subtrees.now.labels l.setting.subtrees.now.arities l.setting.subtrees.now.children l.setting.subtrees.now.states l.setting.weights.now l.setting.subtrees.now.count l.frames.first l.frames.second) l.setting.transitions.now l.setting.count l.p l.q l.to l.k

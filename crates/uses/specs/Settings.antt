@@ -1,0 +1,51 @@
+-- The facts about a setting that the contracts of this crate and of those above it speak of.
+use Rattle.std.specs.Prelude.{List, ℕ}
+use Rattle.automata.specs.Automaton.{Automaton}
+use Rattle.fields.specs.Fields.{HoldsTransitionsOver}
+use Rattle.packed.specs.Packed.{Searchable}
+use Rattle.subtrees.specs.Parents.{ParentsWithin}
+use Rattle.subtrees.specs.declared.Subtrees.{Subtrees}
+use Rattle.trees.specs.Tree.{Tree}
+use Rattle.uses.specs.declared.setting.Frames.{Frames}
+use Rattle.uses.specs.declared.setting.Setting.{Setting}
+use Rattle.uses.specs.Frames.{Nodes}
+use Rattle.uses.specs.Spans.{UsesWithin}
+use Rattle.uses.specs.Uses.{Arrays, Holds, Scannable, arrays}
+
+-- the subtrees are nodes with at most eight children each
+abbrev pub AreNodes : Subtrees → Type 0
+AreNodes s = Nodes s.count s.arities s.children
+
+-- the parents of subtree j have indices from start on and below end
+abbrev pub ParentsFrom : Subtrees → ℕ → ℕ → ℕ → Type 0
+ParentsFrom s j start end = ParentsWithin s.count s.arities s.children j start end
+
+-- subtrees, the number of pairs of each state, and the two subtrees of the frames, the second 0 for none
+abbrev pub arrays_of : Subtrees → List ℕ → ℕ → ℕ → Arrays
+arrays_of s w j v = arrays s.labels s.arities s.children s.states w s.count j v
+
+abbrev pub arrays_in : Setting → Frames → Arrays
+arrays_in g f = arrays_of g.subtrees.now g.weights.now f.first f.second
+
+-- the transitions can be searched and are over the states 1 to n
+abbrev pub SearchableIn : Setting → Type 0
+SearchableIn g = Searchable g.transitions.now g.count
+
+abbrev pub OverStates : Setting → Type 0
+OverStates g = HoldsTransitionsOver g.transitions.now g.count g.n
+
+-- the uses of each state lie between its entries
+abbrev pub UsesBounded : Setting → Type 0
+UsesBounded g = UsesWithin g.transitions.now g.count g.lows.now g.lasts.now
+
+-- the uses of two states can be compared but for the frames
+abbrev pub ScannableIn : Setting → Frames → Type 0
+ScannableIn g f =
+    Scannable g.transitions.now g.count g.n g.subtrees.now.count g.subtrees.now.arities g.subtrees.now.children
+    f.first f.second f.start f.end
+
+-- the setting has the transitions of A and the subtrees of t
+abbrev pub HoldsIn : Automaton → Tree → List Tree → Setting → Type 0
+HoldsIn A t ts g =
+    Holds A t ts g.transitions.now g.count g.n g.subtrees.now.labels g.subtrees.now.arities g.subtrees.now.children
+    g.subtrees.now.states g.weights.now g.subtrees.now.count

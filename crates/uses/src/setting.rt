@@ -1,0 +1,31 @@
+// What the uses of states are compared in, and the frames that are left out of account.
+ghost use Rattle.format.specs.Format.{AllBytes};
+
+use format::{BYTE_VALUES, MAX_NODES};
+use subtrees::Subtrees;
+
+// A table's sorted transitions over the states 1 to n, the subtrees of the tree that is put in or taken out, the class
+// of each subtree, the number of pairs of each state, and the bounds of each state's uses: they lie between its entries
+// of `lows` and `lasts`.
+#[derive(Clone, Copy)]
+pub struct Setting<'a> {
+    pub transitions: &'a [u8],
+    pub count: usize,
+    pub n: usize,
+    pub subtrees: &'a Subtrees,
+    pub classes: &'a [u8; MAX_NODES],
+    pub weights: &'a [u8; BYTE_VALUES],
+    pub lows: &'a [u16; BYTE_VALUES],
+    pub lasts: &'a [u16; BYTE_VALUES],
+    // a slice of bytes has only bytes, which a proof knows of a parameter and not of a field
+    pub ghost bytes: { AllBytes transitions.now },
+}
+
+// The frames of two subtrees, the second 0 for none. Their parents have indices from `start` on and below `end`.
+#[derive(Clone, Copy)]
+pub struct Frames {
+    pub first: u8,
+    pub second: u8,
+    pub start: usize,
+    pub end: usize,
+}
