@@ -1,21 +1,10 @@
 -- What the arrays hold, in the form that each part of the criterion requires.
 use mathlib.Core.List.{List}
 use Prim.Native.Nat.{ℕ}
-use native.Mathlib.Omega.{arith}
 use Rattle.automata.specs.Automaton.{Automaton}
 use Rattle.trees.specs.Tree.{Tree}
-use Rattle.uses.specs.Frames.{Nodes}
 use Rattle.uses.specs.Uses.{Holds}
 use Rattle.alike.specs.Known as known
-use Rattle.alike.specs.Known.{Shaped}
-
-pub shaped-nodes : {m : ℕ} {r c : List ℕ} → Shaped m r c → Nodes m r c
-shaped-nodes shaped = record {
-  few = shaped.few;
-  narrow = shaped.narrow;
-  child-some = shaped.child-some;
-  child-known = λ i k h l. omega (arith, shaped.child-before i k h l);
-}
 
 pub holds-subtrees : {A : Automaton} {t : Tree} {ts : List Tree} {s : List ℕ} {c n : ℕ} {l r h q w : List ℕ} {m : ℕ} →
     Holds A t ts s c n l r h q w m → known.Holds A t ts m l r h q

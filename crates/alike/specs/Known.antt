@@ -9,13 +9,6 @@ use Rattle.lists.specs.Tests.{◌∈◌}
 use Rattle.subtrees.specs.Store.{Stored, child_at, tree_numbered}
 use Rattle.trees.specs.Tree.{Tree}
 
--- arrays of the numbers of children and the child numbers of m subtrees; children come before parents
-pub record Shaped (m : ℕ) (r c : List ℕ) : Type 0 where
-  pub few : m ≤ max_nodes
-  pub narrow : (i : ℕ) → i < m → get_or r i 0 ≤ max_arity
-  pub child-some : (i k : ℕ) → i < m → k < get_or r i 0 → 1 ≤ child_at c i k
-  pub child-before : (i k : ℕ) → i < m → k < get_or r i 0 → child_at c i k ≤ i
-
 -- arrays of labels, numbers of children, child numbers and states hold the m distinct subtrees of t
 pub record Holds (A : Automaton) (t : Tree) (ts : List Tree) (m : ℕ) (l r c q : List ℕ) : Type 0 where
   pub stored : Stored A ts m l r c q

@@ -12,7 +12,7 @@ use Rattle.subtrees.specs.Parents.{ParentsWithin}
 use Rattle.subtrees.specs.Store.{tree_numbered}
 use Rattle.trees.specs.Context.{Frame}
 use Rattle.trees.specs.Tree.{Tree}
-use Rattle.uses.specs.Frames.{Nodes}
+use Rattle.uses.specs.Frames.{Nodes, Shaped}
 use Rattle.uses.specs.Uses.{FramesOf, Holds}
 use Rattle.lists.proofs.Tests.{append-in, in_append_left, in_append_right}
 
@@ -44,6 +44,14 @@ both-subtrees t ts m j v a b o d n = record {
         (f ∈ frames_of t (tree_numbered ts j)) ⊎ ((1 ≤ v) × (f ∈ frames_of t (tree_numbered ts v)))
     split f (inl i) = inl i
     split f (inr i) = inr (o, i)
+
+pub shaped-nodes : {m : ℕ} {r c : List ℕ} → Shaped m r c → Nodes m r c
+shaped-nodes shaped = record {
+  few = shaped.few;
+  narrow = shaped.narrow;
+  child-some = shaped.child-some;
+  child-known = λ i k h l. omega (arith, shaped.child-before i k h l);
+}
 
 -- no node has 0 as a child
 pub no-parents : {m : ℕ} {r c : List ℕ} {j start end : ℕ} → Nodes m r c → ParentsWithin m r c j start end →

@@ -14,6 +14,13 @@ pub record Nodes (m : ℕ) (r c : List ℕ) : Type 0 where
   pub child-some : (i k : ℕ) → i < m → k < get_or r i 0 → 1 ≤ child_at c i k
   pub child-known : (i k : ℕ) → i < m → k < get_or r i 0 → child_at c i k ≤ m
 
+-- arrays of the numbers of children and the child numbers of m subtrees; children come before parents
+pub record Shaped (m : ℕ) (r c : List ℕ) : Type 0 where
+  pub few : m ≤ max_nodes
+  pub narrow : (i : ℕ) → i < m → get_or r i 0 ≤ max_arity
+  pub child-some : (i k : ℕ) → i < m → k < get_or r i 0 → 1 ≤ child_at c i k
+  pub child-before : (i k : ℕ) → i < m → k < get_or r i 0 → child_at c i k ≤ i
+
 -- child x of node i runs to argument x of the transition that starts at a byte, or is left out
 abbrev pub same_sibling : List ℕ → ℕ → ℕ → List ℕ → List ℕ → ℕ → ℕ → Bool
 same_sibling s at k c q i x = eqb x k || eqb (get_or q (child_at c i x - 1) 0) (arg_of s at x)

@@ -27,6 +27,10 @@ arrays_of s w j v = arrays s.labels s.arities s.children s.states w s.count j v
 abbrev pub arrays_in : Setting → Frames → Arrays
 arrays_in g f = arrays_of g.subtrees.now g.weights.now f.first f.second
 
+-- the frames of one subtree
+abbrev pub frames_of_one : ℕ → ℕ → ℕ → Frames
+frames_of_one j start end = record { first = j; second = 0; start = start; end = end }
+
 -- the transitions can be searched and are over the states 1 to n
 abbrev pub SearchableIn : Setting → Type 0
 SearchableIn g = Searchable g.transitions.now g.count

@@ -1,6 +1,6 @@
 -- A walk over the uses of two states as argument k: one index goes over the uses of p, another over those of q, in
 -- step.
-use Rattle.std.specs.Prelude.{Bool, true, List, ◌≡◌, ◌*◌, ◌+◌, ◌<◌, ◌≤◌, ℕ}
+use Rattle.std.specs.Prelude.{true, List, ◌≡◌, ◌*◌, ◌+◌, ◌<◌, ◌≤◌, ℕ}
 use Rattle.fields.specs.Fields.{HoldsTransitionsOver}
 use Rattle.format.specs.Format.{max_arity, transition_bytes}
 use Rattle.packed.specs.Packed.{Searchable}
@@ -45,9 +45,9 @@ pub record Paired (s : List ℕ) (c k p q to i x : ℕ) : Type 0 where
   pub first : step_at s c (transition_bytes * i) k q ≡ out_of s (transition_bytes * i)
   pub second : step_at s c (transition_bytes * x) k p ≡ out_of s (transition_bytes * x)
 
--- a step of the walk from i and x to j and y; if it is right, it passes at least one use
-pub record Stepped (a : Arrays) (s : List ℕ) (c k p q to i x j y : ℕ) (right : Bool) : Type 0 where
-  pub first-inside : j ≤ to
-  pub second-inside : y ≤ to
-  pub further : right ≡ true → i + x < j + y
-  pub walked : Walked a s c k p q i x → Walked a s c k p q j y
+-- a step of the walk from i and x to two other indices, past at least one use
+pub record Stepped (a : Arrays) (s : List ℕ) (c k p q to i x : ℕ) (at : ℕ × ℕ) : Type 0 where
+  pub first-inside : at.0 ≤ to
+  pub second-inside : at.1 ≤ to
+  pub further : i + x < at.0 + at.1
+  pub walked : Walked a s c k p q i x → Walked a s c k p q at.0 at.1

@@ -16,8 +16,6 @@ use format::{BYTE_VALUES, MAX_ARITY, MAX_NODES};
 use pairs::index;
 use subtrees::Subtrees;
 
-const CHILD_NUMBERS: usize = MAX_NODES * MAX_ARITY;
-
 // The number of pairs of argument x; 1 if it is left out.
 fn factor(transitions: &[u8], at: usize, k: usize, weights: &[u8; BYTE_VALUES], x: usize) -> usize
     requires readable { Readable transitions.now at }

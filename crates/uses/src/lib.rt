@@ -34,14 +34,11 @@ pub use spans::note_uses;
 pub use using::use_slot;
 use walking::walk_agrees;
 
-const CHILD_NUMBERS: usize = MAX_NODES * MAX_ARITY;
-
 // Whether p and q, each a state or 0, are used alike but for the slots that the frames of subtrees j and v cover; v
 // is 0 for none. The last use of each is tried first, because most states that differ do so there. Then the uses are
 // walked in step. Only if the walk fails, each use is looked up.
 fn uses_agree(setting: &Setting<'_>, frames: Frames, p: u8, q: u8) -> bool
     requires scannable { ScannableIn setting.now frames }
-    requires uses_within { UsesBounded setting.now }
     ensures { (A : Automaton) (t : Tree) (ts : List Tree) (F : List Frame) →
         HoldsIn A t ts setting.now → FramesOf t ts setting.now.subtrees.now.count frames.first frames.second F →
         result ≡ uses_agree A t F p q }
@@ -63,12 +60,8 @@ fn uses_agree(setting: &Setting<'_>, frames: Frames, p: u8, q: u8) -> bool
 
 // The same for the state of subtree j and q, but for the slots that the frames of j cover.
 pub fn state_uses_agree(setting: &Setting<'_>, start: usize, end: usize, j: u8, q: u8) -> bool
-    requires searchable { SearchableIn setting.now }
-    requires holds_transitions_over { OverStates setting.now }
-    requires nodes { AreNodes setting.now.subtrees.now }
     requires le_j { 1 ≤ j }
     requires j_le_m { j ≤ setting.now.subtrees.now.count }
-    requires uses_within { UsesBounded setting.now }
     requires parents_within { ParentsFrom setting.now.subtrees.now j start end }
     ensures { (A : Automaton) (t : Tree) (ts : List Tree) →
         HoldsIn A t ts setting.now →
@@ -90,15 +83,11 @@ pub fn state_uses_agree(setting: &Setting<'_>, start: usize, end: usize, j: u8, 
 
 // The same for the states of subtrees j and v, but for the slots that the frames of both cover.
 pub fn subtree_uses_agree(setting: &Setting<'_>, start: usize, end: usize, j: u8, v: u8) -> bool
-    requires searchable { SearchableIn setting.now }
-    requires holds_transitions_over { OverStates setting.now }
-    requires nodes { AreNodes setting.now.subtrees.now }
     requires le_j { 1 ≤ j }
     requires j_le_m { j ≤ setting.now.subtrees.now.count }
     requires le_v { 1 ≤ v }
     requires v_le_m { v ≤ setting.now.subtrees.now.count }
     requires fact { j ≡ v → ⊥ }
-    requires uses_within { UsesBounded setting.now }
     requires parents_within { ParentsFrom setting.now.subtrees.now j start end }
     requires parents_within_2 { ParentsFrom setting.now.subtrees.now v start end }
     ensures { (A : Automaton) (t : Tree) (ts : List Tree) →

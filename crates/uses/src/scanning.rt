@@ -16,8 +16,6 @@ use fields::arity_of;
 use format::{ARGS_AT, BYTE_VALUES, MAX_ARITY, MAX_NODES, TRANSITION_BYTES};
 use packed::{args_at, meta_at};
 
-const CHILD_NUMBERS: usize = MAX_NODES * MAX_ARITY;
-
 // Whether a byte is neither of two.
 fn is_neither(x: u8, p: u8, q: u8) -> bool
     ensures { result ≡ (not (eqb x p) && not (eqb x q)) }
@@ -69,32 +67,14 @@ fn unused_or_agrees(setting: &Setting<'_>, frames: Frames, p: u8, q: u8, i: usiz
     transition_agrees(setting, frames, p, q, i)
 }
 
-pub fn lesser(x: usize, y: usize) -> usize
-    ensures { result ≡ min x y }
-{
-    if x < y {
-        return x;
-    }
-    y
-}
-
-pub fn greater(x: usize, y: usize) -> usize
-    ensures { result ≡ max x y }
-{
-    if x < y {
-        return y;
-    }
-    x
-}
-
 // Whether every transition agrees. Only those from the first use of p or q to the last are looked at.
 pub fn transitions_agree(setting: &Setting<'_>, frames: Frames, p: u8, q: u8) -> bool
     requires scannable { ScannableIn setting.now frames }
-    requires uses_within { UsesBounded setting.now }
     ensures { result ≡ transitions_agree (arrays_in setting.now frames) setting.now.transitions.now setting.now.count p q }
 {
-    let to = greater(entry(setting.lasts, p), entry(setting.lasts, q));
-    for i in lesser(entry(setting.lows, p), entry(setting.lows, q))..to {
+    let from = entry(setting.lows, p).min(entry(setting.lows, q));
+    let to = entry(setting.lasts, p).max(entry(setting.lasts, q));
+    for i in from..to {
         if !unused_or_agrees(setting, frames, p, q, i) {
             return false;
         }
@@ -105,7 +85,6 @@ pub fn transitions_agree(setting: &Setting<'_>, frames: Frames, p: u8, q: u8) ->
 // Whether the last transition that uses state x agrees; true if there is none.
 pub fn hint_agrees(setting: &Setting<'_>, frames: Frames, p: u8, q: u8, x: u8) -> bool
     requires scannable { ScannableIn setting.now frames }
-    requires uses_within { UsesBounded setting.now }
     ensures { Hinted (arrays_in setting.now frames) setting.now.transitions.now setting.now.count p q result }
 {
     let number = entry(setting.lasts, x);

@@ -1,5 +1,10 @@
 // What the uses of states are compared in, and the frames that are left out of account.
-ghost use Rattle.format.specs.Format.{AllBytes};
+ghost use Rattle.std.specs.Prelude.{◌≤◌};
+ghost use Rattle.fields.specs.Fields.{HoldsTransitionsOver};
+ghost use Rattle.format.specs.Format.{AllBytes, max_states};
+ghost use Rattle.packed.specs.Packed.{Searchable};
+ghost use Rattle.uses.specs.Frames.{Shaped};
+ghost use Rattle.uses.specs.Spans.{UsesWithin};
 
 use format::{BYTE_VALUES, MAX_NODES};
 use subtrees::Subtrees;
@@ -19,6 +24,11 @@ pub struct Setting<'a> {
     pub lasts: &'a [u16; BYTE_VALUES],
     // a slice of bytes has only bytes, which a proof knows of a parameter and not of a field
     pub ghost bytes: { AllBytes transitions.now },
+    pub ghost searchable: { Searchable transitions.now count },
+    pub ghost over: { HoldsTransitionsOver transitions.now count n },
+    pub ghost states: { n ≤ max_states },
+    pub ghost shaped: { Shaped subtrees.now.count subtrees.now.arities subtrees.now.children },
+    pub ghost uses: { UsesWithin transitions.now count lows.now lasts.now },
 }
 
 // The frames of two subtrees, the second 0 for none. Their parents have indices from `start` on and below `end`.

@@ -14,8 +14,6 @@ use fields::{arg_of, out_of};
 use format::{BYTE_VALUES, MAX_ARITY, MAX_NODES, TRANSITION_BYTES, wide};
 use packed::{at_place, seek};
 
-const CHILD_NUMBERS: usize = MAX_NODES * MAX_ARITY;
-
 // Packed arguments with y for x at place k.
 fn exchanged(args: u64, k: usize, x: u8, y: u8) -> u64
     requires k_lt_max_arity { k < max_arity }
@@ -37,8 +35,6 @@ fn swapped_out(
     x: u8,
     y: u8,
 ) -> usize
-    requires searchable { SearchableIn setting.now }
-    requires holds_transitions_over { OverStates setting.now }
     requires i_lt_count { i < setting.now.count }
     requires k_bound { k < arity_of setting.now.transitions.now (transition_bytes * i) }
     requires meta_value { meta ≡ meta_at setting.now.transitions.now (transition_bytes * i) }

@@ -13,7 +13,7 @@ ghost use Rattle.table.specs.Layout.{arg_of, arity_of, out_of};
 ghost use Rattle.trees.specs.Tree.{Tree};
 ghost use Rattle.uses.specs.Frames.{Nodes};
 ghost use Rattle.uses.specs.Uses.{Holds, Scannable, SlotUsed, arrays};
-ghost use Rattle.uses.specs.Settings.{AreNodes, HoldsIn, OverStates, ParentsFrom, SearchableIn, arrays_of};
+ghost use Rattle.uses.specs.Settings.{AreNodes, HoldsIn, OverStates, ParentsFrom, ScannableIn, arrays_of, frames_of_one};
 
 use crate::covering::is_covered;
 use crate::setting::{Frames, Setting};
@@ -21,8 +21,6 @@ use crate::spans::entry;
 use fields::{arg_of, arity_of, out_of};
 use format::{BYTE_VALUES, MAX_ARITY, MAX_NODES, TRANSITION_BYTES, wide};
 use packed::{Slot, args_at, at_place, meta_at, no_slot};
-
-const CHILD_NUMBERS: usize = MAX_NODES * MAX_ARITY;
 
 // The slot of transition i without its argument k, which is p.
 fn slot_at(transitions: &[u8], count: usize, i: usize, k: usize, p: u8) -> Slot
@@ -57,7 +55,7 @@ fn place_slot(
     i: usize,
     k: usize,
 ) -> Slot
-    requires scannable { Scannable setting.now.transitions.now setting.now.count setting.now.n setting.now.subtrees.now.count setting.now.subtrees.now.arities setting.now.subtrees.now.children j 0 start end }
+    requires scannable { ScannableIn setting.now (frames_of_one j start end) }
     requires i_lt_count { i < setting.now.count }
     requires k_bound { k < arity_of setting.now.transitions.now (transition_bytes * i) }
     ensures { SlotUsed (arrays_of setting.now.subtrees.now setting.now.weights.now j 0) setting.now.transitions.now setting.now.count p result }
@@ -86,7 +84,7 @@ fn place_slot(
 
 // The slot of the first place of transition i that gives one.
 fn transition_slot(setting: &Setting<'_>, start: usize, end: usize, j: u8, p: u8, i: usize) -> Slot
-    requires scannable { Scannable setting.now.transitions.now setting.now.count setting.now.n setting.now.subtrees.now.count setting.now.subtrees.now.arities setting.now.subtrees.now.children j 0 start end }
+    requires scannable { ScannableIn setting.now (frames_of_one j start end) }
     requires i_lt_count { i < setting.now.count }
     ensures { SlotUsed (arrays_of setting.now.subtrees.now setting.now.weights.now j 0) setting.now.transitions.now setting.now.count p result }
 {
@@ -103,9 +101,6 @@ fn transition_slot(setting: &Setting<'_>, start: usize, end: usize, j: u8, p: u8
 // A slot in which the state of subtree j is used and which the frames of j do not cover. Only the last transition
 // that uses the state is tried; no slot if it gives none.
 pub fn use_slot(setting: &Setting<'_>, start: usize, end: usize, j: u8) -> Slot
-    requires searchable { SearchableIn setting.now }
-    requires holds_transitions_over { OverStates setting.now }
-    requires nodes { AreNodes setting.now.subtrees.now }
     requires le_j { 1 ≤ j }
     requires j_le_m { j ≤ setting.now.subtrees.now.count }
     requires parents_within { ParentsFrom setting.now.subtrees.now j start end }

@@ -1,7 +1,7 @@
 // The uses of two states walked in step, one argument place after another. If two states are used alike, their uses
 // mostly come in pairs, in the same order. Then no use has to be looked up. A walk that stops before its end shows
 // nothing.
-ghost use Rattle.std.specs.Prelude.{true, ◌≡◌, ◌*◌, ◌+◌, ◌-◌, ◌<◌, ◌^◌, ◌≤◌, ℕ, length};
+ghost use Rattle.std.specs.Prelude.{IfSome, true, ◌≡◌, ◌*◌, ◌+◌, ◌-◌, ◌<◌, ◌^◌, ◌≤◌, ℕ, length};
 ghost use Rattle.format.specs.Format.{max_arity, transition_bytes};
 ghost use Rattle.packed.specs.Packed.{Searchable, packed_at};
 ghost use Rattle.table.specs.Layout.{arity_of};
@@ -11,23 +11,11 @@ ghost use Rattle.uses.specs.Walks.{AtUse, NextUse, Paired, Stepped, Walkable, Wa
 ghost use Rattle.uses.specs.Settings.{ScannableIn, UsesBounded, arrays_in};
 
 use crate::covering::is_covered;
-use crate::scanning::{greater, lesser};
 use crate::setting::{Frames, Setting};
 use crate::spans::entry;
 use fields::{arity_of, out_of};
 use format::{ARGS_AT, BYTE_VALUES, MAX_ARITY, MAX_NODES, TRANSITION_BYTES, wide};
 use packed::{args_at, at_place, meta_at};
-
-const CHILD_NUMBERS: usize = MAX_NODES * MAX_ARITY;
-
-// Where a step leaves the walk: at transition i for the first state and at x for the second. `right` is false if the
-// step could pass neither use.
-#[derive(Drop)]
-struct Stand {
-    i: usize,
-    x: usize,
-    right: bool,
-}
 
 // The first transition from an index on that has p as argument k; `to` if there is none before it.
 fn next_with(transitions: &[u8], k: usize, p: u8, from: usize, to: usize) -> usize
@@ -36,14 +24,12 @@ fn next_with(transitions: &[u8], k: usize, p: u8, from: usize, to: usize) -> usi
     requires from_le_to { from ≤ to }
     ensures { NextUse transitions.now k p from to result }
 {
-    let mut i = from;
-    while i < to {
+    for i in from..to {
         if transitions[TRANSITION_BYTES * i + ARGS_AT + k] == p {
             return i;
         }
-        i += 1;
     }
-    i
+    to
 }
 
 // The packed arguments of the transition that starts at a byte, without argument k, which is p.
@@ -103,7 +89,8 @@ fn use_covered(setting: &Setting<'_>, frames: Frames, k: usize, to: usize, i: us
     )
 }
 
-// One step of the walk: past two uses that are a pair, else past one whose slot is covered.
+// One step of the walk: past two uses that are a pair, else past one whose slot is covered. None if it can pass
+// neither use.
 fn step(
     setting: &Setting<'_>,
     frames: Frames,
@@ -113,40 +100,23 @@ fn step(
     to: usize,
     i: usize,
     x: usize,
-) -> Stand
+) -> Option<(usize, usize)>
     requires scannable { ScannableIn setting.now frames }
     requires walkable { Walkable setting.now.transitions.now setting.now.count setting.now.n k p q to }
     requires at_use { AtUse setting.now.transitions.now k p to i }
     requires at_use_2 { AtUse setting.now.transitions.now k q to x }
-    ensures { Stepped (arrays_in setting.now frames) setting.now.transitions.now setting.now.count k p q to i x
-        result.i result.x result.right }
+    ensures { IfSome result (Stepped (arrays_in setting.now frames) setting.now.transitions.now setting.now.count k p q to i x) }
 {
     if pair_agrees(setting, k, p, q, to, i, x) {
-        return Stand {
-            i: i + 1,
-            x: x + 1,
-            right: true,
-        };
+        return Some((i + 1, x + 1));
     }
     if use_covered(setting, frames, k, to, i) {
-        return Stand {
-            i: i + 1,
-            x: x,
-            right: true,
-        };
+        return Some((i + 1, x));
     }
     if use_covered(setting, frames, k, to, x) {
-        return Stand {
-            i: i,
-            x: x + 1,
-            right: true,
-        };
+        return Some((i, x + 1));
     }
-    Stand {
-        i: i,
-        x: x,
-        right: false,
-    }
+    None
 }
 
 // Whether the walk over the uses of p and q as argument k, from an index on, reaches its end.
@@ -168,35 +138,32 @@ fn place_agrees_in_step(
     let mut i = next_with(setting.transitions, k, p, from, to);
     let mut x = next_with(setting.transitions, k, q, from, to);
     while (i < to) | (x < to) {
-        let stand = step(setting, frames, p, q, k, to, i, x);
-        if !stand.right {
+        let Some((first, second)) = step(setting, frames, p, q, k, to, i, x) else {
             return false;
-        }
-        i = next_with(setting.transitions, k, p, stand.i, to);
-        x = next_with(setting.transitions, k, q, stand.x, to);
+        };
+        i = next_with(setting.transitions, k, p, first, to);
+        x = next_with(setting.transitions, k, q, second, to);
     }
     true
 }
 
 // The greatest number of arguments of a transition before an index. It is that of the last, because transitions are
 // sorted by their number of arguments first.
-fn width(transitions: &[u8], count: usize, to: usize) -> usize
-    requires searchable { Searchable transitions.now count }
-    requires to_le_count { to ≤ count }
+fn width(setting: &Setting<'_>, to: usize) -> usize
+    requires to_le_count { to ≤ setting.now.count }
     ensures upper_bound { result ≤ max_arity }
-    ensures by_index { (i : ℕ) → i < to → arity_of transitions.now (transition_bytes * i) ≤ result }
+    ensures by_index { (i : ℕ) → i < to → arity_of setting.now.transitions.now (transition_bytes * i) ≤ result }
 {
     if to == 0 {
         return 0;
     }
-    arity_of(transitions, TRANSITION_BYTES * (to - 1))
+    arity_of(setting.transitions, TRANSITION_BYTES * (to - 1))
 }
 
 // Whether the walk reaches its end at each place. Then p and q are used alike; if not, they may still be. False if p
 // or q is 0, because 0 stands at each place beyond the arguments.
 pub fn walk_agrees(setting: &Setting<'_>, frames: Frames, p: u8, q: u8) -> bool
     requires scannable { ScannableIn setting.now frames }
-    requires uses_within { UsesBounded setting.now }
     ensures { result ≡ true → transitions_agree (arrays_in setting.now frames) setting.now.transitions.now setting.now.count p q ≡ true }
 {
     if p == 0 {
@@ -205,9 +172,9 @@ pub fn walk_agrees(setting: &Setting<'_>, frames: Frames, p: u8, q: u8) -> bool
     if q == 0 {
         return false;
     }
-    let to = greater(entry(setting.lasts, p), entry(setting.lasts, q));
-    let from = lesser(lesser(entry(setting.lows, p), entry(setting.lows, q)), to);
-    let places = width(setting.transitions, setting.count, to);
+    let to = entry(setting.lasts, p).max(entry(setting.lasts, q));
+    let from = entry(setting.lows, p).min(entry(setting.lows, q)).min(to);
+    let places = width(setting, to);
     for k in 0..places {
         if !place_agrees_in_step(setting, frames, p, q, k, from, to) {
             return false;

@@ -3,20 +3,18 @@ use mathlib.Core.Path.{◌∙◌, ap}
 use Prim.Native.Nat.{ℕ}
 use Rattle.automata.specs.Alike.{frames_of, uses_agree}
 use Rattle.subtrees.specs.Store.{tree_numbered}
-use Rattle.uses.proofs.Both.{first-only, no-parents, state-read}
+use Rattle.uses.proofs.Both.{first-only, no-parents, shaped-nodes, state-read}
 use Rattle.uses.proofs.state_uses_agree.Goals as goal
 
 pub uses_agree-requires : goal.uses_agree-requires
 uses_agree-requires c = record {
   scannable = record {
-    searchable = c.requires.searchable;
-    over = c.requires.holds_transitions_over;
-    nodes = c.requires.nodes;
+    searchable = c.args.setting.now.searchable;
+    over = c.args.setting.now.over;
+    nodes = shaped-nodes c.args.setting.now.shaped;
     first = c.requires.parents_within;
-    second = no-parents
-        c.requires.nodes c.requires.parents_within;
+    second = no-parents (shaped-nodes c.args.setting.now.shaped) c.requires.parents_within;
   };
-  uses_within = c.requires.uses_within;
 }
 
 pub returns : goal.returns

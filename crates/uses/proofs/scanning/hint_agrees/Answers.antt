@@ -1,24 +1,22 @@
 -- If the transition of the hint does not agree, the scan does not either.
 use native.Mathlib.Omega.{arith}
 use Prim.Native.Nat.{◌-◌}
-use Rattle.uses.specs.Uses.{arrays}
+use Rattle.uses.specs.Settings.{arrays_in}
 use Rattle.uses.proofs.Scanned.{hint-at, hint-none}
 use Rattle.uses.proofs.scanning.hint_agrees.Goals as goal
 
 pub returns-then-number-eq0 : goal.returns-then-number-eq0
 returns-then-number-eq0 c =
-    hint-none (arrays c.args.setting.now.subtrees.now.labels c.args.setting.now.subtrees.now.arities c.args.setting.now.subtrees.now.children c.args.setting.now.subtrees.now.states c.args.setting.now.weights.now c.args.setting.now.subtrees.now.count
-    c.args.frames.first c.args.frames.second) c.args.setting.now.transitions.now c.args.setting.now.count c.args.p c.args.q
+    hint-none (arrays_in c.args.setting.now c.args.frames) c.args.setting.now.transitions.now c.args.setting.now.count c.args.p c.args.q
 
 pub transition_agrees-requires : goal.transition_agrees-requires
 transition_agrees-requires c = record {
   scannable = c.requires.scannable;
-  i_lt_count = omega (arith, c.requires.uses_within.known c.args.x, c.entry-number.ensures, c.if-number-eq0.false);
+  i_lt_count = omega (arith, c.args.setting.now.uses.known c.args.x, c.entry-number.ensures, c.if-number-eq0.false);
 }
 
 pub returns : goal.returns
 returns c =
-    hint-at (arrays c.args.setting.now.subtrees.now.labels c.args.setting.now.subtrees.now.arities c.args.setting.now.subtrees.now.children c.args.setting.now.subtrees.now.states c.args.setting.now.weights.now c.args.setting.now.subtrees.now.count
-    c.args.frames.first c.args.frames.second) c.args.setting.now.transitions.now c.args.setting.now.count c.args.p c.args.q (c.entry-number.result - 1)
-    (omega (arith, c.requires.uses_within.known c.args.x, c.entry-number.ensures, c.if-number-eq0.false))
+    hint-at (arrays_in c.args.setting.now c.args.frames) c.args.setting.now.transitions.now c.args.setting.now.count c.args.p c.args.q (c.entry-number.result - 1)
+    (omega (arith, c.args.setting.now.uses.known c.args.x, c.entry-number.ensures, c.if-number-eq0.false))
     c.transition_agrees.ensures

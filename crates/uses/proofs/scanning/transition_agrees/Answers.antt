@@ -1,14 +1,13 @@
 use native.Mathlib.Omega.{arith}
 use mathlib.Core.Path.{◌∙◌, sym}
 use Rattle.lists.proofs.Loops.{every-broken, every-end, every-next}
-use Rattle.uses.specs.Uses.{arrays}
+use Rattle.uses.specs.Settings.{arrays_in}
 use Rattle.uses.proofs.Scanned.{agrees_start}
 use Rattle.uses.proofs.scanning.transition_agrees.Goals as goal
 
 pub loop-k-init : goal.loop-k-init
 loop-k-init c =
-    agrees_start (arrays c.args.setting.now.subtrees.now.labels c.args.setting.now.subtrees.now.arities c.args.setting.now.subtrees.now.children c.args.setting.now.subtrees.now.states c.args.setting.now.weights.now c.args.setting.now.subtrees.now.count
-    c.args.frames.first c.args.frames.second) c.args.setting.now.transitions.now c.args.setting.now.count c.args.p c.args.q c.args.i
+    agrees_start (arrays_in c.args.setting.now c.args.frames) c.args.setting.now.transitions.now c.args.setting.now.count c.args.p c.args.q c.args.i
 
 pub place_agrees-requires : goal.place_agrees-requires
 place_agrees-requires c = record {

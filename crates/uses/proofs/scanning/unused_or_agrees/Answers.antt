@@ -1,12 +1,11 @@
 -- A transition without either state agrees.
 use Rattle.fields.proofs.Transitions.{readable}
-use Rattle.uses.specs.Uses.{arrays}
+use Rattle.uses.specs.Settings.{arrays_in}
 use Rattle.uses.proofs.Scanned.{agrees-neither}
 use Rattle.uses.proofs.scanning.unused_or_agrees.Goals as goal
 
 pub returns-then-has_neither : goal.returns-then-has_neither
 returns-then-has_neither c =
     let r = readable c.requires.scannable.over.runs c.args.i c.requires.i_lt_count in
-    agrees-neither (arrays c.args.setting.now.subtrees.now.labels c.args.setting.now.subtrees.now.arities c.args.setting.now.subtrees.now.children c.args.setting.now.subtrees.now.states c.args.setting.now.weights.now
-    c.args.setting.now.subtrees.now.count c.args.frames.first c.args.frames.second) c.args.setting.now.transitions.now c.args.setting.now.count c.args.p c.args.q c.args.i r.narrow
+    agrees-neither (arrays_in c.args.setting.now c.args.frames) c.args.setting.now.transitions.now c.args.setting.now.count c.args.p c.args.q c.args.i r.narrow
     c.has_neither.ensures c.if-has_neither.true

@@ -4,7 +4,7 @@ use Prim.Native.Nat.{◌*◌}
 use native.Mathlib.Omega.{arith}
 use Rattle.format.specs.Format.{transition_bytes}
 use Rattle.fields.proofs.Transitions.{readable}
-use Rattle.uses.specs.Uses.{arrays}
+use Rattle.uses.specs.Settings.{arrays_in}
 use Rattle.uses.proofs.Scanned.{own-either, place-either, place_other}
 use Rattle.uses.proofs.swapping.place_agrees.Goals as goal
 
@@ -18,8 +18,7 @@ arg_of-arg-requires c =
 
 pub returns-then-is_neither : goal.returns-then-is_neither
 returns-then-is_neither c =
-    place_other (arrays c.args.setting.now.subtrees.now.labels c.args.setting.now.subtrees.now.arities c.args.setting.now.subtrees.now.children c.args.setting.now.subtrees.now.states c.args.setting.now.weights.now c.args.setting.now.subtrees.now.count
-    c.args.frames.first c.args.frames.second) c.args.setting.now.transitions.now c.args.setting.now.count (transition_bytes * c.args.i) c.args.p c.args.q c.args.k
+    place_other (arrays_in c.args.setting.now c.args.frames) c.args.setting.now.transitions.now c.args.setting.now.count (transition_bytes * c.args.i) c.args.p c.args.q c.args.k
     c.arg_of-arg.ensures.value (sym c.is_neither.ensures ∙ c.if-is_neither.true)
 
 pub swap_agrees-requires : goal.swap_agrees-requires
@@ -40,7 +39,6 @@ swap_agrees-requires c =
 pub returns : goal.returns
 returns c =
     let none = sym c.is_neither.ensures ∙ c.if-is_neither.false in
-    place-either (arrays c.args.setting.now.subtrees.now.labels c.args.setting.now.subtrees.now.arities c.args.setting.now.subtrees.now.children c.args.setting.now.subtrees.now.states c.args.setting.now.weights.now c.args.setting.now.subtrees.now.count
-    c.args.frames.first c.args.frames.second) c.args.setting.now.transitions.now c.args.setting.now.count (transition_bytes * c.args.i) c.args.p c.args.q c.args.k
+    place-either (arrays_in c.args.setting.now c.args.frames) c.args.setting.now.transitions.now c.args.setting.now.count (transition_bytes * c.args.i) c.args.p c.args.q c.args.k
     c.arg_of-arg.ensures.value none c.either-y.ensures
     c.swap_agrees.ensures

@@ -2,14 +2,12 @@
 use Prim.Native.Nat.{◌*◌}
 use Rattle.format.specs.Format.{transition_bytes}
 use Rattle.fields.proofs.Transitions.{readable}
-use Rattle.uses.specs.Uses.{arrays}
+use Rattle.uses.specs.Settings.{arrays_in}
 use Rattle.uses.proofs.Scanned.{swap-covered, swap-same}
 use Rattle.uses.proofs.swapping.swap_agrees.Goals as goal
 
 pub swapped_out-out-requires : goal.swapped_out-out-requires
 swapped_out-out-requires c = record {
-  searchable = c.requires.scannable.searchable;
-  holds_transitions_over = c.requires.scannable.over;
   i_lt_count = c.requires.i_lt_count;
   k_bound = c.requires.k_bound;
   meta_value = c.requires.meta_value;
@@ -19,8 +17,7 @@ swapped_out-out-requires c = record {
 
 pub returns-then-out-out_of : goal.returns-then-out-out_of
 returns-then-out-out_of c =
-    swap-same (arrays c.args.setting.now.subtrees.now.labels c.args.setting.now.subtrees.now.arities c.args.setting.now.subtrees.now.children c.args.setting.now.subtrees.now.states c.args.setting.now.weights.now c.args.setting.now.subtrees.now.count
-    c.args.frames.first c.args.frames.second) c.args.setting.now.transitions.now c.args.setting.now.count (transition_bytes * c.args.i) c.args.k c.args.y
+    swap-same (arrays_in c.args.setting.now c.args.frames) c.args.setting.now.transitions.now c.args.setting.now.count (transition_bytes * c.args.i) c.args.k c.args.y
     c.swapped_out-out.ensures c.out_of.ensures.value c.if-out-out_of.true
 
 pub is_covered-requires : goal.is_covered-requires
@@ -34,7 +31,6 @@ is_covered-requires c = record {
 
 pub returns : goal.returns
 returns c =
-    swap-covered (arrays c.args.setting.now.subtrees.now.labels c.args.setting.now.subtrees.now.arities c.args.setting.now.subtrees.now.children c.args.setting.now.subtrees.now.states c.args.setting.now.weights.now c.args.setting.now.subtrees.now.count
-    c.args.frames.first c.args.frames.second) c.args.setting.now.transitions.now c.args.setting.now.count (transition_bytes * c.args.i) c.args.k c.args.y
+    swap-covered (arrays_in c.args.setting.now c.args.frames) c.args.setting.now.transitions.now c.args.setting.now.count (transition_bytes * c.args.i) c.args.k c.args.y
     c.swapped_out-out.ensures c.out_of.ensures.value c.if-out-out_of.false
     c.is_covered.ensures

@@ -17,23 +17,23 @@ pub exchanged-sought-requires : goal.exchanged-sought-requires
 exchanged-sought-requires c =
     let bytes = c.args.setting.now.bytes in
     record {
-      k_lt_max_arity = omega (arith, c.requires.searchable.padded.runs.narrow c.args.i c.requires.i_lt_count, c.requires.k_bound);
-      k_bound = exchange-inside bytes c.requires.searchable c.requires.holds_transitions_over c.args.i c.args.k c.requires.i_lt_count
+      k_lt_max_arity = omega (arith, c.args.setting.now.searchable.padded.runs.narrow c.args.i c.requires.i_lt_count, c.requires.k_bound);
+      k_bound = exchange-inside bytes c.args.setting.now.searchable c.args.setting.now.over c.args.i c.args.k c.requires.i_lt_count
           c.requires.k_bound c.requires.args_value c.requires.x_value;
-      k_bound_2 = exchange-fits bytes c.requires.searchable c.requires.holds_transitions_over c.args.i c.args.k c.requires.i_lt_count
+      k_bound_2 = exchange-fits bytes c.args.setting.now.searchable c.args.setting.now.over c.args.i c.args.k c.requires.i_lt_count
           c.requires.k_bound c.requires.args_value c.requires.x_value (omega (arith, c.ranges.y));
     }
 
 pub returns-then-number-eq0 : goal.returns-then-number-eq0
 returns-then-number-eq0 c =
-    step-nothing c.args.setting.now.bytes c.requires.searchable c.requires.holds_transitions_over c.args.i
+    step-nothing c.args.setting.now.bytes c.args.setting.now.searchable c.args.setting.now.over c.args.i
     c.args.k c.requires.i_lt_count c.requires.k_bound c.requires.args_value c.requires.x_value
     (omega (arith, c.ranges.y)) c.if-y-eq0.false c.requires.meta_value
     c.exchanged-sought.ensures c.seek-number.ensures.by_index c.if-number-eq0.true
 
 pub returns : goal.returns
 returns c =
-    c.out_of.ensures.value ∙ step-found c.args.setting.now.bytes c.requires.searchable c.requires.holds_transitions_over
+    c.out_of.ensures.value ∙ step-found c.args.setting.now.bytes c.args.setting.now.searchable c.args.setting.now.over
     c.args.i c.args.k c.requires.i_lt_count c.requires.k_bound c.requires.args_value c.requires.x_value
     (omega (arith, c.ranges.y)) c.if-y-eq0.false c.requires.meta_value
     c.exchanged-sought.ensures c.seek-number.ensures.by_index c.if-number-eq0.false

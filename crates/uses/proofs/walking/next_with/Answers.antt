@@ -20,7 +20,7 @@ loop-i-preserved c =
 pub returns : goal.returns
 returns c =
     let w = c.loop-i.invariant in record {
-      on = w.on;
-      found = record { inside = w.inside; here = λ h. absurd (omega (arith, c.loop-i-test.false)) };
-      none = w.none;
+      on = c.requires.from_le_to;
+      found = record { inside = omega arith; here = λ h. absurd (omega (arith)) };
+      none = λ y l d. w.none y l (omega (arith, w.inside, c.loop-i-test.false, d));
     }

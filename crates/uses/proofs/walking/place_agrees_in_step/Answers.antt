@@ -1,7 +1,6 @@
-use mathlib.Core.Bool.{false≢true}
 use native.Mathlib.Omega.{arith}
 use lib.Dec.{ltb}
-use borrow.Author.Tests.{ltb-false, not-false}
+use borrow.Author.Tests.{ltb-false}
 use Rattle.lists.proofs.Tests.{or-none-left, or-none-right}
 use Rattle.uses.proofs.walking.place_agrees_in_step.Invariants.{standing, standing-end}
 use Rattle.uses.proofs.walking.place_agrees_in_step.Goals as goal
@@ -24,8 +23,8 @@ pub loop-i-init : goal.loop-i-init
 loop-i-init c =
     standing c.requires.walked c.next_with-i.ensures c.next_with-x.ensures
 
-pub step-stand-requires : goal.step-stand-requires
-step-stand-requires c =
+pub step-requires : goal.step-requires
+step-requires c =
     let z = c.loop-i.invariant in
     record {
       scannable = c.requires.scannable;
@@ -34,26 +33,23 @@ step-stand-requires c =
       at_use_2 = z.second;
     }
 
-pub returns-then-not-stand : goal.returns-then-not-stand
-returns-then-not-stand c = λ e. absurd (false≢true e)
-
 pub next_with-i-requires-in-loop-i : goal.next_with-i-requires-in-loop-i
 next_with-i-requires-in-loop-i c = record {
   to_in_bounds = omega (arith, c.requires.walkable.searchable.padded.runs.inside, c.requires.walkable.inside);
   k_lt_max_arity = c.requires.walkable.place;
-  from_le_to = c.step-stand.ensures.first-inside;
+  from_le_to = c.in-Some.ensures.first-inside;
 }
 
 pub next_with-x-requires-in-loop-i : goal.next_with-x-requires-in-loop-i
 next_with-x-requires-in-loop-i c = record {
   to_in_bounds = omega (arith, c.requires.walkable.searchable.padded.runs.inside, c.requires.walkable.inside);
   k_lt_max_arity = c.requires.walkable.place;
-  from_le_to = c.step-stand.ensures.second-inside;
+  from_le_to = c.in-Some.ensures.second-inside;
 }
 
 pub loop-i-smaller : goal.loop-i-smaller
 loop-i-smaller c =
-    let further = c.step-stand.ensures.further (not-false _ c.if-not-stand.false) in
+    let further = c.in-Some.ensures.further in
     omega (
       arith,
       further,
@@ -67,7 +63,7 @@ loop-i-smaller c =
 
 pub loop-i-preserved : goal.loop-i-preserved
 loop-i-preserved c =
-    standing (c.step-stand.ensures.walked c.loop-i.invariant.walked) c.next_with-i-in-loop-i.ensures
+    standing (c.in-Some.ensures.walked c.loop-i.invariant.walked) c.next_with-i-in-loop-i.ensures
     c.next_with-x-in-loop-i.ensures
 
 pub returns : goal.returns

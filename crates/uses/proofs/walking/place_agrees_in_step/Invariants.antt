@@ -9,7 +9,8 @@ use lib.Dec.{ltb}
 use borrow.Author.Tests.{ltb-false, ltb-true}
 use Rattle.format.specs.Format.{transition_bytes}
 use Rattle.table.specs.Layout.{arg_of}
-use Rattle.uses.specs.Uses.{Arrays, swap_agrees, arrays}
+use Rattle.uses.specs.Settings.{arrays_in}
+use Rattle.uses.specs.Uses.{Arrays, swap_agrees}
 use Rattle.uses.specs.Walks.{AtUse, Met, NextUse, Walked}
 use Rattle.uses.proofs.walking.place_agrees_in_step.Given as goal
 
@@ -44,7 +45,7 @@ module _ {a : Arrays} {s : List ℕ} {c k p q to i x : ℕ} where
       (subst (λ (y : ℕ). Walked a s c k p q y x) first z.walked)
 
 abbrev pub invariant-loop-i : goal.invariant-loop-i
-invariant-loop-i l = Standing (arrays l.setting.subtrees.now.labels l.setting.subtrees.now.arities l.setting.subtrees.now.children l.setting.subtrees.now.states l.setting.weights.now l.setting.subtrees.now.count l.frames.first l.frames.second) l.setting.transitions.now l.setting.count l.k l.p l.q l.to l.i l.x
+invariant-loop-i l = Standing (arrays_in l.setting l.frames) l.setting.transitions.now l.setting.count l.k l.p l.q l.to l.i l.x
 
 abbrev pub decreases-loop-i : goal.decreases-loop-i
 decreases-loop-i l = (l.to - l.i) + (l.to - l.x)

@@ -1,5 +1,5 @@
 -- A use that is passed agrees: it is one of a pair, or it is covered.
-use mathlib.Core.Bool.{Bool, false, false≢true, true}
+use mathlib.Core.Bool.{Bool, false, true}
 use mathlib.Core.List.{List}
 use mathlib.Core.Path.{◌≡◌, refl, subst, sym}
 use Prim.Native.Nat.{◌*◌, ◌+◌, ◌<◌, ℕ}
@@ -31,11 +31,11 @@ unfolding swap_agrees
 covered-agrees a s c at k q e = or_right (eqb (step_at s c at k q) (out_of s at)) (covered_at a s at k) e
 
 module _ {a : Arrays} {s : List ℕ} {c k p q to i x : ℕ} where
-  step-pair : Paired s c k p q to i x → Stepped a s c k p q to i x (i + 1) (x + 1) true
+  step-pair : Paired s c k p q to i x → Stepped a s c k p q to i x (i + 1, x + 1)
   step-pair pair = record {
     first-inside = omega (arith, pair.first-inside);
     second-inside = omega (arith, pair.second-inside);
-    further = λ _. omega arith;
+    further = omega arith;
     walked = λ w. record {
       first = met_next w.first (sym (swap-same a s c (transition_bytes * i) k q refl refl pair.first));
       second = met_next w.second (sym (swap-same a s c (transition_bytes * x) k p refl refl pair.second));
@@ -43,11 +43,11 @@ module _ {a : Arrays} {s : List ℕ} {c k p q to i x : ℕ} where
   }
 
   step-first : AtUse s k q to x → i < to → covered_at a s (transition_bytes * i) k ≡ true →
-      Stepped a s c k p q to i x (i + 1) x true
+      Stepped a s c k p q to i x (i + 1, x)
   step-first v h covered = record {
     first-inside = omega arith;
     second-inside = v.inside;
-    further = λ _. omega arith;
+    further = omega arith;
     walked = λ w. record {
       first = met_next w.first (covered-agrees a s c (transition_bytes * i) k q covered);
       second = w.second;
@@ -55,23 +55,15 @@ module _ {a : Arrays} {s : List ℕ} {c k p q to i x : ℕ} where
   }
 
   step-second : AtUse s k p to i → x < to → covered_at a s (transition_bytes * x) k ≡ true →
-      Stepped a s c k p q to i x i (x + 1) true
+      Stepped a s c k p q to i x (i, x + 1)
   step-second u h covered = record {
     first-inside = u.inside;
     second-inside = omega arith;
-    further = λ _. omega arith;
+    further = omega arith;
     walked = λ w. record {
       first = w.first;
       second = met_next w.second (covered-agrees a s c (transition_bytes * x) k p covered);
     };
-  }
-
-  step-none : AtUse s k p to i → AtUse s k q to x → Stepped a s c k p q to i x i x false
-  step-none u v = record {
-    first-inside = u.inside;
-    second-inside = v.inside;
-    further = λ e. absurd (false≢true e);
-    walked = λ w. w;
   }
 
 pub returns-then-pair_agrees : goal.returns-then-pair_agrees
@@ -102,7 +94,3 @@ use_covered-requires-2 c = record {
 pub returns-then-use_covered-2 : goal.returns-then-use_covered-2
 returns-then-use_covered-2 c =
     step-second c.requires.at_use (c.use_covered-2.ensures.i_lt_to c.if-use_covered-2.true) (c.use_covered-2.ensures.k_value c.if-use_covered-2.true)
-
-pub returns : goal.returns
-returns c =
-    step-none c.requires.at_use c.requires.at_use_2

@@ -2,7 +2,7 @@ use mathlib.Core.Bool.{false≢true}
 use mathlib.Core.Path.{◌∙◌, ap₂}
 use Prim.Native.Nat.{max, min}
 use native.Mathlib.Omega.{arith}
-use Rattle.uses.specs.Uses.{arrays}
+use Rattle.uses.specs.Settings.{arrays_in}
 use Rattle.uses.specs.Walks.{Walkable}
 use Rattle.uses.proofs.walking.walk_agrees.Invariants.{places-none, places-next, walked-before, walked_all}
 use Rattle.uses.proofs.walking.walk_agrees.Goals as goal
@@ -15,26 +15,24 @@ returns-then-q-eq0 c = λ e. absurd (false≢true e)
 
 pub width-places-requires : goal.width-places-requires
 width-places-requires c =
-    let last = c.greater-to.ensures ∙ ap₂ max c.entry.ensures c.entry-2.ensures in
+    let last = c.max-to.ensures ∙ ap₂ max c.entry.ensures c.entry-2.ensures in
     record {
-      searchable = c.requires.scannable.searchable;
-      to_le_count = omega (arith, last, c.requires.uses_within.known c.args.p, c.requires.uses_within.known c.args.q);
+      to_le_count = omega (arith, last, c.args.setting.now.uses.known c.args.p, c.args.setting.now.uses.known c.args.q);
     }
 
 pub loop-k-init : goal.loop-k-init
 loop-k-init c =
-    places-none (arrays c.args.setting.now.subtrees.now.labels c.args.setting.now.subtrees.now.arities c.args.setting.now.subtrees.now.children c.args.setting.now.subtrees.now.states c.args.setting.now.weights.now c.args.setting.now.subtrees.now.count
-    c.args.frames.first c.args.frames.second) c.args.setting.now.transitions.now c.args.setting.now.count c.args.p c.args.q c.greater-to.result
+    places-none (arrays_in c.args.setting.now c.args.frames) c.args.setting.now.transitions.now c.args.setting.now.count c.args.p c.args.q c.max-to.result
 
 pub place_agrees_in_step-requires : goal.place_agrees_in_step-requires
 place_agrees_in_step-requires c =
-    let last = c.greater-to.ensures ∙ ap₂ max c.entry.ensures c.entry-2.ensures in
-    let first = c.lesser.ensures ∙ ap₂ min c.entry-3.ensures c.entry-4.ensures in
+    let last = c.max-to.ensures ∙ ap₂ max c.entry.ensures c.entry-2.ensures in
+    let first = c.min.ensures ∙ ap₂ min c.entry-3.ensures c.entry-4.ensures in
     let k = c.loop-k.k in
-    let w : Walkable c.args.setting.now.transitions.now c.args.setting.now.count c.args.setting.now.n k c.args.p c.args.q c.greater-to.result = record {
+    let w : Walkable c.args.setting.now.transitions.now c.args.setting.now.count c.args.setting.now.n k c.args.p c.args.q c.max-to.result = record {
       searchable = c.requires.scannable.searchable;
       over = c.requires.scannable.over;
-      inside = omega (arith, last, c.requires.uses_within.known c.args.p, c.requires.uses_within.known c.args.q);
+      inside = omega (arith, last, c.args.setting.now.uses.known c.args.p, c.args.setting.now.uses.known c.args.q);
       place = omega (arith, c.width-places.ensures.upper_bound, c.loop-k-test.true);
       first_some = omega (arith, c.if-p-eq0.false);
       second-some = omega (arith, c.if-q-eq0.false);
@@ -42,10 +40,9 @@ place_agrees_in_step-requires c =
     record {
       scannable = c.requires.scannable;
       walkable = w;
-      from_le_to = omega (arith, c.lesser-from.ensures);
-      walked = walked-before c.requires.uses_within (arrays c.args.setting.now.subtrees.now.labels c.args.setting.now.subtrees.now.arities c.args.setting.now.subtrees.now.children c.args.setting.now.subtrees.now.states
-          c.args.setting.now.weights.now c.args.setting.now.subtrees.now.count c.args.frames.first c.args.frames.second) w c.lesser-from.result (omega (arith, c.lesser-from.ensures))
-          (omega (arith, c.lesser-from.ensures, first)) (omega (arith, c.lesser-from.ensures, first));
+      from_le_to = omega (arith, c.min-from.ensures);
+      walked = walked-before c.args.setting.now.uses (arrays_in c.args.setting.now c.args.frames) w c.min-from.result (omega (arith, c.min-from.ensures))
+          (omega (arith, c.min-from.ensures, first)) (omega (arith, c.min-from.ensures, first));
     }
 
 pub returns-then-not-place_agrees_in_step : goal.returns-then-not-place_agrees_in_step
@@ -61,8 +58,7 @@ loop-k-preserved c =
 
 pub returns : goal.returns
 returns c =
-    let last = c.greater-to.ensures ∙ ap₂ max c.entry.ensures c.entry-2.ensures in
+    let last = c.max-to.ensures ∙ ap₂ max c.entry.ensures c.entry-2.ensures in
     let past = c.loop-k-test.false in
-    λ _. walked_all c.requires.uses_within (arrays c.args.setting.now.subtrees.now.labels c.args.setting.now.subtrees.now.arities c.args.setting.now.subtrees.now.children c.args.setting.now.subtrees.now.states
-    c.args.setting.now.weights.now c.args.setting.now.subtrees.now.count c.args.frames.first c.args.frames.second) c.args.p c.args.q last (λ i h. c.width-places.ensures.by_index i h)
+    λ _. walked_all c.args.setting.now.uses (arrays_in c.args.setting.now c.args.frames) c.args.p c.args.q last (λ i h. c.width-places.ensures.by_index i h)
     (record { each = λ h l. c.loop-k.invariant.each h (omega arith) })

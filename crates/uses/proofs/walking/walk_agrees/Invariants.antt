@@ -12,7 +12,8 @@ use Rattle.lists.proofs.Intervals.{at_every}
 use Rattle.packed.specs.Packed.{Searchable}
 use Rattle.table.specs.Layout.{arg_of, arity_of}
 use Rattle.uses.specs.Spans.{UsesWithin}
-use Rattle.uses.specs.Uses.{Arrays, arrays, place_agrees, transition_agrees, transitions_agree}
+use Rattle.uses.specs.Settings.{arrays_in}
+use Rattle.uses.specs.Uses.{Arrays, place_agrees, transition_agrees, transitions_agree}
 use Rattle.uses.specs.Walks.{Met, Walkable, Walked}
 use Rattle.uses.proofs.Scanned.{place-first, place-neither, place-second}
 use Rattle.uses.proofs.Walks.{use-place}
@@ -92,4 +93,4 @@ module _ {s : List ℕ} {c : ℕ} {lows lasts : List ℕ} (within : UsesWithin s
     walked_all = at_every (transition_agrees a s c p q) 0 c (λ i _ h. transition-agreed i (omega arith))
 
 abbrev pub invariant-loop-k : goal.invariant-loop-k
-invariant-loop-k l = PlacesWalked (arrays l.setting.subtrees.now.labels l.setting.subtrees.now.arities l.setting.subtrees.now.children l.setting.subtrees.now.states l.setting.weights.now l.setting.subtrees.now.count l.frames.first l.frames.second) l.setting.transitions.now l.setting.count l.p l.q l.to l.k
+invariant-loop-k l = PlacesWalked (arrays_in l.setting l.frames) l.setting.transitions.now l.setting.count l.p l.q l.to l.k

@@ -33,12 +33,12 @@ pub returns : goal.returns
 returns c =
     let last = c.args.to - 1 in
     let some = c.if-to-eq0.false in
-    let bytes = c.type_inv.transitions in
+    let bytes = c.args.setting.now.bytes in
     record {
-      upper_bound = omega (arith, c.arity_of.ensures, c.requires.searchable.padded.runs.narrow last (omega (arith, c.requires.to_le_count)));
+      upper_bound = omega (arith, c.arity_of.ensures, c.args.setting.now.searchable.padded.runs.narrow last (omega (arith, c.requires.to_le_count)));
       by_index = λ i h. omega (
         arith,
         c.arity_of.ensures,
-        arity-most (λ j. omega (arith, bytes j)) c.requires.searchable i last (omega arith) (omega (arith, c.requires.to_le_count)),
+        arity-most bytes c.args.setting.now.searchable i last (omega arith) (omega (arith, c.requires.to_le_count)),
       );
     }
