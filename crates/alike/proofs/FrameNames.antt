@@ -21,7 +21,8 @@ use Rattle.table.specs.Layout.{transitions_in}
 use Rattle.trees.specs.Context.{fill}
 use Rattle.trees.specs.Tree.{Tree, no_tree, node}
 use Rattle.alike.specs.Agreeing.{name_in, parent_agrees, place_agrees, state_of}
-use Rattle.alike.specs.Known.{Holds, NamedAbove, Shaped}
+use Rattle.uses.specs.Frames.{Shaped}
+use Rattle.alike.specs.Known.{Holds, NamedAbove}
 use Rattle.lists.proofs.Intervals.{at_every, every-at, length-tabulated}
 use Rattle.lists.proofs.Loops.{EveryFrom}
 use Rattle.lists.proofs.Tests.{same_test}

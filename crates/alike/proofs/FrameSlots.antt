@@ -21,7 +21,8 @@ use Rattle.subtrees.specs.Store.{child_at, tree_numbered}
 use Rattle.trees.specs.Context.{fill}
 use Rattle.trees.specs.Tree.{Tree, no_tree}
 use Rattle.alike.specs.Agreeing.{named_like_state, state_of}
-use Rattle.alike.specs.Known.{Holds, NamedAbove, Shaped}
+use Rattle.uses.specs.Frames.{Shaped}
+use Rattle.alike.specs.Known.{Holds, NamedAbove}
 use Rattle.alike.specs.Slots.{SlotOf}
 use Rattle.automata.proofs.Steps.{Has}
 use Rattle.lists.proofs.Tests.{and_left, and_right, every_in}

@@ -4,9 +4,8 @@ use Rattle.std.specs.Prelude.{Bool, false, List, ◌≡◌, ◌-◌, ◌<◌, �
 use Rattle.automata.specs.Automaton.{Automaton, run}
 use Rattle.automata.specs.Change.{subtrees}
 use Rattle.automata.specs.Names.{is_subtree}
-use Rattle.format.specs.Format.{max_arity, max_nodes}
 use Rattle.lists.specs.Tests.{◌∈◌}
-use Rattle.subtrees.specs.Store.{Stored, child_at, tree_numbered}
+use Rattle.subtrees.specs.Store.{Stored, tree_numbered}
 use Rattle.trees.specs.Tree.{Tree}
 
 -- arrays of labels, numbers of children, child numbers and states hold the m distinct subtrees of t

@@ -1,3 +1,4 @@
 pub mod Known
 pub mod Agreeing
 pub mod Slots
+pub mod Settings

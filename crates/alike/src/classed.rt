@@ -8,8 +8,8 @@ ghost use Rattle.subtrees.specs.Store.{tree_numbered};
 ghost use Rattle.table.specs.Layout.{transitions_in};
 ghost use Rattle.trees.specs.Tree.{Tree};
 ghost use Rattle.alike.specs.Agreeing.{named_like_state, named_like_subtree};
-ghost use Rattle.alike.specs.Known.{Holds, NamedAbove, Shaped};
 ghost use Rattle.uses.specs.Settings.{ParentsFrom, SearchableIn};
+ghost use Rattle.alike.specs.Settings.{HasTransitions, HoldsSubtrees, NamesKnown};
 
 use crate::frames::frames_agree;
 use format::{MAX_NODES, wide};
@@ -37,15 +37,13 @@ pub fn named_like_state(
     from: usize,
     to: usize,
 ) -> bool
-    requires searchable { SearchableIn setting.now }
-    requires shaped { Shaped setting.now.subtrees.now.count setting.now.subtrees.now.arities setting.now.subtrees.now.children }
     requires le_j { 1 ≤ j }
     requires j_le_m { j ≤ setting.now.subtrees.now.count }
     requires parents_within { ParentsFrom setting.now.subtrees.now j from to }
     ensures { (A : Automaton) (t : Tree) (ts : List Tree) (S : Tree → Bool) (N : Tree → ℕ) →
-        A.transitions ≡ transitions_in setting.now.transitions.now setting.now.count →
-        Holds A t ts setting.now.subtrees.now.count setting.now.subtrees.now.labels setting.now.subtrees.now.arities setting.now.subtrees.now.children setting.now.subtrees.now.states →
-        NamedAbove A t ts setting.now.subtrees.now.count j names.now N →
+        HasTransitions A setting.now →
+        HoldsSubtrees A t ts setting.now.subtrees.now →
+        NamesKnown A t ts setting.now.subtrees.now j names.now N →
         eqb (get_or setting.now.classes.now (j - 1) 0) 1 ≡ S (tree_numbered ts j) → eqb class 1 ≡ accepting A q →
         result ≡ named_like_state A t S N (tree_numbered ts j) q }
 {
@@ -66,17 +64,15 @@ pub fn named_like_subtree(
     from: usize,
     to: usize,
 ) -> bool
-    requires searchable { SearchableIn setting.now }
-    requires shaped { Shaped setting.now.subtrees.now.count setting.now.subtrees.now.arities setting.now.subtrees.now.children }
     requires le_j { 1 ≤ j }
     requires j_lt_v { j < v }
     requires v_le_m { v ≤ setting.now.subtrees.now.count }
     requires parents_within { ParentsFrom setting.now.subtrees.now j from to }
     requires parents_within_2 { ParentsFrom setting.now.subtrees.now v from to }
     ensures { (A : Automaton) (t : Tree) (ts : List Tree) (S : Tree → Bool) (N : Tree → ℕ) →
-        A.transitions ≡ transitions_in setting.now.transitions.now setting.now.count →
-        Holds A t ts setting.now.subtrees.now.count setting.now.subtrees.now.labels setting.now.subtrees.now.arities setting.now.subtrees.now.children setting.now.subtrees.now.states →
-        NamedAbove A t ts setting.now.subtrees.now.count j names.now N →
+        HasTransitions A setting.now →
+        HoldsSubtrees A t ts setting.now.subtrees.now →
+        NamesKnown A t ts setting.now.subtrees.now j names.now N →
         eqb (get_or setting.now.classes.now (j - 1) 0) 1 ≡ S (tree_numbered ts j) →
         eqb (get_or setting.now.classes.now (v - 1) 0) 1 ≡ S (tree_numbered ts v) →
         result ≡ named_like_subtree t S N (tree_numbered ts j) (tree_numbered ts v) }

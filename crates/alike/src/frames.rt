@@ -13,8 +13,9 @@ ghost use Rattle.subtrees.specs.Store.{tree_numbered};
 ghost use Rattle.trees.specs.Context.{fill};
 ghost use Rattle.trees.specs.Tree.{Tree};
 ghost use Rattle.alike.specs.Agreeing.{name_in, parent_agrees, place_agrees};
-ghost use Rattle.alike.specs.Known.{Candidate, Holds, NamedAbove, Shaped};
+ghost use Rattle.alike.specs.Known.{Candidate};
 ghost use Rattle.uses.specs.Settings.{ParentsFrom, SearchableIn};
+ghost use Rattle.alike.specs.Settings.{HasTransitions, HoldsSubtrees, NamesKnown, frame_in, place_agrees_in, parent_agrees_in};
 
 use crate::nodes::{children_of, node_name, states_of, step_node};
 use format::{MAX_ARITY, MAX_NODES, wide};
@@ -23,41 +24,31 @@ use uses::Setting;
 
 // The state of the subtree at index i if its child k had state x.
 fn frame_step(setting: &Setting<'_>, i: usize, k: usize, x: u8) -> u8
-    requires searchable { SearchableIn setting.now }
-    requires shaped { Shaped setting.now.subtrees.now.count setting.now.subtrees.now.arities setting.now.subtrees.now.children }
     requires i_lt_m { i < setting.now.subtrees.now.count }
     requires k_bound { k < get_or setting.now.subtrees.now.arities i 0 }
     ensures { (A : Automaton) (t : Tree) (ts : List Tree) →
-        A.transitions ≡ transitions_in setting.now.transitions.now setting.now.count →
-        Holds A t ts setting.now.subtrees.now.count setting.now.subtrees.now.labels setting.now.subtrees.now.arities setting.now.subtrees.now.children setting.now.subtrees.now.states →
-        result ≡ step_frame A (frame_at ts setting.now.subtrees.now.labels setting.now.subtrees.now.arities setting.now.subtrees.now.children i k) x }
+        HasTransitions A setting.now →
+        HoldsSubtrees A t ts setting.now.subtrees.now →
+        result ≡ step_frame A (frame_in ts setting.now.subtrees.now i k) x }
 {
     let arity = wide(setting.subtrees.arities[i]);
     let numbers = children_of(&setting.subtrees.children, i, arity);
     let mut qs = states_of(&setting.subtrees.states, numbers, arity);
     qs[k] = x;
-    step_node(
-        setting.transitions,
-        setting.count,
-        setting.subtrees.labels[i],
-        arity,
-        qs,
-    )
+    step_node(setting, setting.subtrees.labels[i], arity, qs)
 }
 
 // The name of the subtree at index i if its child k were subtree x.
 fn frame_node(setting: &Setting<'_>, names: &[u8; MAX_NODES], i: usize, k: usize, x: u8) -> u8
-    requires searchable { SearchableIn setting.now }
-    requires shaped { Shaped setting.now.subtrees.now.count setting.now.subtrees.now.arities setting.now.subtrees.now.children }
     requires i_lt_m { i < setting.now.subtrees.now.count }
     requires k_bound { k < get_or setting.now.subtrees.now.arities i 0 }
     requires le_x { 1 ≤ x }
     requires x_le_m { x ≤ setting.now.subtrees.now.count }
     ensures { (A : Automaton) (t : Tree) (ts : List Tree) (N : Tree → ℕ) (j : ℕ) →
-        A.transitions ≡ transitions_in setting.now.transitions.now setting.now.count →
-        Holds A t ts setting.now.subtrees.now.count setting.now.subtrees.now.labels setting.now.subtrees.now.arities setting.now.subtrees.now.children setting.now.subtrees.now.states →
-        NamedAbove A t ts setting.now.subtrees.now.count j names.now N → j ≤ x →
-        result ≡ N (fill (frame_at ts setting.now.subtrees.now.labels setting.now.subtrees.now.arities setting.now.subtrees.now.children i k)
+        HasTransitions A setting.now →
+        HoldsSubtrees A t ts setting.now.subtrees.now →
+        NamesKnown A t ts setting.now.subtrees.now j names.now N → j ≤ x →
+        result ≡ N (fill (frame_in ts setting.now.subtrees.now i k)
         (tree_numbered ts x)) }
 {
     let arity = setting.subtrees.arities[i];
@@ -75,17 +66,15 @@ fn frame_name(
     state: bool,
     x: u8,
 ) -> u8
-    requires searchable { SearchableIn setting.now }
-    requires shaped { Shaped setting.now.subtrees.now.count setting.now.subtrees.now.arities setting.now.subtrees.now.children }
     requires i_lt_m { i < setting.now.subtrees.now.count }
     requires k_bound { k < get_or setting.now.subtrees.now.arities i 0 }
     requires candidate { Candidate setting.now.subtrees.now.count state x }
     ensures { (A : Automaton) (t : Tree) (ts : List Tree) (N : Tree → ℕ) (j : ℕ) →
-        A.transitions ≡ transitions_in setting.now.transitions.now setting.now.count →
-        Holds A t ts setting.now.subtrees.now.count setting.now.subtrees.now.labels setting.now.subtrees.now.arities setting.now.subtrees.now.children setting.now.subtrees.now.states →
-        NamedAbove A t ts setting.now.subtrees.now.count j names.now N → (state ≡ false → j ≤ x) →
+        HasTransitions A setting.now →
+        HoldsSubtrees A t ts setting.now.subtrees.now →
+        NamesKnown A t ts setting.now.subtrees.now j names.now N → (state ≡ false → j ≤ x) →
         result ≡ name_in A N ts state x
-        (frame_at ts setting.now.subtrees.now.labels setting.now.subtrees.now.arities setting.now.subtrees.now.children i k) }
+        (frame_in ts setting.now.subtrees.now i k) }
 {
     if state {
         return frame_step(setting, i, k, x);
@@ -104,16 +93,14 @@ fn place_agrees(
     state: bool,
     x: u8,
 ) -> bool
-    requires searchable { SearchableIn setting.now }
-    requires shaped { Shaped setting.now.subtrees.now.count setting.now.subtrees.now.arities setting.now.subtrees.now.children }
     requires i_lt_m { i < setting.now.subtrees.now.count }
     requires k_bound { k < get_or setting.now.subtrees.now.arities i 0 }
     requires candidate { Candidate setting.now.subtrees.now.count state x }
     ensures { (A : Automaton) (t : Tree) (ts : List Tree) (N : Tree → ℕ) (j : ℕ) →
-        A.transitions ≡ transitions_in setting.now.transitions.now setting.now.count →
-        Holds A t ts setting.now.subtrees.now.count setting.now.subtrees.now.labels setting.now.subtrees.now.arities setting.now.subtrees.now.children setting.now.subtrees.now.states →
-        NamedAbove A t ts setting.now.subtrees.now.count j names.now N → j ≤ a → (state ≡ false → j ≤ x) →
-        result ≡ place_agrees A N ts setting.now.subtrees.now.labels setting.now.subtrees.now.arities setting.now.subtrees.now.children a state x i k }
+        HasTransitions A setting.now →
+        HoldsSubtrees A t ts setting.now.subtrees.now →
+        NamesKnown A t ts setting.now.subtrees.now j names.now N → j ≤ a → (state ≡ false → j ≤ x) →
+        result ≡ place_agrees_in A N ts setting.now.subtrees.now a state x i k }
 {
     if wide(setting.subtrees.children[MAX_ARITY * i + k]) != a {
         return true;
@@ -131,15 +118,13 @@ fn parent_agrees(
     state: bool,
     x: u8,
 ) -> bool
-    requires searchable { SearchableIn setting.now }
-    requires shaped { Shaped setting.now.subtrees.now.count setting.now.subtrees.now.arities setting.now.subtrees.now.children }
     requires i_lt_m { i < setting.now.subtrees.now.count }
     requires candidate { Candidate setting.now.subtrees.now.count state x }
     ensures { (A : Automaton) (t : Tree) (ts : List Tree) (N : Tree → ℕ) (j : ℕ) →
-        A.transitions ≡ transitions_in setting.now.transitions.now setting.now.count →
-        Holds A t ts setting.now.subtrees.now.count setting.now.subtrees.now.labels setting.now.subtrees.now.arities setting.now.subtrees.now.children setting.now.subtrees.now.states →
-        NamedAbove A t ts setting.now.subtrees.now.count j names.now N → j ≤ a → (state ≡ false → j ≤ x) →
-        result ≡ parent_agrees A N ts setting.now.subtrees.now.labels setting.now.subtrees.now.arities setting.now.subtrees.now.children a state x i }
+        HasTransitions A setting.now →
+        HoldsSubtrees A t ts setting.now.subtrees.now →
+        NamesKnown A t ts setting.now.subtrees.now j names.now N → j ≤ a → (state ≡ false → j ≤ x) →
+        result ≡ parent_agrees_in A N ts setting.now.subtrees.now a state x i }
 {
     let arity = wide(setting.subtrees.arities[i]);
     for k in 0..arity {
@@ -161,15 +146,13 @@ pub fn frames_agree(
     from: usize,
     to: usize,
 ) -> bool
-    requires searchable { SearchableIn setting.now }
-    requires shaped { Shaped setting.now.subtrees.now.count setting.now.subtrees.now.arities setting.now.subtrees.now.children }
     requires parents_within { ParentsFrom setting.now.subtrees.now a from to }
     requires candidate { Candidate setting.now.subtrees.now.count state x }
     ensures { (A : Automaton) (t : Tree) (ts : List Tree) (N : Tree → ℕ) (j : ℕ) →
-        A.transitions ≡ transitions_in setting.now.transitions.now setting.now.count →
-        Holds A t ts setting.now.subtrees.now.count setting.now.subtrees.now.labels setting.now.subtrees.now.arities setting.now.subtrees.now.children setting.now.subtrees.now.states →
-        NamedAbove A t ts setting.now.subtrees.now.count j names.now N → j ≤ a → (state ≡ false → j ≤ x) →
-        result ≡ every (parent_agrees A N ts setting.now.subtrees.now.labels setting.now.subtrees.now.arities setting.now.subtrees.now.children a state x) (up_from 0 setting.now.subtrees.now.count) }
+        HasTransitions A setting.now →
+        HoldsSubtrees A t ts setting.now.subtrees.now →
+        NamesKnown A t ts setting.now.subtrees.now j names.now N → j ≤ a → (state ≡ false → j ≤ x) →
+        result ≡ every (parent_agrees_in A N ts setting.now.subtrees.now a state x) (up_from 0 setting.now.subtrees.now.count) }
 {
     for i in from..to {
         if !parent_agrees(setting, names, i, a, state, x) {

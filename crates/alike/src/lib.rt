@@ -17,8 +17,8 @@ ghost use Rattle.subtrees.specs.Store.{tree_numbered};
 ghost use Rattle.trees.specs.Tree.{Tree};
 ghost use Rattle.uses.specs.Spans.{UsesWithin};
 ghost use Rattle.uses.specs.Uses.{Holds};
-ghost use Rattle.alike.specs.Known.{NamedAbove, Shaped};
 ghost use Rattle.uses.specs.Settings.{HoldsIn, OverStates, ParentsFrom, SearchableIn, UsesBounded};
+ghost use Rattle.alike.specs.Settings.{NamesKnown};
 
 use classed::{named_like_state, named_like_subtree};
 use format::{BYTE_VALUES, MAX_NODES};
@@ -37,16 +37,12 @@ pub fn like_state(
     from: usize,
     to: usize,
 ) -> bool
-    requires searchable { SearchableIn setting.now }
-    requires holds_transitions_over { OverStates setting.now }
-    requires shaped { Shaped setting.now.subtrees.now.count setting.now.subtrees.now.arities setting.now.subtrees.now.children }
     requires le_j { 1 ≤ j }
     requires j_le_m { j ≤ setting.now.subtrees.now.count }
-    requires uses_within { UsesBounded setting.now }
     requires parents_within { ParentsFrom setting.now.subtrees.now j from to }
     ensures { (A : Automaton) (t : Tree) (ts : List Tree) (S : Tree → Bool) (N : Tree → ℕ) →
         HoldsIn A t ts setting.now →
-        NamedAbove A t ts setting.now.subtrees.now.count j names.now N →
+        NamesKnown A t ts setting.now.subtrees.now j names.now N →
         eqb (get_or setting.now.classes.now (j - 1) 0) 1 ≡ S (tree_numbered ts j) → eqb class 1 ≡ accepting A q →
         result ≡ like_state A t S N (tree_numbered ts j) q }
 {
@@ -66,18 +62,14 @@ pub fn like_subtree(
     from: usize,
     to: usize,
 ) -> bool
-    requires searchable { SearchableIn setting.now }
-    requires holds_transitions_over { OverStates setting.now }
-    requires shaped { Shaped setting.now.subtrees.now.count setting.now.subtrees.now.arities setting.now.subtrees.now.children }
     requires le_j { 1 ≤ j }
     requires j_lt_v { j < v }
     requires v_le_m { v ≤ setting.now.subtrees.now.count }
-    requires uses_within { UsesBounded setting.now }
     requires parents_within { ParentsFrom setting.now.subtrees.now j from to }
     requires parents_within_2 { ParentsFrom setting.now.subtrees.now v from to }
     ensures { (A : Automaton) (t : Tree) (ts : List Tree) (S : Tree → Bool) (N : Tree → ℕ) →
         HoldsIn A t ts setting.now →
-        NamedAbove A t ts setting.now.subtrees.now.count j names.now N →
+        NamesKnown A t ts setting.now.subtrees.now j names.now N →
         eqb (get_or setting.now.classes.now (j - 1) 0) 1 ≡ S (tree_numbered ts j) →
         eqb (get_or setting.now.classes.now (v - 1) 0) 1 ≡ S (tree_numbered ts v) →
         result ≡ like_subtree A t S N (tree_numbered ts j) (tree_numbered ts v) }

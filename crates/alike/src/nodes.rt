@@ -12,6 +12,7 @@ ghost use Rattle.trees.specs.Tree.{Tree, node};
 ghost use Rattle.alike.specs.Agreeing.{state_of};
 ghost use Rattle.alike.specs.Known.{Holds, NamedAbove};
 ghost use Rattle.uses.specs.Settings.{SearchableIn};
+ghost use Rattle.alike.specs.Settings.{HasTransitions, HoldsSubtrees, NamesKnown};
 
 use format::{MAX_ARITY, MAX_NODES, wide};
 use packed::output;
@@ -62,22 +63,15 @@ fn some_zero(qs: [u8; MAX_ARITY], arity: usize) -> bool
 }
 
 // The state of a node over children with these states; 0 if one of them has none.
-pub fn step_node(
-    transitions: &[u8],
-    count: usize,
-    label: u16,
-    arity: usize,
-    qs: [u8; MAX_ARITY],
-) -> u8
-    requires searchable { Searchable transitions.now count }
+pub fn step_node(setting: &Setting<'_>, label: u16, arity: usize, qs: [u8; MAX_ARITY]) -> u8
     requires places { Places arity qs }
-    ensures { (A : Automaton) → A.transitions ≡ transitions_in transitions.now count →
+    ensures { (A : Automaton) → HasTransitions A setting.now →
         result ≡ step A label (take arity qs) }
 {
     if some_zero(qs, arity) {
         return 0;
     }
-    output(transitions, count, label, arity, qs)
+    output(setting.transitions, setting.count, label, arity, qs)
 }
 
 // The name of a node over the subtrees with these numbers. One of them must be at least j, and the names above j must
@@ -89,13 +83,11 @@ pub fn node_name(
     arity: u8,
     numbers: [u8; MAX_ARITY],
 ) -> u8
-    requires searchable { SearchableIn setting.now }
-    requires m_le_max_nodes { setting.now.subtrees.now.count ≤ max_nodes }
     requires children { Children numbers arity setting.now.subtrees.now.count }
     ensures { (A : Automaton) (t : Tree) (ts : List Tree) (N : Tree → ℕ) (j : ℕ) (k : ℕ) →
-        A.transitions ≡ transitions_in setting.now.transitions.now setting.now.count →
-        Holds A t ts setting.now.subtrees.now.count setting.now.subtrees.now.labels setting.now.subtrees.now.arities setting.now.subtrees.now.children setting.now.subtrees.now.states →
-        NamedAbove A t ts setting.now.subtrees.now.count j names.now N → k < arity → j ≤ get_or numbers k 0 →
+        HasTransitions A setting.now →
+        HoldsSubtrees A t ts setting.now.subtrees.now →
+        NamesKnown A t ts setting.now.subtrees.now j names.now N → k < arity → j ≤ get_or numbers k 0 →
         result ≡ N (node label (trees_numbered ts (take arity numbers))) }
 {
     let i = search(setting.subtrees, label, arity, numbers);
@@ -104,5 +96,5 @@ pub fn node_name(
     }
     let width = wide(arity);
     let qs = states_of(&setting.subtrees.states, numbers, width);
-    step_node(setting.transitions, setting.count, label, width, qs)
+    step_node(setting, label, width, qs)
 }

@@ -2,14 +2,12 @@
 use Rattle.automata.specs.Alike.{frames_of, uses_agree}
 use Rattle.automata.specs.Automaton.{run}
 use Rattle.subtrees.specs.Store.{tree_numbered}
-use Rattle.alike.proofs.Carried.{holds-subtrees, shaped-nodes}
+use Rattle.alike.proofs.Carried.{holds-subtrees}
 use Rattle.alike.proofs.Criterion.{first-fails, like-state-parts, second-decides}
 use Rattle.alike.proofs.like_state.Goals as goal
 
 pub named_like_state-requires : goal.named_like_state-requires
 named_like_state-requires c = record {
-  searchable = c.requires.searchable;
-  shaped = c.requires.shaped;
   le_j = c.requires.le_j;
   j_le_m = c.requires.j_le_m;
   parents_within = c.requires.parents_within;
@@ -24,12 +22,8 @@ returns-then-not-named_like_state c =
 
 pub state_uses_agree-requires : goal.state_uses_agree-requires
 state_uses_agree-requires c = record {
-  searchable = c.requires.searchable;
-  holds_transitions_over = c.requires.holds_transitions_over;
-  nodes = shaped-nodes c.requires.shaped;
   le_j = c.requires.le_j;
   j_le_m = c.requires.j_le_m;
-  uses_within = c.requires.uses_within;
   parents_within = c.requires.parents_within;
 }
 

@@ -4,14 +4,12 @@ use mathlib.Core.List.{◌++◌}
 use Rattle.automata.specs.Alike.{frames_of, uses_agree}
 use Rattle.automata.specs.Automaton.{run}
 use Rattle.subtrees.specs.Store.{tree_numbered}
-use Rattle.alike.proofs.Carried.{holds-subtrees, shaped-nodes}
+use Rattle.alike.proofs.Carried.{holds-subtrees}
 use Rattle.alike.proofs.Criterion.{first-fails, like-subtree-parts, second-decides}
 use Rattle.alike.proofs.like_subtree.Goals as goal
 
 pub named_like_subtree-requires : goal.named_like_subtree-requires
 named_like_subtree-requires c = record {
-  searchable = c.requires.searchable;
-  shaped = c.requires.shaped;
   le_j = c.requires.le_j;
   j_lt_v = c.requires.j_lt_v;
   v_le_m = c.requires.v_le_m;
@@ -29,15 +27,11 @@ returns-then-not-named_like_subtree c =
 
 pub subtree_uses_agree-requires : goal.subtree_uses_agree-requires
 subtree_uses_agree-requires c = record {
-  searchable = c.requires.searchable;
-  holds_transitions_over = c.requires.holds_transitions_over;
-  nodes = shaped-nodes c.requires.shaped;
   le_j = c.requires.le_j;
   j_le_m = omega arith;
   le_v = omega arith;
   v_le_m = c.requires.v_le_m;
   fact = λ z. omega arith;
-  uses_within = c.requires.uses_within;
   parents_within = c.requires.parents_within;
   parents_within_2 = c.requires.parents_within_2;
 }

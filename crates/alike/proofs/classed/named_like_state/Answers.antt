@@ -16,8 +16,6 @@ returns-then-not-same_class c =
 
 pub frames_agree-requires : goal.frames_agree-requires
 frames_agree-requires c = record {
-  searchable = c.requires.searchable;
-  shaped = c.requires.shaped;
   parents_within = numbered-parents c.wide-number.ensures c.requires.parents_within;
   candidate = record { some = λ z. absurd (true≢false z); known = λ z. absurd (true≢false z) };
 }

@@ -19,8 +19,6 @@ returns-then-not-same_class c =
 
 pub frames_agree-requires : goal.frames_agree-requires
 frames_agree-requires c = record {
-  searchable = c.requires.searchable;
-  shaped = c.requires.shaped;
   parents_within = numbered-parents c.wide-first.ensures c.requires.parents_within;
   candidate = record { some = λ z. omega arith; known = λ z. c.requires.v_le_m };
 }
@@ -39,8 +37,6 @@ returns-then-not-frames_agree c =
 
 pub frames_agree-requires-2 : goal.frames_agree-requires-2
 frames_agree-requires-2 c = record {
-  searchable = c.requires.searchable;
-  shaped = c.requires.shaped;
   parents_within = numbered-parents c.wide-second.ensures c.requires.parents_within_2;
   candidate = record { some = λ z. c.requires.le_j; known = λ z. omega arith };
 }

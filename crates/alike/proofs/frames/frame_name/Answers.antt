@@ -3,8 +3,6 @@ use Rattle.alike.proofs.frames.frame_name.Goals as goal
 
 pub frame_step-requires : goal.frame_step-requires
 frame_step-requires c = record {
-  searchable = c.requires.searchable;
-  shaped = c.requires.shaped;
   i_lt_m = c.requires.i_lt_m;
   k_bound = c.requires.k_bound;
 }
@@ -14,8 +12,6 @@ returns-then-state c = λ A t ts N j e holds known above. rw c.if-state.true (c.
 
 pub frame_node-requires : goal.frame_node-requires
 frame_node-requires c = record {
-  searchable = c.requires.searchable;
-  shaped = c.requires.shaped;
   i_lt_m = c.requires.i_lt_m;
   k_bound = c.requires.k_bound;
   le_x = c.requires.candidate.some c.if-state.false;

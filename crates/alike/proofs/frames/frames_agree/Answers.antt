@@ -13,8 +13,6 @@ loop-i-init c = (
 
 pub parent_agrees-requires : goal.parent_agrees-requires
 parent_agrees-requires c = record {
-  searchable = c.requires.searchable;
-  shaped = c.requires.shaped;
   i_lt_m = omega (arith, c.requires.parents_within.known);
   candidate = c.requires.candidate;
 }

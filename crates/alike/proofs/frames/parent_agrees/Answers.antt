@@ -10,8 +10,6 @@ loop-k-init c =
 
 pub place_agrees-requires : goal.place_agrees-requires
 place_agrees-requires c = record {
-  searchable = c.requires.searchable;
-  shaped = c.requires.shaped;
   i_lt_m = c.requires.i_lt_m;
   k_bound = omega (arith, c.loop-k.invariant.0);
   candidate = c.requires.candidate;

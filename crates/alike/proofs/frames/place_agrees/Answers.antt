@@ -7,11 +7,11 @@ use Rattle.alike.proofs.frames.place_agrees.Goals as goal
 
 pub overflow_add-i : goal.overflow_add-i
 overflow_add-i c =
-    omega (arith, c.requires.shaped.few, c.requires.shaped.narrow c.args.i (omega arith))
+    omega (arith, c.args.setting.now.shaped.few, c.args.setting.now.shaped.narrow c.args.i (omega arith))
 
 pub bounds-setting-i : goal.bounds-setting-i
 bounds-setting-i c =
-    omega (arith, c.requires.shaped.few, c.requires.shaped.narrow c.args.i (omega arith))
+    omega (arith, c.args.setting.now.shaped.few, c.args.setting.now.shaped.narrow c.args.i (omega arith))
 
 pub returns-then-wide-a : goal.returns-then-wide-a
 returns-then-wide-a c =
@@ -19,8 +19,6 @@ returns-then-wide-a c =
 
 pub frame_name-name-requires : goal.frame_name-name-requires
 frame_name-name-requires c = record {
-  searchable = c.requires.searchable;
-  shaped = c.requires.shaped;
   i_lt_m = c.requires.i_lt_m;
   k_bound = c.requires.k_bound;
   candidate = c.requires.candidate;
@@ -29,4 +27,4 @@ frame_name-name-requires c = record {
 pub returns : goal.returns
 returns c =
     λ A t ts N j e holds known above sub. place-own A N ts c.args.setting.now.subtrees.now.labels c.args.setting.now.subtrees.now.arities c.args.setting.now.subtrees.now.children c.args.a c.args.state c.args.x c.args.i c.args.k
-    c.requires.shaped c.requires.i_lt_m c.requires.k_bound known above (sym c.wide.ensures ∙ c.if-wide-a.false) refl (c.frame_name-name.ensures A t ts N j e holds known sub)
+    c.args.setting.now.shaped c.requires.i_lt_m c.requires.k_bound known above (sym c.wide.ensures ∙ c.if-wide-a.false) refl (c.frame_name-name.ensures A t ts N j e holds known sub)

@@ -13,11 +13,10 @@ returns-then-i-setting c =
 
 pub states_of-qs-requires : goal.states_of-qs-requires
 states_of-qs-requires c =
-    widened-children c.wide-width.ensures (children-more c.requires.m_le_max_nodes c.requires.children)
+    widened-children c.wide-width.ensures (children-more c.args.setting.now.shaped.few c.requires.children)
 
 pub step_node-requires : goal.step_node-requires
 step_node-requires c = record {
-  searchable = c.requires.searchable;
   places = filled-places c.states_of-qs.ensures (omega (arith, c.wide-width.ensures, c.requires.children.narrow));
 }
 

@@ -6,27 +6,26 @@ use Rattle.alike.proofs.FrameSlots.{slot-none}
 use Rattle.alike.proofs.slots.parent_slot.Goals as goal
 
 pub returns-then-names-i-eq0 : goal.returns-then-names-i-eq0
-returns-then-names-i-eq0 c = slot-none c.args.subtrees.now.count c.args.j c.args.subtrees.now.labels c.args.subtrees.now.arities c.args.subtrees.now.children c.args.subtrees.now.states c.args.names.now
+returns-then-names-i-eq0 c = slot-none c.args.setting.now.subtrees.now.count c.args.j c.args.setting.now.subtrees.now.labels c.args.setting.now.subtrees.now.arities c.args.setting.now.subtrees.now.children c.args.setting.now.subtrees.now.states c.args.names.now
     c.no_slot.result c.no_slot.ensures.place_value c.no_slot.ensures.out_value
 
 pub loop-k-init : goal.loop-k-init
 loop-k-init c = c.wide-arity.ensures
 
 pub overflow_add-i : goal.overflow_add-i
-overflow_add-i c = omega (arith, c.loop-k.invariant, c.requires.shaped.few, c.requires.shaped.narrow c.args.i (omega arith))
+overflow_add-i c = omega (arith, c.loop-k.invariant, c.args.setting.now.shaped.few, c.args.setting.now.shaped.narrow c.args.i (omega arith))
 
-pub bounds-subtrees-i-in-loop-k : goal.bounds-subtrees-i-in-loop-k
-bounds-subtrees-i-in-loop-k c = omega (arith, c.loop-k.invariant, c.requires.shaped.few, c.requires.shaped.narrow c.args.i (omega arith))
+pub bounds-setting-i-in-loop-k : goal.bounds-setting-i-in-loop-k
+bounds-setting-i-in-loop-k c = omega (arith, c.loop-k.invariant, c.args.setting.now.shaped.few, c.args.setting.now.shaped.narrow c.args.i (omega arith))
 
 pub frame_slot-requires : goal.frame_slot-requires
 frame_slot-requires c = record {
-  shaped = c.requires.shaped;
   i_lt_m = c.requires.i_lt_m;
   k_bound = omega (arith, c.loop-k.invariant);
 }
 
 pub returns-then-wide-j : goal.returns-then-wide-j
-returns-then-wide-j c = subst (λ (j : ℕ). SlotOf c.args.subtrees.now.count j c.args.subtrees.now.labels c.args.subtrees.now.arities c.args.subtrees.now.children c.args.subtrees.now.states
+returns-then-wide-j c = subst (λ (j : ℕ). SlotOf c.args.setting.now.subtrees.now.count j c.args.setting.now.subtrees.now.labels c.args.setting.now.subtrees.now.arities c.args.setting.now.subtrees.now.children c.args.setting.now.subtrees.now.states
     c.args.names.now c.frame_slot.result)
     (sym c.wide.ensures ∙ c.if-wide-j.true) c.frame_slot.ensures
 
@@ -34,5 +33,5 @@ pub loop-k-preserved : goal.loop-k-preserved
 loop-k-preserved c = c.loop-k.invariant
 
 pub returns : goal.returns
-returns c = slot-none c.args.subtrees.now.count c.args.j c.args.subtrees.now.labels c.args.subtrees.now.arities c.args.subtrees.now.children c.args.subtrees.now.states c.args.names.now
+returns c = slot-none c.args.setting.now.subtrees.now.count c.args.j c.args.setting.now.subtrees.now.labels c.args.setting.now.subtrees.now.arities c.args.setting.now.subtrees.now.children c.args.setting.now.subtrees.now.states c.args.names.now
     c.no_slot-2.result c.no_slot-2.ensures.place_value c.no_slot-2.ensures.out_value
