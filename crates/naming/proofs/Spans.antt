@@ -14,7 +14,7 @@ use Rattle.lists.specs.Positions.{up_from}
 use Rattle.lists.specs.Tests.{any}
 use Rattle.subtrees.specs.Parents.{ParentsWithin}
 use Rattle.subtrees.specs.Store.{child_at}
-use Rattle.alike.specs.Known.{Shaped}
+use Rattle.uses.specs.Frames.{Shaped}
 use Rattle.naming.specs.Parents.{ChildNoted, ParentsNoted, SpansOf, anchors, child_is, is_child, raises}
 use Rattle.lists.proofs.Loops.{AnyFrom}
 use Rattle.lists.proofs.Positions.{in-up_from, up_from-in}

@@ -2,3 +2,4 @@ pub mod Classes
 pub mod Parents
 pub mod Known
 pub mod Choice
+pub mod Settings

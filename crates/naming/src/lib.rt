@@ -12,15 +12,16 @@ mod states; // states that a subtree is compared with
 
 ghost use Rattle.std.specs.Prelude.{Bool, List, ◌≡◌, ◌+◌, ◌<◌, ◌≤◌, ℕ, length};
 ghost use Rattle.automata.specs.Automaton.{Automaton};
-ghost use Rattle.format.specs.Format.{max_nodes, max_states};
+ghost use Rattle.format.specs.Format.{max_nodes};
 ghost use Rattle.trees.specs.Tree.{Tree};
-ghost use Rattle.alike.specs.Known.{NamedAbove};
-ghost use Rattle.naming.specs.Known.{Known, Sized};
 ghost use Rattle.automata.specs.Change.{subtree_number};
 ghost use Rattle.automata.specs.Searched.{Searched};
 ghost use Rattle.naming.specs.Choice.{Bounded, Chosen, name_in};
-ghost use Rattle.naming.specs.Parents.{Marked, Shared, SpansOf};
+ghost use Rattle.naming.specs.Parents.{Marked, Shared};
 ghost use Rattle.pairs.specs.Counts.{Open};
+ghost use Rattle.naming.specs.Settings.{KnownIn, SpansIn};
+ghost use Rattle.alike.specs.Settings.{NamesKnown};
+ghost use Rattle.format.specs.Format.{table_bytes};
 
 pub use classes::classify;
 use format::{BYTE_VALUES, MAX_NODES, wide};
@@ -41,22 +42,19 @@ fn name_subtree(
     tos: &[u8; MAX_NODES],
     j: usize,
 ) -> u8
-    requires sized { Sized table.now setting.now.transitions.now setting.now.count setting.now.n setting.now.subtrees.now.count setting.now.subtrees.now.arities setting.now.subtrees.now.children
-        setting.now.lows.now setting.now.lasts.now }
+    requires table_len { length table.now ≡ table_bytes }
     requires shared { Shared setting.now.n setting.now.subtrees.now.count j names.now shared.now }
-    requires spans_of { SpansOf setting.now.subtrees.now.count setting.now.subtrees.now.arities setting.now.subtrees.now.children froms.now tos.now }
+    requires spans_of { SpansIn setting.now.subtrees.now froms.now tos.now }
     requires le_j { 1 ≤ j }
     requires j_le_m { j ≤ setting.now.subtrees.now.count }
     ensures upper_bound { result ≤ setting.now.n + setting.now.subtrees.now.count }
     ensures chosen { (A : Automaton) (t : Tree) (ts : List Tree) (S : (Tree → Bool)) (N : (Tree → ℕ)) →
-        Known A t ts S table.now setting.now.transitions.now setting.now.count setting.now.n setting.now.subtrees.now.count
-        setting.now.subtrees.now.labels setting.now.subtrees.now.arities setting.now.subtrees.now.children setting.now.subtrees.now.states
-        setting.now.weights.now setting.now.classes.now → Open A t marks.now →
-        NamedAbove A t ts setting.now.subtrees.now.count j names.now N → Chosen A t S ts setting.now.n setting.now.subtrees.now.count N j result }
+        KnownIn A t ts S table.now setting.now → Open A t marks.now →
+        NamesKnown A t ts setting.now.subtrees.now j names.now N → Chosen A t S ts setting.now.n setting.now.subtrees.now.count N j result }
 {
     let from = wide(froms[j - 1]);
     let to = wide(tos[j - 1]);
-    if anchored(setting.n, setting.subtrees, names, shared, j, from, to) {
+    if anchored(setting, names, shared, j, from, to) {
         return (setting.n + j) as u8;
     }
     let q = find_state(table, setting, marks, names, j, from, to);
@@ -71,15 +69,14 @@ fn name_subtree(
 }
 
 // Marks subtree i if subtree j has the own name of i and is not i itself.
-fn mark_shared(n: usize, m: usize, shared: &mut [u8; MAX_NODES], j: usize, name: u8)
-    requires n_le_max_states { n ≤ max_states }
-    requires m_le_max_nodes { m ≤ max_nodes }
-    requires j_le_m { j ≤ m }
-    requires name_bound { name ≤ n + m }
+fn mark_shared(setting: &Setting<'_>, shared: &mut [u8; MAX_NODES], j: usize, name: u8)
+    requires j_le_m { j ≤ setting.now.subtrees.now.count }
+    requires name_bound { name ≤ setting.now.n + setting.now.subtrees.now.count }
     requires shared_len { length shared.old ≡ max_nodes }
     ensures shared_len_2 { length shared.new ≡ max_nodes }
-    ensures marked { Marked n j name shared.old shared.new }
+    ensures marked { Marked setting.now.n j name shared.old shared.new }
 {
+    let n = setting.n;
     let own = wide(name);
     if own <= n {
         return;
@@ -97,24 +94,21 @@ pub fn name_all(
     marks: &[u8; BYTE_VALUES],
     names: &mut [u8; MAX_NODES],
 )
-    requires { Sized table.now setting.now.transitions.now setting.now.count setting.now.n setting.now.subtrees.now.count setting.now.subtrees.now.arities setting.now.subtrees.now.children
-        setting.now.lows.now setting.now.lasts.now }
+    requires { length table.now ≡ table_bytes }
     ensures bounded { Bounded setting.now.n setting.now.subtrees.now.count names.new }
     ensures searched { (A : Automaton) (t : Tree) (ts : List Tree) (S : (Tree → Bool)) →
-        Known A t ts S table.now setting.now.transitions.now setting.now.count setting.now.n setting.now.subtrees.now.count
-        setting.now.subtrees.now.labels setting.now.subtrees.now.arities setting.now.subtrees.now.children setting.now.subtrees.now.states
-        setting.now.weights.now setting.now.classes.now → Open A t marks.now →
+        KnownIn A t ts S table.now setting.now → Open A t marks.now →
         Searched A t S (subtree_number ts) (name_in ts names.new) }
 {
     let mut froms = [0u8; MAX_NODES];
     let mut tos = [0u8; MAX_NODES];
-    note_parents(setting.subtrees, &mut froms, &mut tos);
+    note_parents(setting, &mut froms, &mut tos);
     *names = [0u8; MAX_NODES];
     let mut shared = [0u8; MAX_NODES];
     let mut j = setting.subtrees.count;
     while j > 0 {
         let name = name_subtree(table, setting, marks, names, &shared, &froms, &tos, j);
-        mark_shared(setting.n, setting.subtrees.count, &mut shared, j, name);
+        mark_shared(setting, &mut shared, j, name);
         names[j - 1] = name;
         j -= 1;
     }

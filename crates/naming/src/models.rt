@@ -1,11 +1,11 @@
 // Subtrees with greater numbers and with their own names that a subtree can stand for.
-ghost use Rattle.std.specs.Prelude.{Bool, List, ◌≡◌, ◌+◌, ◌-◌, ◌<◌, ◌≤◌, ℕ};
+ghost use Rattle.std.specs.Prelude.{Bool, List, ◌≡◌, ◌+◌, ◌-◌, ◌<◌, ◌≤◌, ℕ, length};
 ghost use Rattle.automata.specs.Automaton.{Automaton};
 ghost use Rattle.trees.specs.Tree.{Tree};
-ghost use Rattle.alike.specs.Known.{NamedAbove};
-ghost use Rattle.naming.specs.Known.{Known, Sized};
 ghost use Rattle.naming.specs.Choice.{SubtreeSought, SubtreeTried};
-ghost use Rattle.naming.specs.Parents.{SpansOf};
+ghost use Rattle.naming.specs.Settings.{KnownIn, SpansIn};
+ghost use Rattle.alike.specs.Settings.{NamesKnown};
+ghost use Rattle.format.specs.Format.{table_bytes};
 
 use alike::like_subtree;
 use format::{BYTE_VALUES, MAX_NODES, wide};
@@ -45,17 +45,14 @@ fn fits_subtree(
     j: usize,
     v: usize,
 ) -> bool
-    requires sized { Sized table.now setting.now.transitions.now setting.now.count setting.now.n setting.now.subtrees.now.count setting.now.subtrees.now.arities setting.now.subtrees.now.children
-        setting.now.lows.now setting.now.lasts.now }
-    requires spans_of { SpansOf setting.now.subtrees.now.count setting.now.subtrees.now.arities setting.now.subtrees.now.children froms.now tos.now }
+    requires table_len { length table.now ≡ table_bytes }
+    requires spans_of { SpansIn setting.now.subtrees.now froms.now tos.now }
     requires le_j { 1 ≤ j }
     requires j_lt_v { j < v }
     requires v_le_m { v ≤ setting.now.subtrees.now.count }
     ensures { (A : Automaton) (t : Tree) (ts : List Tree) (S : (Tree → Bool)) (N : (Tree → ℕ)) →
-        Known A t ts S table.now setting.now.transitions.now setting.now.count setting.now.n setting.now.subtrees.now.count
-        setting.now.subtrees.now.labels setting.now.subtrees.now.arities setting.now.subtrees.now.children setting.now.subtrees.now.states
-        setting.now.weights.now setting.now.classes.now →
-        NamedAbove A t ts setting.now.subtrees.now.count j names.now N → SubtreeTried A t S ts setting.now.n N j v result }
+        KnownIn A t ts S table.now setting.now →
+        NamesKnown A t ts setting.now.subtrees.now j names.now N → SubtreeTried A t S ts setting.now.n N j v result }
 {
     if wide(names[v - 1]) != setting.n + v {
         return false;
@@ -76,17 +73,14 @@ pub fn find_subtree(
     tos: &[u8; MAX_NODES],
     j: usize,
 ) -> usize
-    requires sized { Sized table.now setting.now.transitions.now setting.now.count setting.now.n setting.now.subtrees.now.count setting.now.subtrees.now.arities setting.now.subtrees.now.children
-        setting.now.lows.now setting.now.lasts.now }
-    requires spans_of { SpansOf setting.now.subtrees.now.count setting.now.subtrees.now.arities setting.now.subtrees.now.children froms.now tos.now }
+    requires table_len { length table.now ≡ table_bytes }
+    requires spans_of { SpansIn setting.now.subtrees.now froms.now tos.now }
     requires le_j { 1 ≤ j }
     requires j_le_m { j ≤ setting.now.subtrees.now.count }
     ensures lower_bound { j < result }
     ensures subtree_sought { (A : Automaton) (t : Tree) (ts : List Tree) (S : (Tree → Bool)) (N : (Tree → ℕ)) →
-        Known A t ts S table.now setting.now.transitions.now setting.now.count setting.now.n setting.now.subtrees.now.count
-        setting.now.subtrees.now.labels setting.now.subtrees.now.arities setting.now.subtrees.now.children setting.now.subtrees.now.states
-        setting.now.weights.now setting.now.classes.now →
-        NamedAbove A t ts setting.now.subtrees.now.count j names.now N → SubtreeSought A t S ts setting.now.n setting.now.subtrees.now.count N j result }
+        KnownIn A t ts S table.now setting.now →
+        NamesKnown A t ts setting.now.subtrees.now j names.now N → SubtreeSought A t S ts setting.now.n setting.now.subtrees.now.count N j result }
 {
     let mut v = j + 1;
     while v <= setting.subtrees.count {

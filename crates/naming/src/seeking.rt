@@ -1,13 +1,13 @@
 // The state that a subtree can stand for. If every candidate must fit one slot, only the slot's arguments are tried.
-ghost use Rattle.std.specs.Prelude.{Bool, List, ◌≤◌, ℕ};
+ghost use Rattle.std.specs.Prelude.{Bool, List, ◌≡◌, ◌≤◌, ℕ, length};
 ghost use Rattle.automata.specs.Automaton.{Automaton};
 ghost use Rattle.trees.specs.Tree.{Tree};
-ghost use Rattle.alike.specs.Known.{NamedAbove};
-ghost use Rattle.naming.specs.Known.{Known, Sized};
 ghost use Rattle.naming.specs.Choice.{StateSought};
 ghost use Rattle.pairs.specs.Counts.{Open};
-ghost use Rattle.subtrees.specs.Parents.{ParentsWithin};
 ghost use Rattle.uses.specs.Settings.{ParentsFrom};
+ghost use Rattle.naming.specs.Settings.{KnownIn};
+ghost use Rattle.alike.specs.Settings.{NamesKnown};
+ghost use Rattle.format.specs.Format.{table_bytes};
 
 use crate::parents::raised;
 use crate::slots::{slot_of, state_in_slot};
@@ -27,16 +27,13 @@ fn other_state(
     from: usize,
     to: usize,
 ) -> usize
-    requires sized { Sized table.now setting.now.transitions.now setting.now.count setting.now.n setting.now.subtrees.now.count setting.now.subtrees.now.arities setting.now.subtrees.now.children
-        setting.now.lows.now setting.now.lasts.now }
+    requires table_len { length table.now ≡ table_bytes }
     requires le_j { 1 ≤ j }
     requires j_le_m { j ≤ setting.now.subtrees.now.count }
     requires parents_within { ParentsFrom setting.now.subtrees.now j from to }
     ensures { (A : Automaton) (t : Tree) (ts : List Tree) (S : (Tree → Bool)) (N : (Tree → ℕ)) →
-        Known A t ts S table.now setting.now.transitions.now setting.now.count setting.now.n setting.now.subtrees.now.count
-        setting.now.subtrees.now.labels setting.now.subtrees.now.arities setting.now.subtrees.now.children setting.now.subtrees.now.states
-        setting.now.weights.now setting.now.classes.now → Open A t marks.now →
-        NamedAbove A t ts setting.now.subtrees.now.count j names.now N → StateSought A t S ts setting.now.n N j result }
+        KnownIn A t ts S table.now setting.now → Open A t marks.now →
+        NamesKnown A t ts setting.now.subtrees.now j names.now N → StateSought A t S ts setting.now.n N j result }
 {
     let z = slot_of(setting, names, j, from, to);
     if z.out != 0 {
@@ -57,18 +54,15 @@ pub fn find_state(
     from: usize,
     to: usize,
 ) -> usize
-    requires sized { Sized table.now setting.now.transitions.now setting.now.count setting.now.n setting.now.subtrees.now.count setting.now.subtrees.now.arities setting.now.subtrees.now.children
-        setting.now.lows.now setting.now.lasts.now }
+    requires table_len { length table.now ≡ table_bytes }
     requires le_j { 1 ≤ j }
     requires j_le_m { j ≤ setting.now.subtrees.now.count }
     requires parents_within { ParentsFrom setting.now.subtrees.now j from to }
     ensures { (A : Automaton) (t : Tree) (ts : List Tree) (S : (Tree → Bool)) (N : (Tree → ℕ)) →
-        Known A t ts S table.now setting.now.transitions.now setting.now.count setting.now.n setting.now.subtrees.now.count
-        setting.now.subtrees.now.labels setting.now.subtrees.now.arities setting.now.subtrees.now.children setting.now.subtrees.now.states
-        setting.now.weights.now setting.now.classes.now → Open A t marks.now →
-        NamedAbove A t ts setting.now.subtrees.now.count j names.now N → StateSought A t S ts setting.now.n N j result }
+        KnownIn A t ts S table.now setting.now → Open A t marks.now →
+        NamesKnown A t ts setting.now.subtrees.now j names.now N → StateSought A t S ts setting.now.n N j result }
 {
-    if raised(setting.n, setting.subtrees, names, j, from, to) {
+    if raised(setting, names, j, from, to) {
         return setting.n + 1;
     }
     if fits_own_state(table, setting, marks, names, j, from, to) {

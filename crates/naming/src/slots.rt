@@ -1,17 +1,14 @@
 // Slots that hold every state that a subtree is like, and the search among the states in such a slot.
-ghost use Rattle.std.specs.Prelude.{Bool, List, ◌<◌, ◌≤◌, ℕ};
+ghost use Rattle.std.specs.Prelude.{Bool, List, ◌≡◌, ◌<◌, ◌≤◌, ℕ, length};
 ghost use Rattle.automata.specs.Automaton.{Automaton};
-ghost use Rattle.fields.specs.Fields.{HoldsTransitionsOver};
 ghost use Rattle.format.specs.Format.{max_arity};
-ghost use Rattle.packed.specs.Packed.{Searchable};
 ghost use Rattle.trees.specs.Tree.{Tree};
-ghost use Rattle.alike.specs.Known.{NamedAbove, Shaped};
-ghost use Rattle.naming.specs.Known.{Known, Sized};
 ghost use Rattle.naming.specs.Choice.{StateSought, StatesSlotted};
 ghost use Rattle.pairs.specs.Counts.{Open};
-ghost use Rattle.subtrees.specs.Parents.{ParentsWithin};
-ghost use Rattle.uses.specs.Uses.{Holds};
-ghost use Rattle.uses.specs.Settings.{HoldsIn, OverStates, ParentsFrom, SearchableIn};
+ghost use Rattle.uses.specs.Settings.{HoldsIn, ParentsFrom};
+ghost use Rattle.naming.specs.Settings.{KnownIn};
+ghost use Rattle.alike.specs.Settings.{NamesKnown};
+ghost use Rattle.format.specs.Format.{table_bytes};
 
 use crate::states::fits_state;
 use alike::frame_slot_of;
@@ -32,17 +29,14 @@ pub fn state_in_slot(
     to: usize,
     z: Slot,
 ) -> usize
-    requires sized { Sized table.now setting.now.transitions.now setting.now.count setting.now.n setting.now.subtrees.now.count setting.now.subtrees.now.arities setting.now.subtrees.now.children
-        setting.now.lows.now setting.now.lasts.now }
+    requires table_len { length table.now ≡ table_bytes }
     requires le_j { 1 ≤ j }
     requires j_le_m { j ≤ setting.now.subtrees.now.count }
     requires parents_within { ParentsFrom setting.now.subtrees.now j from to }
     requires place_lt_max_arity { z.place < max_arity }
     ensures { (A : Automaton) (t : Tree) (ts : List Tree) (S : (Tree → Bool)) (N : (Tree → ℕ)) →
-        Known A t ts S table.now setting.now.transitions.now setting.now.count setting.now.n setting.now.subtrees.now.count
-        setting.now.subtrees.now.labels setting.now.subtrees.now.arities setting.now.subtrees.now.children setting.now.subtrees.now.states
-        setting.now.weights.now setting.now.classes.now → Open A t marks.now →
-        NamedAbove A t ts setting.now.subtrees.now.count j names.now N → StatesSlotted A t S ts setting.now.transitions.now setting.now.count N j z →
+        KnownIn A t ts S table.now setting.now → Open A t marks.now →
+        NamesKnown A t ts setting.now.subtrees.now j names.now N → StatesSlotted A t S ts setting.now.transitions.now setting.now.count N j z →
         StateSought A t S ts setting.now.n N j result }
 {
     let mut i = first_in_slot(setting.transitions, setting.count, z);
@@ -65,19 +59,16 @@ pub fn slot_of(
     from: usize,
     to: usize,
 ) -> Slot
-    requires searchable { SearchableIn setting.now }
-    requires holds_transitions_over { OverStates setting.now }
-    requires shaped { Shaped setting.now.subtrees.now.count setting.now.subtrees.now.arities setting.now.subtrees.now.children }
     requires le_j { 1 ≤ j }
     requires j_le_m { j ≤ setting.now.subtrees.now.count }
     requires parents_within { ParentsFrom setting.now.subtrees.now j from to }
     ensures place_lt_max_arity { result.place < max_arity }
     ensures states_slotted { (A : Automaton) (t : Tree) (ts : List Tree) (S : (Tree → Bool)) (N : (Tree → ℕ)) →
         HoldsIn A t ts setting.now →
-        NamedAbove A t ts setting.now.subtrees.now.count j names.now N → 1 ≤ result.out →
+        NamesKnown A t ts setting.now.subtrees.now j names.now N → 1 ≤ result.out →
         StatesSlotted A t S ts setting.now.transitions.now setting.now.count N j result }
 {
-    let z = frame_slot_of(setting.subtrees, names, j, from, to);
+    let z = frame_slot_of(setting, names, j, from, to);
     if z.out != 0 {
         return z;
     }

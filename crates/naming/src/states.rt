@@ -1,15 +1,15 @@
 // States compared with a subtree one by one. A subtree can stand for 0 and for open states only.
-ghost use Rattle.std.specs.Prelude.{Bool, List, ◌≡◌, ◌+◌, ◌-◌, ◌<◌, ◌≤◌, ℕ, ◌||◌, get_or, eqb};
+ghost use Rattle.std.specs.Prelude.{Bool, List, ◌≡◌, ◌+◌, ◌-◌, ◌<◌, ◌≤◌, ℕ, ◌||◌, get_or, eqb, length};
 ghost use Rattle.automata.specs.Automaton.{Automaton};
 ghost use Rattle.trees.specs.Tree.{Tree};
-ghost use Rattle.alike.specs.Known.{NamedAbove};
-ghost use Rattle.naming.specs.Known.{Known, Sized};
 ghost use Rattle.format.specs.Format.{byte_values};
 ghost use Rattle.marking.specs.Marks.{marked};
 ghost use Rattle.naming.specs.Choice.{StateSought, StateTaken, StateTried};
 ghost use Rattle.pairs.specs.Counts.{Open};
-ghost use Rattle.subtrees.specs.Parents.{ParentsWithin};
 ghost use Rattle.uses.specs.Settings.{ParentsFrom};
+ghost use Rattle.naming.specs.Settings.{KnownIn};
+ghost use Rattle.alike.specs.Settings.{NamesKnown};
+ghost use Rattle.format.specs.Format.{table_bytes};
 
 use crate::classes::class_in;
 use alike::like_state;
@@ -39,17 +39,14 @@ pub fn fits_state(
     to: usize,
     q: usize,
 ) -> bool
-    requires sized { Sized table.now setting.now.transitions.now setting.now.count setting.now.n setting.now.subtrees.now.count setting.now.subtrees.now.arities setting.now.subtrees.now.children
-        setting.now.lows.now setting.now.lasts.now }
+    requires table_len { length table.now ≡ table_bytes }
     requires le_j { 1 ≤ j }
     requires j_le_m { j ≤ setting.now.subtrees.now.count }
     requires parents_within { ParentsFrom setting.now.subtrees.now j from to }
     requires q_le_n { q ≤ setting.now.n }
     ensures { (A : Automaton) (t : Tree) (ts : List Tree) (S : (Tree → Bool)) (N : (Tree → ℕ)) →
-        Known A t ts S table.now setting.now.transitions.now setting.now.count setting.now.n setting.now.subtrees.now.count
-        setting.now.subtrees.now.labels setting.now.subtrees.now.arities setting.now.subtrees.now.children setting.now.subtrees.now.states
-        setting.now.weights.now setting.now.classes.now → Open A t marks.now →
-        NamedAbove A t ts setting.now.subtrees.now.count j names.now N → StateTried A t S ts N j q result }
+        KnownIn A t ts S table.now setting.now → Open A t marks.now →
+        NamesKnown A t ts setting.now.subtrees.now j names.now N → StateTried A t S ts N j q result }
 {
     if !is_free(marks, q) {
         return false;
@@ -70,16 +67,13 @@ pub fn first_state(
     from: usize,
     to: usize,
 ) -> usize
-    requires sized { Sized table.now setting.now.transitions.now setting.now.count setting.now.n setting.now.subtrees.now.count setting.now.subtrees.now.arities setting.now.subtrees.now.children
-        setting.now.lows.now setting.now.lasts.now }
+    requires table_len { length table.now ≡ table_bytes }
     requires le_j { 1 ≤ j }
     requires j_le_m { j ≤ setting.now.subtrees.now.count }
     requires parents_within { ParentsFrom setting.now.subtrees.now j from to }
     ensures { (A : Automaton) (t : Tree) (ts : List Tree) (S : (Tree → Bool)) (N : (Tree → ℕ)) →
-        Known A t ts S table.now setting.now.transitions.now setting.now.count setting.now.n setting.now.subtrees.now.count
-        setting.now.subtrees.now.labels setting.now.subtrees.now.arities setting.now.subtrees.now.children setting.now.subtrees.now.states
-        setting.now.weights.now setting.now.classes.now → Open A t marks.now →
-        NamedAbove A t ts setting.now.subtrees.now.count j names.now N → StateSought A t S ts setting.now.n N j result }
+        KnownIn A t ts S table.now setting.now → Open A t marks.now →
+        NamesKnown A t ts setting.now.subtrees.now j names.now N → StateSought A t S ts setting.now.n N j result }
 {
     let mut q = 0;
     while q <= setting.n {
@@ -101,16 +95,13 @@ pub fn fits_own_state(
     from: usize,
     to: usize,
 ) -> bool
-    requires sized { Sized table.now setting.now.transitions.now setting.now.count setting.now.n setting.now.subtrees.now.count setting.now.subtrees.now.arities setting.now.subtrees.now.children
-        setting.now.lows.now setting.now.lasts.now }
+    requires table_len { length table.now ≡ table_bytes }
     requires le_j { 1 ≤ j }
     requires j_le_m { j ≤ setting.now.subtrees.now.count }
     requires parents_within { ParentsFrom setting.now.subtrees.now j from to }
     ensures { (A : Automaton) (t : Tree) (ts : List Tree) (S : (Tree → Bool)) (N : (Tree → ℕ)) →
-        Known A t ts S table.now setting.now.transitions.now setting.now.count setting.now.n setting.now.subtrees.now.count
-        setting.now.subtrees.now.labels setting.now.subtrees.now.arities setting.now.subtrees.now.children setting.now.subtrees.now.states
-        setting.now.weights.now setting.now.classes.now → Open A t marks.now →
-        NamedAbove A t ts setting.now.subtrees.now.count j names.now N → StateTaken A t S ts N j (get_or setting.now.subtrees.now.states (j - 1) 0) result }
+        KnownIn A t ts S table.now setting.now → Open A t marks.now →
+        NamesKnown A t ts setting.now.subtrees.now j names.now N → StateTaken A t S ts N j (get_or setting.now.subtrees.now.states (j - 1) 0) result }
 {
     let q = wide(setting.subtrees.states[j - 1]);
     if q > setting.n {

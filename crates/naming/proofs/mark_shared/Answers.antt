@@ -13,7 +13,7 @@ returns-then-own-n c = record {
 }
 
 pub overflow_add-n : goal.overflow_add-n
-overflow_add-n c = omega (arith, c.requires)
+overflow_add-n c = omega (arith, c.requires.j_le_m, c.args.setting.now.states, c.args.setting.now.shaped.few)
 
 pub returns-then-own-n-2 : goal.returns-then-own-n-2
 returns-then-own-n-2 c = record {
@@ -27,11 +27,12 @@ returns-then-own-n-2 c = record {
 
 pub returns : goal.returns
 returns c = record {
-  shared_len_2 = length-set c.args.shared.now (c.wide-own.result - c.args.n - 1) 1 ∙ c.requires.shared_len;
+  shared_len_2 = length-set c.args.shared.now (c.wide-own.result - c.args.setting.now.n - 1) 1 ∙ c.requires.shared_len;
   marked = marked_other (omega (arith, c.wide-own.ensures, c.if-own-n.false)) (omega (
     arith,
     c.wide-own.ensures,
     c.if-own-n.false,
-    c.requires,
+    c.requires.name_bound,
+    c.args.setting.now.shaped.few,
   ));
 }

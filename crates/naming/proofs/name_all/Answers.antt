@@ -3,9 +3,6 @@ use Rattle.naming.proofs.Giving.{given-bounded, given-next, given-start}
 use Rattle.naming.proofs.Searching.{given-searched}
 use Rattle.naming.proofs.name_all.Goals as goal
 
-pub note_parents-requires : goal.note_parents-requires
-note_parents-requires c = c.requires.shaped
-
 pub loop-j-init : goal.loop-j-init
 loop-j-init c = given-start
 
@@ -13,7 +10,7 @@ pub name_subtree-name-requires : goal.name_subtree-name-requires
 name_subtree-name-requires c =
     let now = c.loop-j in
     record {
-      sized = c.requires;
+      table_len = c.requires;
       shared = now.invariant.shares;
       spans_of = c.note_parents.ensures;
       le_j = c.loop-j-test.true;
@@ -24,8 +21,6 @@ pub mark_shared-requires : goal.mark_shared-requires
 mark_shared-requires c =
     let now = c.loop-j in
     record {
-      n_le_max_states = c.requires.states;
-      m_le_max_nodes = c.requires.shaped.few;
       j_le_m = now.invariant.within;
       name_bound = c.name_subtree-name.ensures.upper_bound;
       shared_len = now.invariant.marks;
@@ -34,14 +29,14 @@ mark_shared-requires c =
 pub bounds-names-j : goal.bounds-names-j
 bounds-names-j c =
     let inv = c.loop-j.invariant in
-    omega (arith, inv.within, inv.size, c.loop-j-test.true, c.requires.shaped.few)
+    omega (arith, inv.within, inv.size, c.loop-j-test.true, c.args.setting.now.shaped.few)
 
 pub loop-j-smaller : goal.loop-j-smaller
 loop-j-smaller c = omega (arith, c.loop-j-test.true)
 
 pub loop-j-preserved : goal.loop-j-preserved
 loop-j-preserved c =
-    given-next c.loop-j.invariant c.loop-j-test.true c.requires.shaped.few
+    given-next c.loop-j.invariant c.loop-j-test.true c.args.setting.now.shaped.few
     c.name_subtree-name.ensures.upper_bound c.mark_shared.ensures.shared_len_2
     c.mark_shared.ensures.marked c.name_subtree-name.ensures.chosen
 

@@ -11,8 +11,6 @@ use Rattle.naming.proofs.name_subtree.Goals as goal
 
 pub anchored-requires : goal.anchored-requires
 anchored-requires c = record {
-  n_le_max_states = c.requires.sized.states;
-  shaped = c.requires.sized.shaped;
   parents_within = spanned c.requires.spans_of c.requires.le_j c.requires.j_le_m c.wide-from.ensures c.wide-to.ensures;
 }
 
@@ -27,7 +25,7 @@ pub find_state-q-requires : goal.find_state-q-requires
 find_state-q-requires c =
     let within = spanned c.requires.spans_of c.requires.le_j c.requires.j_le_m c.wide-from.ensures c.wide-to.ensures in
     record {
-      sized = c.requires.sized;
+      table_len = c.requires.table_len;
       le_j = c.requires.le_j;
       j_le_m = c.requires.j_le_m;
       parents_within = within;
@@ -42,7 +40,7 @@ returns-then-q-setting c = record {
 pub find_subtree-v-requires : goal.find_subtree-v-requires
 find_subtree-v-requires c =
     record {
-      sized = c.requires.sized;
+      table_len = c.requires.table_len;
       spans_of = c.requires.spans_of;
       le_j = c.requires.le_j;
       j_le_m = c.requires.j_le_m;
@@ -50,11 +48,11 @@ find_subtree-v-requires c =
 
 pub overflow_add-result-then-v-setting : goal.overflow_add-result-then-v-setting
 overflow_add-result-then-v-setting c =
-    omega (arith, c.requires.sized.states, c.requires.sized.shaped.few, c.if-v-setting.true)
+    omega (arith, c.args.setting.now.states, c.args.setting.now.shaped.few, c.if-v-setting.true)
 
 pub overflow_cast-result-then-v-setting : goal.overflow_cast-result-then-v-setting
 overflow_cast-result-then-v-setting c =
-    omega (arith, c.requires.sized.states, c.requires.sized.shaped.few, c.if-v-setting.true)
+    omega (arith, c.args.setting.now.states, c.args.setting.now.shaped.few, c.if-v-setting.true)
 
 pub returns-then-v-setting : goal.returns-then-v-setting
 returns-then-v-setting c = record {
@@ -70,11 +68,11 @@ returns-then-v-setting c = record {
 
 pub overflow_add-result-2 : goal.overflow_add-result-2
 overflow_add-result-2 c =
-    omega (arith, c.requires.sized.states, c.requires.sized.shaped.few, c.requires.j_le_m)
+    omega (arith, c.args.setting.now.states, c.args.setting.now.shaped.few, c.requires.j_le_m)
 
 pub overflow_cast-result-2 : goal.overflow_cast-result-2
 overflow_cast-result-2 c =
-    omega (arith, c.requires.sized.states, c.requires.sized.shaped.few, c.requires.j_le_m)
+    omega (arith, c.args.setting.now.states, c.args.setting.now.shaped.few, c.requires.j_le_m)
 
 pub returns : goal.returns
 returns c = record {

@@ -10,7 +10,7 @@ loop-v-init c =
 
 pub fits_subtree-requires : goal.fits_subtree-requires
 fits_subtree-requires c = record {
-  sized = c.requires.sized;
+  table_len = c.requires.table_len;
   spans_of = c.requires.spans_of;
   le_j = c.requires.le_j;
   j_lt_v = c.loop-v.invariant.above;

@@ -18,13 +18,9 @@ like_subtree-requires c =
     (omega (arith, c.wide-to.ensures, c.greatest.ensures.lower_bound)) (omega (arith, c.wide-to.ensures, c.greatest.ensures.lower_bound_2))
     (omega (arith, c.wide-to.ensures, c.greatest.ensures.by_index c.args.setting.now.subtrees.now.count first.known second.known)) in
     record {
-      searchable = c.requires.sized.searchable;
-      holds_transitions_over = c.requires.sized.over;
-      shaped = c.requires.sized.shaped;
       le_j = c.requires.le_j;
       j_lt_v = c.requires.j_lt_v;
       v_le_m = c.requires.v_le_m;
-      uses_within = c.requires.sized.uses;
       parents_within = both.0;
       parents_within_2 = both.1;
     }

@@ -7,14 +7,12 @@ use Rattle.naming.proofs.parents.anchored.Goals as goal
 pub loop-i-init : goal.loop-i-init
 loop-i-init c = (
   omega arith,
-  parents-tested c.requires.shaped c.requires.parents_within
-      (anchor-child c.args.n c.args.subtrees.now.arities c.args.subtrees.now.children c.args.names.now c.args.shared.now c.args.j),
+  parents-tested c.args.setting.now.shaped c.requires.parents_within
+      (anchor-child c.args.setting.now.n c.args.setting.now.subtrees.now.arities c.args.setting.now.subtrees.now.children c.args.names.now c.args.shared.now c.args.j),
 )
 
 pub anchors_child-requires : goal.anchors_child-requires
 anchors_child-requires c = record {
-  n_le_max_states = c.requires.n_le_max_states;
-  shaped = c.requires.shaped;
   le_i = omega arith;
   i_le_m = omega (arith, c.requires.parents_within.known);
 }

@@ -10,21 +10,21 @@ use Rattle.naming.proofs.parents.is_child.Goals as goal
 pub loop-k-init : goal.loop-k-init
 unfolding is_child
 loop-k-init c =
-    (c.wide-arity.ensures, any-start (get_or c.args.subtrees.now.arities (c.args.i - 1) 0) (omega arith))
+    (c.wide-arity.ensures, any-start (get_or c.args.setting.now.subtrees.now.arities (c.args.i - 1) 0) (omega arith))
 
 pub overflow_add-i : goal.overflow_add-i
 overflow_add-i c =
     omega (
       arith,
-      c.requires.shaped.few,
-      c.requires.shaped.narrow (c.args.i - 1) (omega arith),
+      c.args.setting.now.shaped.few,
+      c.args.setting.now.shaped.narrow (c.args.i - 1) (omega arith),
       c.loop-k-test.true,
       c.loop-k.invariant.0,
     )
 
-pub bounds-subtrees-i-in-loop-k : goal.bounds-subtrees-i-in-loop-k
-bounds-subtrees-i-in-loop-k c =
-    omega (arith, c.requires.shaped.few, c.requires.shaped.narrow (c.args.i - 1) (omega arith))
+pub bounds-setting-i-in-loop-k : goal.bounds-setting-i-in-loop-k
+bounds-setting-i-in-loop-k c =
+    omega (arith, c.args.setting.now.shaped.few, c.args.setting.now.shaped.narrow (c.args.i - 1) (omega arith))
 
 pub returns-then-wide-j : goal.returns-then-wide-j
 returns-then-wide-j c =

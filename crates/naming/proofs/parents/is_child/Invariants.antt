@@ -7,5 +7,5 @@ use Rattle.lists.proofs.Loops.{AnyFrom}
 use Rattle.naming.proofs.parents.is_child.Given as goal
 
 abbrev pub invariant-loop-k : goal.invariant-loop-k
-invariant-loop-k l = (l.arity ≡ get_or l.subtrees.arities (l.i - 1) 0) × AnyFrom (is_child l.subtrees.arities l.subtrees.children l.i l.j) (child_is l.subtrees.children l.i l.j) (get_or l.subtrees.arities (l.i
+invariant-loop-k l = (l.arity ≡ get_or l.setting.subtrees.now.arities (l.i - 1) 0) × AnyFrom (is_child l.setting.subtrees.now.arities l.setting.subtrees.now.children l.i l.j) (child_is l.setting.subtrees.now.children l.i l.j) (get_or l.setting.subtrees.now.arities (l.i
     - 1) 0) l.k

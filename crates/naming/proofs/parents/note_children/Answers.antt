@@ -19,25 +19,25 @@ loop-k-init c = (
 
 pub overflow_add-i : goal.overflow_add-i
 overflow_add-i c =
-    omega (arith, c.requires.shaped.few, c.requires.shaped.narrow c.args.i c.requires.i_lt_m, c.loop-k-test.true, c.loop-k.invariant.0)
+    omega (arith, c.args.setting.now.shaped.few, c.args.setting.now.shaped.narrow c.args.i c.requires.i_lt_m, c.loop-k-test.true, c.loop-k.invariant.0)
 
-pub bounds-subtrees-i-in-loop-k : goal.bounds-subtrees-i-in-loop-k
-bounds-subtrees-i-in-loop-k c =
-    omega (arith, c.requires.shaped.few, c.requires.shaped.narrow c.args.i c.requires.i_lt_m, c.loop-k-test.true, c.loop-k.invariant.0)
+pub bounds-setting-i-in-loop-k : goal.bounds-setting-i-in-loop-k
+bounds-setting-i-in-loop-k c =
+    omega (arith, c.args.setting.now.shaped.few, c.args.setting.now.shaped.narrow c.args.i c.requires.i_lt_m, c.loop-k-test.true, c.loop-k.invariant.0)
 
 pub note_child-requires : goal.note_child-requires
 note_child-requires c =
     let now = c.loop-k in
-    let inside : now.k < get_or c.args.subtrees.now.arities c.args.i 0 =
+    let inside : now.k < get_or c.args.setting.now.subtrees.now.arities c.args.i 0 =
     omega (arith, now.invariant.0, c.loop-k-test.true) in
     record {
-      i_lt_max_nodes = omega (arith, c.requires.shaped.few);
-      le_j = omega (arith, c.wide-j.ensures, c.requires.shaped.child-some c.args.i now.k c.requires.i_lt_m inside);
+      i_lt_max_nodes = omega (arith, c.args.setting.now.shaped.few);
+      le_j = omega (arith, c.wide-j.ensures, c.args.setting.now.shaped.child-some c.args.i now.k c.requires.i_lt_m inside);
       j_le_max_nodes = omega (
         arith,
         c.wide-j.ensures,
-        c.requires.shaped.few,
-        c.requires.shaped.child-before c.args.i now.k c.requires.i_lt_m inside,
+        c.args.setting.now.shaped.few,
+        c.args.setting.now.shaped.child-before c.args.i now.k c.requires.i_lt_m inside,
       );
       froms_len = now.invariant.2.sizes.0;
       tos_len = now.invariant.2.sizes.1;
@@ -48,7 +48,7 @@ loop-k-preserved c =
     let now = c.loop-k in (
       now.invariant.0,
       omega (arith, c.loop-k-test.true),
-      noted-child c.requires.shaped c.requires.i_lt_m (omega (arith, now.invariant.0, c.loop-k-test.true))
+      noted-child c.args.setting.now.shaped c.requires.i_lt_m (omega (arith, now.invariant.0, c.loop-k-test.true))
           c.wide-j.ensures now.invariant.2
           c.note_child.ensures,
     )
@@ -56,4 +56,4 @@ loop-k-preserved c =
 pub returns : goal.returns
 returns c =
     let now = c.loop-k in
-    noted-node c.requires.shaped c.requires.i_lt_m (omega (arith, now.invariant.0, c.loop-k-test.false)) now.invariant.2
+    noted-node c.args.setting.now.shaped c.requires.i_lt_m (omega (arith, now.invariant.0, c.loop-k-test.false)) now.invariant.2

@@ -21,4 +21,4 @@ loop-i-init c = (
 pub returns : goal.returns
 returns c =
     let now = c.loop-i in
-    noted-spans c.requires now.invariant.0 (omega (arith, c.loop-i-test.false)) now.invariant.1
+    noted-spans c.args.setting.now.shaped now.invariant.0 (omega (arith, c.loop-i-test.false)) now.invariant.1

@@ -7,13 +7,12 @@ use Rattle.naming.proofs.parents.raised.Goals as goal
 pub loop-i-init : goal.loop-i-init
 loop-i-init c = (
   omega arith,
-  parents-tested c.requires.shaped c.requires.parents_within
-      (raiser-child c.args.n c.args.subtrees.now.arities c.args.subtrees.now.children c.args.names.now c.args.j),
+  parents-tested c.args.setting.now.shaped c.requires.parents_within
+      (raiser-child c.args.setting.now.n c.args.setting.now.subtrees.now.arities c.args.setting.now.subtrees.now.children c.args.names.now c.args.j),
 )
 
 pub raises_child-requires : goal.raises_child-requires
 raises_child-requires c = record {
-  shaped = c.requires.shaped;
   le_i = omega arith;
   i_le_m = omega (arith, c.requires.parents_within.known);
 }

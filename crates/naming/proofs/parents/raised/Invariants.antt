@@ -7,8 +7,5 @@ use Rattle.lists.proofs.Loops.{AnyFrom}
 use Rattle.naming.proofs.parents.raised.Given as goal
 
 abbrev pub invariant-loop-i : goal.invariant-loop-i
-invariant-loop-i l = (l.from ≤ l.i) × AnyFrom (any (raises l.n l.subtrees.arities l.subtrees.children l.names l.j) (up_from (l.j + 1) (l.subtrees.count - l.j)))
-    (raises l.n l.subtrees.arities l.subtrees.children l.names l.j) (l.from + 1 + (l.to - l.from)) (l.i + 1)
-
-abbrev pub decreases-loop-i : goal.decreases-loop-i
-decreases-loop-i l = l.to - l.i
+invariant-loop-i l = (l.from ≤ l.i) × AnyFrom (any (raises l.setting.n l.setting.subtrees.now.arities l.setting.subtrees.now.children l.names l.j) (up_from (l.j + 1) (l.setting.subtrees.now.count - l.j)))
+    (raises l.setting.n l.setting.subtrees.now.arities l.setting.subtrees.now.children l.names l.j) (l.from + 1 + (l.to - l.from)) (l.i + 1)

@@ -6,20 +6,20 @@ use borrow.Author.Tests.{le-ltb, lt-ltb}
 use Rattle.naming.specs.Parents.{raises}
 use Rattle.naming.proofs.parents.raises_child.Goals as goal
 
-pub returns-then-wide-n : goal.returns-then-wide-n
+pub returns-then-wide-setting : goal.returns-then-wide-setting
 unfolding raises
-returns-then-wide-n c =
-    rw (le-ltb c.args.n ((get_or c.args.names.now (c.args.i - 1) 0)) (omega (
+returns-then-wide-setting c =
+    rw (le-ltb c.args.setting.now.n ((get_or c.args.names.now (c.args.i - 1) 0)) (omega (
       arith,
       c.wide.ensures,
-      c.if-wide-n.true,
+      c.if-wide-setting.true,
     )))
 
 pub returns : goal.returns
 unfolding raises
 returns c =
-    rw (lt-ltb c.args.n ((get_or c.args.names.now (c.args.i - 1) 0)) (omega (
+    rw (lt-ltb c.args.setting.now.n ((get_or c.args.names.now (c.args.i - 1) 0)) (omega (
       arith,
       c.wide.ensures,
-      c.if-wide-n.false,
+      c.if-wide-setting.false,
     ))) c.is_child.ensures

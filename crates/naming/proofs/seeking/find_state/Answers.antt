@@ -10,7 +10,7 @@ use Rattle.naming.proofs.Parentage.{state-most}
 use Rattle.naming.proofs.seeking.find_state.Goals as goal
 
 pub raised-requires : goal.raised-requires
-raised-requires c = record { shaped = c.requires.sized.shaped; parents_within = c.requires.parents_within }
+raised-requires c = record { parents_within = c.requires.parents_within }
 
 pub returns-then-raised : goal.returns-then-raised
 returns-then-raised c =
@@ -22,7 +22,7 @@ returns-then-raised c =
 pub fits_own_state-requires : goal.fits_own_state-requires
 fits_own_state-requires c =
     record {
-      sized = c.requires.sized;
+      table_len = c.requires.table_len;
       le_j = c.requires.le_j;
       j_le_m = c.requires.j_le_m;
       parents_within = c.requires.parents_within;
@@ -41,7 +41,7 @@ returns-then-fits_own_state c =
 
 pub fits_state-requires : goal.fits_state-requires
 fits_state-requires c = record {
-  sized = c.requires.sized;
+  table_len = c.requires.table_len;
   le_j = c.requires.le_j;
   j_le_m = c.requires.j_le_m;
   parents_within = c.requires.parents_within;
@@ -55,7 +55,7 @@ returns-then-fits_state c =
 pub other_state-requires : goal.other_state-requires
 other_state-requires c =
     record {
-      sized = c.requires.sized;
+      table_len = c.requires.table_len;
       le_j = c.requires.le_j;
       j_le_m = c.requires.j_le_m;
       parents_within = c.requires.parents_within;

@@ -6,9 +6,6 @@ use Rattle.naming.proofs.seeking.other_state.Goals as goal
 pub slot_of-z-requires : goal.slot_of-z-requires
 slot_of-z-requires c =
     record {
-      searchable = c.requires.sized.searchable;
-      holds_transitions_over = c.requires.sized.over;
-      shaped = c.requires.sized.shaped;
       le_j = c.requires.le_j;
       j_le_m = c.requires.j_le_m;
       parents_within = c.requires.parents_within;
@@ -16,7 +13,7 @@ slot_of-z-requires c =
 
 pub state_in_slot-requires : goal.state_in_slot-requires
 state_in_slot-requires c = record {
-  sized = c.requires.sized;
+  table_len = c.requires.table_len;
   le_j = c.requires.le_j;
   j_le_m = c.requires.j_le_m;
   parents_within = c.requires.parents_within;
@@ -31,7 +28,7 @@ returns-then-z-ne0 c =
 pub first_state-requires : goal.first_state-requires
 first_state-requires c =
     record {
-      sized = c.requires.sized;
+      table_len = c.requires.table_len;
       le_j = c.requires.le_j;
       j_le_m = c.requires.j_le_m;
       parents_within = c.requires.parents_within;

@@ -1,23 +1,19 @@
 -- `naming::slots::slot_of` meets its contract: the frame's slot if there is one, else that of a use.
-use Rattle.alike.proofs.Carried.{shaped-nodes}
 use Rattle.naming.proofs.Slotting.{frame-slotted, use-slotted}
 use Rattle.naming.proofs.slots.slot_of.Goals as goal
 
 pub frame_slot_of-z-requires : goal.frame_slot_of-z-requires
-frame_slot_of-z-requires c = record { shaped = c.requires.shaped; to_le_m = c.requires.parents_within.known }
+frame_slot_of-z-requires c = record { to_le_m = c.requires.parents_within.known }
 
 pub returns-then-z-ne0 : goal.returns-then-z-ne0
 returns-then-z-ne0 c = record {
   place_lt_max_arity = c.frame_slot_of-z.ensures.place;
-  states_slotted = λ A t ts S N holds X some. frame-slotted holds c.requires.searchable X c.frame_slot_of-z.ensures some;
+  states_slotted = λ A t ts S N holds X some. frame-slotted holds c.args.setting.now.searchable X c.frame_slot_of-z.ensures some;
 }
 
 pub use_slot-requires : goal.use_slot-requires
 use_slot-requires c =
     record {
-      searchable = c.requires.searchable;
-      holds_transitions_over = c.requires.holds_transitions_over;
-      nodes = shaped-nodes c.requires.shaped;
       le_j = c.requires.le_j;
       j_le_m = c.requires.j_le_m;
       parents_within = c.requires.parents_within;

@@ -7,7 +7,7 @@ use Rattle.naming.proofs.slots.state_in_slot.Goals as goal
 
 pub first_in_slot-i-requires : goal.first_in_slot-i-requires
 first_in_slot-i-requires c = record {
-  searchable = c.requires.sized.searchable;
+  searchable = c.args.setting.now.searchable;
   place_lt_max_arity = c.requires.place_lt_max_arity;
 }
 
@@ -17,11 +17,11 @@ loop-i-init c =
 
 pub overflow_mul-i : goal.overflow_mul-i
 overflow_mul-i c =
-    omega (arith, c.requires.sized.over.runs.few, c.loop-i-test.true)
+    omega (arith, c.args.setting.now.over.runs.few, c.loop-i-test.true)
 
 pub arg_of-q-requires : goal.arg_of-q-requires
 arg_of-q-requires c = record {
-  transition_bytes_in_bounds = omega (arith, c.requires.sized.over.runs.inside, c.loop-i-test.true);
+  transition_bytes_in_bounds = omega (arith, c.args.setting.now.over.runs.inside, c.loop-i-test.true);
   k_lt_max_arity = c.requires.place_lt_max_arity;
 }
 
@@ -29,32 +29,32 @@ pub fits_state-requires : goal.fits_state-requires
 fits_state-requires c =
     let here = c.loop-i.i in
     record {
-      sized = c.requires.sized;
+      table_len = c.requires.table_len;
       le_j = c.requires.le_j;
       j_le_m = c.requires.j_le_m;
       parents_within = c.requires.parents_within;
       q_le_n = omega (
         arith,
         c.arg_of-q.ensures.value,
-        place-state c.requires.sized.searchable c.requires.sized.over here c.args.z.place
+        place-state c.args.setting.now.searchable c.args.setting.now.over here c.args.z.place
             c.loop-i-test.true c.requires.place_lt_max_arity,
       );
     }
 
 pub returns-then-fits_state : goal.returns-then-fits_state
 returns-then-fits_state c =
-    let known = place-state c.requires.sized.searchable c.requires.sized.over c.loop-i.i c.args.z.place
+    let known = place-state c.args.setting.now.searchable c.args.setting.now.over c.loop-i.i c.args.z.place
     c.loop-i-test.true c.requires.place_lt_max_arity in
     λ A t ts S N K O X Z. state-found (omega (arith, c.arg_of-q.ensures.value, known))
     ((c.fits_state.ensures A t ts S N K O X).yes c.if-fits_state.true)
 
 pub overflow_add-i : goal.overflow_add-i
 overflow_add-i c =
-    omega (arith, c.requires.sized.over.runs.few, c.loop-i-test.true)
+    omega (arith, c.args.setting.now.over.runs.few, c.loop-i-test.true)
 
 pub next_in_slot-i-requires : goal.next_in_slot-i-requires
 next_in_slot-i-requires c = record {
-  searchable = c.requires.sized.searchable;
+  searchable = c.args.setting.now.searchable;
   place_lt_max_arity = c.requires.place_lt_max_arity;
 }
 
@@ -75,7 +75,7 @@ loop-i-preserved c =
     }
 
 pub overflow_add-result : goal.overflow_add-result
-overflow_add-result c = omega (arith, c.requires.sized.states)
+overflow_add-result c = omega (arith, c.args.setting.now.states)
 
 pub returns : goal.returns
 returns c =

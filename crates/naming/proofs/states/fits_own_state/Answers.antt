@@ -10,7 +10,7 @@ returns-then-q-setting c = λ A t ts S N K O X. record { yes = λ d. absurd (tru
 
 pub fits_state-requires : goal.fits_state-requires
 fits_state-requires c = record {
-  sized = c.requires.sized;
+  table_len = c.requires.table_len;
   le_j = c.requires.le_j;
   j_le_m = c.requires.j_le_m;
   parents_within = c.requires.parents_within;

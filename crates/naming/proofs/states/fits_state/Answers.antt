@@ -7,7 +7,7 @@ use Rattle.naming.proofs.states.fits_state.Goals as goal
 
 pub is_free-requires : goal.is_free-requires
 is_free-requires c =
-    omega (arith, c.requires.sized.states, c.requires.q_le_n)
+    omega (arith, c.args.setting.now.states, c.requires.q_le_n)
 
 pub returns-then-not-is_free : goal.returns-then-not-is_free
 returns-then-not-is_free c =
@@ -15,18 +15,14 @@ returns-then-not-is_free c =
 
 pub class_in-class-requires : goal.class_in-class-requires
 class_in-class-requires c = record {
-  table_len = c.requires.sized.table;
-  q_lt_byte_values = omega (arith, c.requires.sized.states, c.requires.q_le_n);
+  table_len = c.requires.table_len;
+  q_lt_byte_values = omega (arith, c.args.setting.now.states, c.requires.q_le_n);
 }
 
 pub like_state-requires : goal.like_state-requires
 like_state-requires c = record {
-  searchable = c.requires.sized.searchable;
-  holds_transitions_over = c.requires.sized.over;
-  shaped = c.requires.sized.shaped;
   le_j = c.requires.le_j;
   j_le_m = c.requires.j_le_m;
-  uses_within = c.requires.sized.uses;
   parents_within = c.requires.parents_within;
 }
 
