@@ -16,10 +16,13 @@ use Rattle.marking.specs.Marks.{marked, nonzero}
 use Rattle.pairs.specs.Counts.{Open}
 use Rattle.subtrees.specs.Store.{tree_numbered}
 use Rattle.trees.specs.Tree.{Tree}
-use Rattle.naming.specs.Choice.{NoState, NoSubtree, OwnChosen, StateChosen, StateSought, StateTried}
-use Rattle.naming.specs.Choice.{SubtreeChosen, SubtreeSought, SubtreeTried}
+use Rattle.naming.specs.Choice.{NoState, NoSubtree, OwnChosen, StateTried}
+use Rattle.naming.specs.Choice.{SubtreeTried}
 use Rattle.alike.specs.Known.{NamedAbove}
-use Rattle.naming.specs.Known.{Known}
+use Rattle.alike.specs.Settings.{NamesKnown}
+use Rattle.naming.specs.Settings.{ClassedIn, KnownIn}
+use Rattle.uses.specs.declared.setting.Setting.{Setting}
+use Rattle.uses.specs.Settings.{HoldsIn}
 use Rattle.lists.proofs.Tests.{or_cases, or_left, or_right}
 
 pub not-zero : (x : ℕ) → not (eqb x 0) ≡ nonzero x
@@ -77,15 +80,6 @@ module _ {A : Automaton} {t : Tree} {S : Tree → Bool} {ts : List Tree} {N : Tr
     each = below_more (λ q. Free A t q → like_state A t S N (tree_numbered ts j) q ≡ false) p h.each (d.no refl);
   }
 
-  pub state-found : {n p : ℕ} → p ≤ n → StateChosen A t S ts N j p → StateSought A t S ts n N j p
-  state-found l d = record { none = λ h. absurd (omega arith); there = λ _. d }
-
-  pub state-none : {n p : ℕ} → NoState A t S ts N j p → n < p → StateSought A t S ts n N j p
-  state-none h l = record {
-    none = λ _. record { each = λ q k. h.each q (omega arith) };
-    there = λ e. absurd (omega arith);
-  }
-
 -- ---- subtrees
 
 module _ {A : Automaton} {t : Tree} {S : Tree → Bool} {ts : List Tree} {n : ℕ} {N : Tree → ℕ} {j : ℕ} where
@@ -115,31 +109,19 @@ module _ {A : Automaton} {t : Tree} {S : Tree → Bool} {ts : List Tree} {n : �
         (λ _. d.no refl) v b a;
   }
 
-  pub subtree-found : {m p : ℕ} → p ≤ m → SubtreeChosen A t S ts n N j p → SubtreeSought A t S ts n m N j p
-  subtree-found l d = record { none = λ h. absurd (omega arith); there = λ _. d }
-
-  pub subtree-none : {m p : ℕ} → NoSubtree A t S ts n N j p → m < p → SubtreeSought A t S ts n m N j p
-  subtree-none h l = record {
-    none = λ _. record { each = λ v k e. h.each v k (omega arith) };
-    there = λ e. absurd (omega arith);
-  }
-
   -- nothing was found: the name is the subtree's own
-  pub own-chosen : {m p v : ℕ} → StateSought A t S ts n N j p → n < p → SubtreeSought A t S ts n m N j v → m < v →
+  pub own-chosen : {m : ℕ} → NoState A t S ts N j (n + 1) → NoSubtree A t S ts n N j (m + 1) →
       OwnChosen A t S ts n m N j (n + j)
-  own-chosen x a y b = record { same = refl; no-state = x.none a; no-subtree = y.none b }
+  own-chosen x y = record { same = refl; no-state = x; no-subtree = y }
 
 -- ---- loops
 
 -- the states below p were tried
-pub record StatesTried (b s : List ℕ) (count n m : ℕ) (l r c q w cl o names : List ℕ) (j p : ℕ) : Type 0 where
-  pub within : p ≤ n + 1
+pub record StatesTried (b : List ℕ) (g : Setting) (o names : List ℕ) (j p : ℕ) : Type 0 where
   pub each : (A : Automaton) (t : Tree) (ts : List Tree) (S : Tree → Bool) (N : Tree → ℕ) →
-      Known A t ts S b s count n m l r c q w cl → Open A t o → NamedAbove A t ts m j names N → NoState A t S ts N j p
+      KnownIn A t ts S b g → Open A t o → NamesKnown A t ts g.subtrees.now j names N → NoState A t S ts N j p
 
 -- the subtrees above j and below p were tried
-pub record SubtreesTried (b s : List ℕ) (count n m : ℕ) (l r c q w cl names : List ℕ) (j p : ℕ) : Type 0 where
-  pub above : j < p
-  pub within : p ≤ m + 1
+pub record SubtreesTried (g : Setting) (names : List ℕ) (j p : ℕ) : Type 0 where
   pub each : (A : Automaton) (t : Tree) (ts : List Tree) (S : Tree → Bool) (N : Tree → ℕ) →
-      Known A t ts S b s count n m l r c q w cl → NamedAbove A t ts m j names N → NoSubtree A t S ts n N j p
+      HoldsIn A t ts g → ClassedIn S ts g → NamesKnown A t ts g.subtrees.now j names N → NoSubtree A t S ts g.n N j p

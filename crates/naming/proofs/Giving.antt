@@ -13,26 +13,30 @@ use Rattle.automata.specs.Automaton.{Automaton}
 use Rattle.format.specs.Format.{max_nodes}
 use Rattle.naming.specs.Choice.{Bounded, Chosen}
 use Rattle.alike.specs.Known.{NamedAbove}
-use Rattle.naming.specs.Known.{Known}
+use Rattle.alike.specs.Settings.{NamesKnown}
+use Rattle.naming.specs.Settings.{KnownIn}
+use Rattle.uses.specs.declared.setting.Setting.{Setting}
 use Rattle.naming.specs.Parents.{Marked, Shared}
 use Rattle.pairs.specs.Counts.{Open}
 use Rattle.trees.specs.Tree.{Tree}
 
 -- the subtrees above j have their names
-pub record NamesGiven (b s : List ℕ) (count n m : ℕ) (l r c q w cl o names shared : List ℕ) (j : ℕ) : Type 0 where
-  pub within : j ≤ m
+pub record NamesGiven (b : List ℕ) (g : Setting) (o names shared : List ℕ) (j : ℕ) : Type 0 where
+  pub within : j ≤ g.subtrees.now.count
   pub size : length names ≡ max_nodes
   pub marks : length shared ≡ max_nodes
-  pub bounded : (x : ℕ) → j < x → x ≤ m → get_or names (x - 1) 0 ≤ n + m
-  pub shares : Shared n m j names shared
+  pub bounded : (x : ℕ) → j < x → x ≤ g.subtrees.now.count → get_or names (x - 1) 0 ≤ g.n + g.subtrees.now.count
+  pub shares : Shared g.n g.subtrees.now.count j names shared
   pub chosen : (A : Automaton) (t : Tree) (ts : List Tree) (S : Tree → Bool) (N : Tree → ℕ) →
-      Known A t ts S b s count n m l r c q w cl → Open A t o → (x : ℕ) → j < x → x ≤ m →
-      NamedAbove A t ts m x names N → Chosen A t S ts n m N x (get_or names (x - 1) 0)
+      KnownIn A t ts S b g → Open A t o → (x : ℕ) → j < x → x ≤ g.subtrees.now.count →
+      NamesKnown A t ts g.subtrees.now x names N →
+      Chosen A t S ts g.n g.subtrees.now.count N x (get_or names (x - 1) 0)
 
-module _ {b s : List ℕ} {count n m : ℕ} {l r c q w cl o : List ℕ} where
-  pub given-start : NamesGiven b s count n m l r c q w cl o (replicate max_nodes 0) (replicate max_nodes 0) m
-  given-start = record {
-    within = omega arith;
+module _ {b : List ℕ} {g : Setting} {o : List ℕ} where
+  pub given-start : {i : ℕ} → g.subtrees.now.count ≤ i → i ≤ g.subtrees.now.count →
+      NamesGiven b g o (replicate max_nodes 0) (replicate max_nodes 0) i
+  given-start all within = record {
+    within = within;
     size = length-replicate {A = ℕ} max_nodes 0;
     marks = length-replicate {A = ℕ} max_nodes 0;
     bounded = λ x h k. absurd (omega arith);
@@ -41,11 +45,11 @@ module _ {b s : List ℕ} {count n m : ℕ} {l r c q w cl o : List ℕ} where
   }
 
   module _ {names shared shared' : List ℕ} {j y : ℕ}
-      (inv : NamesGiven b s count n m l r c q w cl o names shared j) (some : 1 ≤ j) (few : m ≤ max_nodes)
-      (small : y ≤ n + m) (sizes : length shared' ≡ max_nodes) (mark : Marked n j y shared shared')
+      (inv : NamesGiven b g o names shared j) (some : 1 ≤ j) (few : g.subtrees.now.count ≤ max_nodes)
+      (small : y ≤ g.n + g.subtrees.now.count) (sizes : length shared' ≡ max_nodes) (mark : Marked g.n j y shared shared')
       (found : (A : Automaton) (t : Tree) (ts : List Tree) (S : Tree → Bool) (N : Tree → ℕ) →
-      Known A t ts S b s count n m l r c q w cl → Open A t o → NamedAbove A t ts m j names N →
-      Chosen A t S ts n m N j y) where
+      KnownIn A t ts S b g → Open A t o → NamedAbove A t ts g.subtrees.now.count j names N →
+      Chosen A t S ts g.n g.subtrees.now.count N j y) where
     abbrev more : List ℕ
     more = set names (j - 1) y
 
@@ -57,7 +61,7 @@ module _ {b s : List ℕ} {count n m : ℕ} {l r c q w cl o : List ℕ} where
     above x h = get_or-set_other names (j - 1) (x - 1) y 0 (λ e. omega arith)
 
     -- what holds at j and above j holds above j - 1
-    from : (P : ℕ → Type 0) → P j → ((x : ℕ) → j < x → x ≤ m → P x) → (x : ℕ) → j - 1 < x → x ≤ m → P x
+    from : (P : ℕ → Type 0) → P j → ((x : ℕ) → j < x → x ≤ g.subtrees.now.count → P x) → (x : ℕ) → j - 1 < x → x ≤ g.subtrees.now.count → P x
     from P a k x h e = go (eqb x j) refl
       where
         go : (d : Bool) → eqb x j ≡ d → P x
@@ -65,34 +69,34 @@ module _ {b s : List ℕ} {count n m : ℕ} {l r c q w cl o : List ℕ} where
         go false d = let ne = eqb-false x j d in k x (omega arith) e
 
     before : {A : Automaton} {t : Tree} {ts : List Tree} {N : Tree → ℕ} {x : ℕ} → j ≤ x →
-        NamedAbove A t ts m x more N → NamedAbove A t ts m x names N
+        NamedAbove A t ts g.subtrees.now.count x more N → NamedAbove A t ts g.subtrees.now.count x names N
     before {A} {t} {ts} {N} {x} h X = record {
       others = X.others;
       named = λ k a e. X.named k a e ∙ above k (omega arith);
     }
 
-    shares : Shared n m (j - 1) more shared'
+    shares : Shared g.n g.subtrees.now.count (j - 1) more shared'
     shares = record {
-      each = λ x i h k. from (λ x. 1 ≤ i → get_or more (x - 1) 0 ≡ n + i → x ≢ i → get_or shared' (i - 1) 0 ≢ 0)
+      each = λ x i h k. from (λ x. 1 ≤ i → get_or more (x - 1) 0 ≡ g.n + i → x ≢ i → get_or shared' (i - 1) 0 ≢ 0)
           (λ a e d. mark.new i a (sym here ∙ e) d)
           (λ x h k a e d. mark.kept (i - 1) (inv.shares.each x i h k a (sym (above x h) ∙ e) d)) x h k;
     }
 
-    pub given-next : NamesGiven b s count n m l r c q w cl o more shared' (j - 1)
+    pub given-next : NamesGiven b g o more shared' (j - 1)
     given-next = record {
       within = omega (arith, inv.within);
       size = length-set names (j - 1) y ∙ inv.size;
       marks = sizes;
-      bounded = from (λ x. get_or more (x - 1) 0 ≤ n + m) (omega (arith, here))
+      bounded = from (λ x. get_or more (x - 1) 0 ≤ g.n + g.subtrees.now.count) (omega (arith, here))
           (λ x h k. omega (arith, above x h, inv.bounded x h k));
       shares = shares;
       chosen = λ A t ts S N K O. from
-          (λ x. NamedAbove A t ts m x more N → Chosen A t S ts n m N x (get_or more (x - 1) 0))
-          (λ X. subst (Chosen A t S ts n m N j) (sym here) (found A t ts S N K O (before (omega arith) X)))
-          (λ x h k X. subst (Chosen A t S ts n m N x) (sym (above x h))
+          (λ x. NamedAbove A t ts g.subtrees.now.count x more N → Chosen A t S ts g.n g.subtrees.now.count N x (get_or more (x - 1) 0))
+          (λ X. subst (Chosen A t S ts g.n g.subtrees.now.count N j) (sym here) (found A t ts S N K O (before (omega arith) X)))
+          (λ x h k X. subst (Chosen A t S ts g.n g.subtrees.now.count N x) (sym (above x h))
           (inv.chosen A t ts S N K O x h k (before (omega arith) X)));
     }
 
-  pub given-bounded : {names shared : List ℕ} {j : ℕ} → NamesGiven b s count n m l r c q w cl o names shared j →
-      j ≤ 0 → Bounded n m names
+  pub given-bounded : {names shared : List ℕ} {j : ℕ} → NamesGiven b g o names shared j →
+      j ≤ 0 → Bounded g.n g.subtrees.now.count names
   given-bounded inv h = record { each = λ x a k. inv.bounded x (omega arith) k }

@@ -17,7 +17,8 @@ use Rattle.trees.specs.Tree.{Tree}
 use Rattle.naming.specs.Choice.{Chosen, OwnChosen, SharedChosen, StateChosen, name_in}
 use Rattle.alike.specs.Known.{Holds}
 use Rattle.alike.specs.Known.{NamedAbove}
-use Rattle.naming.specs.Known.{Known}
+use Rattle.naming.specs.Settings.{KnownIn}
+use Rattle.uses.specs.declared.setting.Setting.{Setting}
 use Rattle.pairs.specs.Counts.{Open}
 use Rattle.automata.proofs.Distinguishable.{run_fits}
 use Rattle.automata.proofs.Names.{in-subtree, subtree-in}
@@ -112,9 +113,9 @@ module _ {A : Automaton} {t : Tree} {ts : List Tree} {n m : ℕ} {l r c q : List
           let (x, low, high, e) = in-number h u (subtree-in t u i) in
           subst Found e (way x low high (chosen x low high))
 
-pub given-searched : {b s : List ℕ} {count n m : ℕ} {l r c q w cl o names shared : List ℕ} {j : ℕ} →
-    NamesGiven b s count n m l r c q w cl o names shared j → j ≤ 0 → {A : Automaton} {t : Tree} {ts : List Tree}
-    {S : Tree → Bool} → Known A t ts S b s count n m l r c q w cl → Open A t o →
+pub given-searched : {b : List ℕ} {g : Setting} {o names shared : List ℕ} {j : ℕ} →
+    NamesGiven b g o names shared j → j ≤ 0 → {A : Automaton} {t : Tree} {ts : List Tree}
+    {S : Tree → Bool} → KnownIn A t ts S b g → Open A t o →
     Searched A t S (subtree_number ts) (name_in ts names)
 given-searched {names = names} inv z {A} {t} {ts} {S} K O =
     all-searched S (holds-subtrees K.holds) K.classes.fits K.size names

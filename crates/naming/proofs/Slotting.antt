@@ -22,12 +22,13 @@ use Rattle.subtrees.specs.Store.{tree_numbered}
 use Rattle.table.specs.Layout.{arg_of, arity_of}
 use Rattle.trees.specs.Tree.{Tree}
 use Rattle.uses.specs.Uses.{Holds}
-use Rattle.naming.specs.Choice.{StateSought, StateTried, StatesSlotted}
-use Rattle.naming.specs.Known.{Known}
+use Rattle.naming.specs.Choice.{NoState, StateTried, StatesSlotted}
+use Rattle.alike.specs.Settings.{NamesKnown}
+use Rattle.naming.specs.Settings.{KnownIn}
+use Rattle.uses.specs.declared.setting.Setting.{Setting}
 use Rattle.alike.proofs.Carried.{holds-subtrees}
 use Rattle.alike.proofs.Criterion.{like-state-parts}
 use Rattle.lists.proofs.Tests.{and_right}
-use Rattle.naming.proofs.Choosing.{state-none}
 use Rattle.naming.proofs.Parentage.{refuted}
 
 -- a place of a transition has a state, or 0 beyond its arguments
@@ -69,10 +70,10 @@ module _ {A : Automaton} {t : Tree} {S : Tree → Bool} {ts : List Tree} {s : Li
             absurd (out x (omega arith) h d)
 
     -- all in the slot were tried
-    pub none_left : {n c i p : ℕ} → StatesSlotted A t S ts s c N j z → NoneSlotted A t S ts s N j z i → c ≤ i → n < p →
-        StateSought A t S ts n N j p
-    none_left {n} {c} {i} {p} slotted before end l =
-        state-none (record { each = λ q h f. refuted (like_state A t S N (tree_numbered ts j) q) (λ e. no q f e) }) l
+    pub none_left : {c i p : ℕ} → StatesSlotted A t S ts s c N j z → NoneSlotted A t S ts s N j z i → c ≤ i →
+        NoState A t S ts N j p
+    none_left {c} {i} slotted before end =
+        record { each = λ q h f. refuted (like_state A t S N (tree_numbered ts j) q) (λ e. no q f e) }
       where
         no : (q : ℕ) → Free A t q → like_state A t S N (tree_numbered ts j) q ≡ true → ⊥
         no q f e =
@@ -82,13 +83,12 @@ module _ {A : Automaton} {t : Tree} {S : Tree → Bool} {ts : List Tree} {s : Li
 -- ---- the loop
 
 -- the states in the slot before index i were tried
-pub record SlotTried (b s : List ℕ) (count n m : ℕ) (l r c q w cl o names : List ℕ) (j : ℕ) (z : Slot) (i : ℕ) : Type 0
-  where
-    pub within : i ≤ count
-    pub here : i < count → InSlot s z i
-    pub each : (A : Automaton) (t : Tree) (ts : List Tree) (S : Tree → Bool) (N : Tree → ℕ) →
-        Known A t ts S b s count n m l r c q w cl → Open A t o → NamedAbove A t ts m j names N →
-        NoneSlotted A t S ts s N j z i
+pub record SlotTried (b : List ℕ) (g : Setting) (o names : List ℕ) (j : ℕ) (z : Slot) (i : ℕ) : Type 0 where
+  pub within : i ≤ g.count
+  pub here : i < g.count → InSlot g.transitions.now z i
+  pub each : (A : Automaton) (t : Tree) (ts : List Tree) (S : Tree → Bool) (N : Tree → ℕ) →
+      KnownIn A t ts S b g → Open A t o → NamesKnown A t ts g.subtrees.now j names N →
+      NoneSlotted A t S ts g.transitions.now N j z i
 
 -- ---- slots that take every state that a subtree is like
 

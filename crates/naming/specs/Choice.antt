@@ -1,7 +1,8 @@
 -- The name that the search gives subtree j, if N has the names of the subtrees with greater numbers: a free state
 -- that j is like, else the own name of a greater subtree that j is like, else its own. Free are 0 and the open
 -- states.
-use Rattle.std.specs.Prelude.{Bool, false, true, List, ◌⊎◌, ◌≡◌, ◌+◌, ◌-◌, ◌<◌, ◌≤◌, ℕ, get_or}
+use Rattle.std.specs.Prelude.{Bool, false, true, List, Option, ◌⊎◌, ◌≡◌, ◌+◌, ◌-◌, ◌<◌, ◌≤◌, ℕ, get_or}
+use Rattle.std.specs.Option.{MatchOption}
 use Rattle.automata.specs.Alike.{like_state, like_subtree}
 use Rattle.automata.specs.Automaton.{Automaton}
 use Rattle.automata.specs.Change.{subtree_number}
@@ -66,27 +67,18 @@ pub record SubtreeTried (A : Automaton) (t : Tree) (S : Tree → Bool) (ts : Lis
   pub no : r ≡ false → N (tree_numbered ts v) ≡ n + v →
       like_subtree A t S N (tree_numbered ts j) (tree_numbered ts v) ≡ false
 
--- if r is true, q is a free state that subtree j is like
-pub record StateTaken (A : Automaton) (t : Tree) (S : Tree → Bool) (ts : List Tree) (N : Tree → ℕ) (j q : ℕ)
-    (r : Bool) : Type 0 where
-  pub yes : r ≡ true → StateChosen A t S ts N j q
-
 -- every state that subtree j is like is the argument of a transition in the slot z
 pub record StatesSlotted (A : Automaton) (t : Tree) (S : Tree → Bool) (ts : List Tree) (s : List ℕ) (count : ℕ)
     (N : Tree → ℕ) (j : ℕ) (z : Slot) : Type 0 where
   pub each : (p : ℕ) → like_state A t S N (tree_numbered ts j) p ≡ true → SlotTakes s count z p
 
--- p is a free state that subtree j is like, or p is above n and there is none
-pub record StateSought (A : Automaton) (t : Tree) (S : Tree → Bool) (ts : List Tree) (n : ℕ) (N : Tree → ℕ) (j p : ℕ) :
-    Type 0 where
-  pub none : n < p → NoState A t S ts N j (n + 1)
-  pub there : p ≤ n → StateChosen A t S ts N j p
+-- o is a free state that subtree j is like, or there is none
+abbrev pub StateSought : Automaton → Tree → (Tree → Bool) → List Tree → ℕ → (Tree → ℕ) → ℕ → Option ℕ → Type 0
+StateSought A t S ts n N j o = MatchOption o (NoState A t S ts N j (n + 1)) (StateChosen A t S ts N j)
 
--- p is a subtree above j with its own name that j is like, or p is above m and there is none
-pub record SubtreeSought (A : Automaton) (t : Tree) (S : Tree → Bool) (ts : List Tree) (n m : ℕ) (N : Tree → ℕ)
-    (j p : ℕ) : Type 0 where
-  pub none : m < p → NoSubtree A t S ts n N j (m + 1)
-  pub there : p ≤ m → SubtreeChosen A t S ts n N j p
+-- o is a subtree above j with its own name that j is like, or there is none
+abbrev pub SubtreeSought : Automaton → Tree → (Tree → Bool) → List Tree → ℕ → ℕ → (Tree → ℕ) → ℕ → Option ℕ → Type 0
+SubtreeSought A t S ts n m N j o = MatchOption o (NoSubtree A t S ts n N j (m + 1)) (SubtreeChosen A t S ts n N j)
 
 -- the name of a subtree, from an array indexed by subtree numbers
 abbrev pub name_in : List Tree → List ℕ → Tree → ℕ

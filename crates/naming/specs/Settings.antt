@@ -1,8 +1,10 @@
 -- The facts about a setting that the contracts of this crate speak of.
 use Rattle.std.specs.Prelude.{Bool, List, ℕ}
 use Rattle.automata.specs.Automaton.{Automaton}
+use Rattle.naming.specs.Classes.{Classed}
+use Rattle.naming.specs.declared.parents.Parents.{Parents}
 use Rattle.naming.specs.Known.{Known}
-use Rattle.naming.specs.Parents.{SpansOf, anchors, raises}
+use Rattle.naming.specs.Parents.{ParentsNoted, SpansOf, anchors, raises}
 use Rattle.subtrees.specs.declared.Subtrees.{Subtrees}
 use Rattle.trees.specs.Tree.{Tree}
 use Rattle.uses.specs.declared.setting.Setting.{Setting}
@@ -13,9 +15,16 @@ KnownIn A t ts S b g =
     Known A t ts S b g.transitions.now g.count g.n g.subtrees.now.count g.subtrees.now.labels g.subtrees.now.arities
     g.subtrees.now.children g.subtrees.now.states g.weights.now g.classes.now
 
--- the parents of each subtree have indices from its entry of froms on and below its entry of tos
-abbrev pub SpansIn : Subtrees → List ℕ → List ℕ → Type 0
-SpansIn s froms tos = SpansOf s.count s.arities s.children froms tos
+-- the setting has the classes of the subtrees in S
+abbrev pub ClassedIn : (Tree → Bool) → List Tree → Setting → Type 0
+ClassedIn S ts g = Classed S ts g.subtrees.now.count g.classes.now
+
+-- the bounds of the parents of each subtree
+abbrev pub SpansIn : Subtrees → Parents → Type 0
+SpansIn s p = SpansOf s.count s.arities s.children p.froms p.tos
+
+abbrev pub NotedIn : Subtrees → ℕ → ℕ → Parents → Type 0
+NotedIn s most p parents = ParentsNoted s.arities s.children most p parents.froms parents.tos
 
 -- subtree i is a parent of subtree j, and its name is its own alone, or some subtree's own
 abbrev pub anchors_in : Setting → List ℕ → List ℕ → ℕ → ℕ → Bool

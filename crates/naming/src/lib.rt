@@ -26,9 +26,8 @@ ghost use Rattle.format.specs.Format.{table_bytes};
 pub use classes::classify;
 use format::{BYTE_VALUES, MAX_NODES, wide};
 use models::find_subtree;
-use parents::{anchored, note_parents};
+use parents::{Parents, anchored, note_parents};
 use seeking::find_state;
-use subtrees::CHILD_NUMBERS;
 use uses::Setting;
 
 // The name of subtree j, from the names of the subtrees with greater numbers.
@@ -38,13 +37,12 @@ fn name_subtree(
     marks: &[u8; BYTE_VALUES],
     names: &[u8; MAX_NODES],
     shared: &[u8; MAX_NODES],
-    froms: &[u8; MAX_NODES],
-    tos: &[u8; MAX_NODES],
+    parents: &Parents,
     j: usize,
 ) -> u8
     requires table_len { length table.now ≡ table_bytes }
     requires shared { Shared setting.now.n setting.now.subtrees.now.count j names.now shared.now }
-    requires spans_of { SpansIn setting.now.subtrees.now froms.now tos.now }
+    requires spans_of { SpansIn setting.now.subtrees.now parents.now }
     requires le_j { 1 ≤ j }
     requires j_le_m { j ≤ setting.now.subtrees.now.count }
     ensures upper_bound { result ≤ setting.now.n + setting.now.subtrees.now.count }
@@ -52,17 +50,15 @@ fn name_subtree(
         KnownIn A t ts S table.now setting.now → Open A t marks.now →
         NamesKnown A t ts setting.now.subtrees.now j names.now N → Chosen A t S ts setting.now.n setting.now.subtrees.now.count N j result }
 {
-    let from = wide(froms[j - 1]);
-    let to = wide(tos[j - 1]);
+    let from = wide(parents.froms[j - 1]);
+    let to = wide(parents.tos[j - 1]);
     if anchored(setting, names, shared, j, from, to) {
         return (setting.n + j) as u8;
     }
-    let q = find_state(table, setting, marks, names, j, from, to);
-    if q <= setting.n {
+    if let Some(q) = find_state(table, setting, marks, names, j, from, to) {
         return q as u8;
     }
-    let v = find_subtree(table, setting, names, froms, tos, j);
-    if v <= setting.subtrees.count {
+    if let Some(v) = find_subtree(setting, names, parents, j) {
         return (setting.n + v) as u8;
     }
     (setting.n + j) as u8
@@ -100,16 +96,12 @@ pub fn name_all(
         KnownIn A t ts S table.now setting.now → Open A t marks.now →
         Searched A t S (subtree_number ts) (name_in ts names.new) }
 {
-    let mut froms = [0u8; MAX_NODES];
-    let mut tos = [0u8; MAX_NODES];
-    note_parents(setting, &mut froms, &mut tos);
+    let parents = note_parents(setting);
     *names = [0u8; MAX_NODES];
     let mut shared = [0u8; MAX_NODES];
-    let mut j = setting.subtrees.count;
-    while j > 0 {
-        let name = name_subtree(table, setting, marks, names, &shared, &froms, &tos, j);
+    for j in (1..setting.subtrees.count + 1).rev() {
+        let name = name_subtree(table, setting, marks, names, &shared, &parents, j);
         mark_shared(setting, &mut shared, j, name);
         names[j - 1] = name;
-        j -= 1;
     }
 }

@@ -5,59 +5,63 @@ ghost use Rattle.std.specs.Prelude.{◌≡◌, ◌*◌, ◌+◌, ◌-◌, ◌<�
 ghost use Rattle.format.specs.Format.{max_arity, max_nodes};
 ghost use Rattle.lists.specs.Positions.{up_from};
 ghost use Rattle.lists.specs.Tests.{any};
-ghost use Rattle.naming.specs.Parents.{ChildNoted, ParentsNoted, is_child};
+ghost use Rattle.naming.specs.Parents.{ChildNoted, is_child};
 ghost use Rattle.uses.specs.Settings.{ParentsFrom};
-ghost use Rattle.naming.specs.Settings.{SpansIn, anchors_in, raises_in};
+ghost use Rattle.naming.specs.Settings.{NotedIn, SpansIn, anchors_in, raises_in};
 
 use format::{MAX_ARITY, MAX_NODES, wide};
 use uses::Setting;
 
+// The parents of subtree j have indices from entry j - 1 of `froms` on and below that of `tos`; both are 0 if it has
+// none.
+#[derive(Drop)]
+pub struct Parents {
+    pub froms: [u8; MAX_NODES],
+    pub tos: [u8; MAX_NODES],
+}
+
 // Notes the subtree at index i as the last parent of subtree j so far.
-fn note_child(froms: &mut [u8; MAX_NODES], tos: &mut [u8; MAX_NODES], i: usize, j: usize)
+fn note_child(parents: &mut Parents, i: usize, j: usize)
     requires i_lt_max_nodes { i < max_nodes }
     requires le_j { 1 ≤ j }
     requires j_le_max_nodes { j ≤ max_nodes }
-    requires froms_len { length froms.old ≡ max_nodes }
-    requires tos_len { length tos.old ≡ max_nodes }
-    ensures { ChildNoted i j froms.old tos.old froms.new tos.new }
+    requires froms_len { length parents.old.froms ≡ max_nodes }
+    requires tos_len { length parents.old.tos ≡ max_nodes }
+    ensures { ChildNoted i j parents.old.froms parents.old.tos parents.new.froms parents.new.tos }
 {
-    let first = tos[j - 1] == 0;
-    tos[j - 1] = (i + 1) as u8;
+    let first = parents.tos[j - 1] == 0;
+    parents.tos[j - 1] = (i + 1) as u8;
     if !first {
         return;
     }
-    froms[j - 1] = i as u8;
+    parents.froms[j - 1] = i as u8;
 }
 
 // The same for each child of the subtree at index i.
-fn note_children(
-    setting: &Setting<'_>,
-    froms: &mut [u8; MAX_NODES],
-    tos: &mut [u8; MAX_NODES],
-    i: usize,
-)
+fn note_children(setting: &Setting<'_>, parents: &mut Parents, i: usize)
     requires i_lt_m { i < setting.now.subtrees.now.count }
-    requires parents_noted { ParentsNoted setting.now.subtrees.now.arities setting.now.subtrees.now.children i (max_arity * i) froms.old tos.old }
-    ensures { ParentsNoted setting.now.subtrees.now.arities setting.now.subtrees.now.children (i + 1) (max_arity * (i + 1))
-        froms.new tos.new }
+    requires parents_noted { NotedIn setting.now.subtrees.now i (max_arity * i) parents.old }
+    ensures { NotedIn setting.now.subtrees.now (i + 1) (max_arity * (i + 1)) parents.new }
 {
     let arity = wide(setting.subtrees.arities[i]);
     for k in 0..arity {
         let j = wide(setting.subtrees.children[MAX_ARITY * i + k]);
-        note_child(froms, tos, i, j);
+        note_child(parents, i, j);
     }
 }
 
-// For each of the m subtrees, the index of its first parent and the index of its last parent plus 1; both 0 if it has
-// none.
-pub fn note_parents(setting: &Setting<'_>, froms: &mut [u8; MAX_NODES], tos: &mut [u8; MAX_NODES])
-    ensures { SpansIn setting.now.subtrees.now froms.new tos.new }
+// For each subtree, the index of its first parent and the index of its last parent plus 1.
+pub fn note_parents(setting: &Setting<'_>) -> Parents
+    ensures { SpansIn setting.now.subtrees.now result }
 {
-    *froms = [0u8; MAX_NODES];
-    *tos = [0u8; MAX_NODES];
+    let mut parents = Parents {
+        froms: [0u8; MAX_NODES],
+        tos: [0u8; MAX_NODES],
+    };
     for i in 0..setting.subtrees.count {
-        note_children(setting, froms, tos, i);
+        note_children(setting, &mut parents, i);
     }
+    parents
 }
 
 // Whether subtree j is a child of subtree i.

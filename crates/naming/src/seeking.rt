@@ -1,5 +1,5 @@
 // The state that a subtree can stand for. If every candidate must fit one slot, only the slot's arguments are tried.
-ghost use Rattle.std.specs.Prelude.{Bool, List, ◌≡◌, ◌≤◌, ℕ, length};
+ghost use Rattle.std.specs.Prelude.{Bool, IfSome, List, ◌≡◌, ◌≤◌, ℕ, length};
 ghost use Rattle.automata.specs.Automaton.{Automaton};
 ghost use Rattle.trees.specs.Tree.{Tree};
 ghost use Rattle.naming.specs.Choice.{StateSought};
@@ -11,12 +11,11 @@ ghost use Rattle.format.specs.Format.{table_bytes};
 
 use crate::parents::raised;
 use crate::slots::{slot_of, state_in_slot};
-use crate::states::{first_state, fits_own_state, fits_state};
-use format::{BYTE_VALUES, MAX_NODES, wide};
-use subtrees::CHILD_NUMBERS;
+use crate::states::{first_state, fits_state, own_state};
+use format::{BYTE_VALUES, MAX_NODES};
 use uses::Setting;
 
-// A state, or 0, that subtree j is like; n + 1 if there is none. If every candidate must fit one slot, only the
+// A state, or 0, that subtree j is like. If every candidate must fit one slot, only the
 // slot's arguments are tried.
 fn other_state(
     table: &[u8],
@@ -26,12 +25,13 @@ fn other_state(
     j: usize,
     from: usize,
     to: usize,
-) -> usize
+) -> Option<usize>
     requires table_len { length table.now ≡ table_bytes }
     requires le_j { 1 ≤ j }
     requires j_le_m { j ≤ setting.now.subtrees.now.count }
     requires parents_within { ParentsFrom setting.now.subtrees.now j from to }
-    ensures { (A : Automaton) (t : Tree) (ts : List Tree) (S : (Tree → Bool)) (N : (Tree → ℕ)) →
+    ensures upper_bound { IfSome result (λ q. q ≤ setting.now.n) }
+    ensures state_sought { (A : Automaton) (t : Tree) (ts : List Tree) (S : (Tree → Bool)) (N : (Tree → ℕ)) →
         KnownIn A t ts S table.now setting.now → Open A t marks.now →
         NamesKnown A t ts setting.now.subtrees.now j names.now N → StateSought A t S ts setting.now.n N j result }
 {
@@ -42,7 +42,7 @@ fn other_state(
     first_state(table, setting, marks, names, j, from, to)
 }
 
-// A state, or 0, that subtree j is like; n + 1 if there is none. There is none if the name of some parent is a
+// A state, or 0, that subtree j is like. There is none if the name of some parent is a
 // subtree's own name. The subtree's own state is tried first and then 0, because most subtrees keep their state or
 // occur in no tree any more.
 pub fn find_state(
@@ -53,23 +53,24 @@ pub fn find_state(
     j: usize,
     from: usize,
     to: usize,
-) -> usize
+) -> Option<usize>
     requires table_len { length table.now ≡ table_bytes }
     requires le_j { 1 ≤ j }
     requires j_le_m { j ≤ setting.now.subtrees.now.count }
     requires parents_within { ParentsFrom setting.now.subtrees.now j from to }
-    ensures { (A : Automaton) (t : Tree) (ts : List Tree) (S : (Tree → Bool)) (N : (Tree → ℕ)) →
+    ensures upper_bound { IfSome result (λ q. q ≤ setting.now.n) }
+    ensures state_sought { (A : Automaton) (t : Tree) (ts : List Tree) (S : (Tree → Bool)) (N : (Tree → ℕ)) →
         KnownIn A t ts S table.now setting.now → Open A t marks.now →
         NamesKnown A t ts setting.now.subtrees.now j names.now N → StateSought A t S ts setting.now.n N j result }
 {
     if raised(setting, names, j, from, to) {
-        return setting.n + 1;
+        return None;
     }
-    if fits_own_state(table, setting, marks, names, j, from, to) {
-        return wide(setting.subtrees.states[j - 1]);
+    if let Some(q) = own_state(table, setting, marks, names, j, from, to) {
+        return Some(q);
     }
     if fits_state(table, setting, marks, names, j, from, to, 0) {
-        return 0;
+        return Some(0);
     }
     other_state(table, setting, marks, names, j, from, to)
 }

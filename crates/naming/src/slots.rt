@@ -1,5 +1,5 @@
 // Slots that hold every state that a subtree is like, and the search among the states in such a slot.
-ghost use Rattle.std.specs.Prelude.{Bool, List, ◌≡◌, ◌<◌, ◌≤◌, ℕ, length};
+ghost use Rattle.std.specs.Prelude.{Bool, IfSome, List, ◌≡◌, ◌<◌, ◌≤◌, ℕ, length};
 ghost use Rattle.automata.specs.Automaton.{Automaton};
 ghost use Rattle.format.specs.Format.{max_arity};
 ghost use Rattle.trees.specs.Tree.{Tree};
@@ -15,10 +15,9 @@ use alike::frame_slot_of;
 use fields::arg_of;
 use format::{BYTE_VALUES, MAX_NODES, TRANSITION_BYTES};
 use packed::{Slot, first_in_slot, next_in_slot};
-use subtrees::CHILD_NUMBERS;
 use uses::{Setting, use_slot};
 
-// The first state in slot z that subtree j is like; n + 1 if there is none.
+// The first state in slot z that subtree j is like.
 pub fn state_in_slot(
     table: &[u8],
     setting: &Setting<'_>,
@@ -28,13 +27,14 @@ pub fn state_in_slot(
     from: usize,
     to: usize,
     z: Slot,
-) -> usize
+) -> Option<usize>
     requires table_len { length table.now ≡ table_bytes }
     requires le_j { 1 ≤ j }
     requires j_le_m { j ≤ setting.now.subtrees.now.count }
     requires parents_within { ParentsFrom setting.now.subtrees.now j from to }
     requires place_lt_max_arity { z.place < max_arity }
-    ensures { (A : Automaton) (t : Tree) (ts : List Tree) (S : (Tree → Bool)) (N : (Tree → ℕ)) →
+    ensures upper_bound { IfSome result (λ q. q ≤ setting.now.n) }
+    ensures state_sought { (A : Automaton) (t : Tree) (ts : List Tree) (S : (Tree → Bool)) (N : (Tree → ℕ)) →
         KnownIn A t ts S table.now setting.now → Open A t marks.now →
         NamesKnown A t ts setting.now.subtrees.now j names.now N → StatesSlotted A t S ts setting.now.transitions.now setting.now.count N j z →
         StateSought A t S ts setting.now.n N j result }
@@ -43,11 +43,11 @@ pub fn state_in_slot(
     while i < setting.count {
         let q = arg_of(setting.transitions, TRANSITION_BYTES * i, z.place);
         if fits_state(table, setting, marks, names, j, from, to, q) {
-            return q;
+            return Some(q);
         }
         i = next_in_slot(setting.transitions, setting.count, z, i + 1);
     }
-    setting.n + 1
+    None
 }
 
 // A slot that holds every state that subtree j is like. It is the slot of a frame whose parent has a name other than

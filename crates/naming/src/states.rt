@@ -1,10 +1,10 @@
 // States compared with a subtree one by one. A subtree can stand for 0 and for open states only.
-ghost use Rattle.std.specs.Prelude.{Bool, List, ◌≡◌, ◌+◌, ◌-◌, ◌<◌, ◌≤◌, ℕ, ◌||◌, get_or, eqb, length};
+ghost use Rattle.std.specs.Prelude.{Bool, IfSome, List, ◌≡◌, ◌+◌, ◌-◌, ◌<◌, ◌≤◌, ℕ, ◌||◌, eqb, length};
 ghost use Rattle.automata.specs.Automaton.{Automaton};
 ghost use Rattle.trees.specs.Tree.{Tree};
 ghost use Rattle.format.specs.Format.{byte_values};
 ghost use Rattle.marking.specs.Marks.{marked};
-ghost use Rattle.naming.specs.Choice.{StateSought, StateTaken, StateTried};
+ghost use Rattle.naming.specs.Choice.{StateChosen, StateSought, StateTried};
 ghost use Rattle.pairs.specs.Counts.{Open};
 ghost use Rattle.uses.specs.Settings.{ParentsFrom};
 ghost use Rattle.naming.specs.Settings.{KnownIn};
@@ -14,7 +14,6 @@ ghost use Rattle.format.specs.Format.{table_bytes};
 use crate::classes::class_in;
 use alike::like_state;
 use format::{BYTE_VALUES, MAX_NODES, wide};
-use subtrees::CHILD_NUMBERS;
 use uses::Setting;
 
 // Whether q is 0 or marked.
@@ -57,7 +56,7 @@ pub fn fits_state(
     like_state(setting, names, number, state, class, from, to)
 }
 
-// The first of 0 and the open states that subtree j is like; n + 1 if there is none.
+// The first of 0 and the open states that subtree j is like.
 pub fn first_state(
     table: &[u8],
     setting: &Setting<'_>,
@@ -66,27 +65,26 @@ pub fn first_state(
     j: usize,
     from: usize,
     to: usize,
-) -> usize
+) -> Option<usize>
     requires table_len { length table.now ≡ table_bytes }
     requires le_j { 1 ≤ j }
     requires j_le_m { j ≤ setting.now.subtrees.now.count }
     requires parents_within { ParentsFrom setting.now.subtrees.now j from to }
-    ensures { (A : Automaton) (t : Tree) (ts : List Tree) (S : (Tree → Bool)) (N : (Tree → ℕ)) →
+    ensures upper_bound { IfSome result (λ q. q ≤ setting.now.n) }
+    ensures state_sought { (A : Automaton) (t : Tree) (ts : List Tree) (S : (Tree → Bool)) (N : (Tree → ℕ)) →
         KnownIn A t ts S table.now setting.now → Open A t marks.now →
         NamesKnown A t ts setting.now.subtrees.now j names.now N → StateSought A t S ts setting.now.n N j result }
 {
-    let mut q = 0;
-    while q <= setting.n {
+    for q in 0..setting.n + 1 {
         if fits_state(table, setting, marks, names, j, from, to, q) {
-            return q;
+            return Some(q);
         }
-        q += 1;
     }
-    q
+    None
 }
 
-// The same as `fits_state` for the state that subtree j has.
-pub fn fits_own_state(
+// The state that subtree j has, if it is open and j is still like it.
+pub fn own_state(
     table: &[u8],
     setting: &Setting<'_>,
     marks: &[u8; BYTE_VALUES],
@@ -94,18 +92,22 @@ pub fn fits_own_state(
     j: usize,
     from: usize,
     to: usize,
-) -> bool
+) -> Option<usize>
     requires table_len { length table.now ≡ table_bytes }
     requires le_j { 1 ≤ j }
     requires j_le_m { j ≤ setting.now.subtrees.now.count }
     requires parents_within { ParentsFrom setting.now.subtrees.now j from to }
-    ensures { (A : Automaton) (t : Tree) (ts : List Tree) (S : (Tree → Bool)) (N : (Tree → ℕ)) →
+    ensures upper_bound { IfSome result (λ q. q ≤ setting.now.n) }
+    ensures chosen { (A : Automaton) (t : Tree) (ts : List Tree) (S : (Tree → Bool)) (N : (Tree → ℕ)) →
         KnownIn A t ts S table.now setting.now → Open A t marks.now →
-        NamesKnown A t ts setting.now.subtrees.now j names.now N → StateTaken A t S ts N j (get_or setting.now.subtrees.now.states (j - 1) 0) result }
+        NamesKnown A t ts setting.now.subtrees.now j names.now N → IfSome result (StateChosen A t S ts N j) }
 {
     let q = wide(setting.subtrees.states[j - 1]);
     if q > setting.n {
-        return false;
+        return None;
     }
-    fits_state(table, setting, marks, names, j, from, to, q)
+    if !fits_state(table, setting, marks, names, j, from, to, q) {
+        return None;
+    }
+    Some(q)
 }

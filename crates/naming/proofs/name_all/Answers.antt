@@ -4,7 +4,7 @@ use Rattle.naming.proofs.Searching.{given-searched}
 use Rattle.naming.proofs.name_all.Goals as goal
 
 pub loop-j-init : goal.loop-j-init
-loop-j-init c = given-start
+loop-j-init c = given-start (omega arith) (omega arith)
 
 pub name_subtree-name-requires : goal.name_subtree-name-requires
 name_subtree-name-requires c =
@@ -12,8 +12,8 @@ name_subtree-name-requires c =
     record {
       table_len = c.requires;
       shared = now.invariant.shares;
-      spans_of = c.note_parents.ensures;
-      le_j = c.loop-j-test.true;
+      spans_of = c.note_parents-parents.ensures;
+      le_j = omega (arith, c.loop-j-test.true);
       j_le_m = now.invariant.within;
     }
 
@@ -31,12 +31,9 @@ bounds-names-j c =
     let inv = c.loop-j.invariant in
     omega (arith, inv.within, inv.size, c.loop-j-test.true, c.args.setting.now.shaped.few)
 
-pub loop-j-smaller : goal.loop-j-smaller
-loop-j-smaller c = omega (arith, c.loop-j-test.true)
-
 pub loop-j-preserved : goal.loop-j-preserved
 loop-j-preserved c =
-    given-next c.loop-j.invariant c.loop-j-test.true c.args.setting.now.shaped.few
+    given-next c.loop-j.invariant (omega (arith, c.loop-j-test.true)) c.args.setting.now.shaped.few
     c.name_subtree-name.ensures.upper_bound c.mark_shared.ensures.shared_len_2
     c.mark_shared.ensures.marked c.name_subtree-name.ensures.chosen
 

@@ -21,8 +21,8 @@ returns-then-anchored c = record {
       (sym c.anchored.ensures ∙ c.if-anchored.true) c.requires.le_j));
 }
 
-pub find_state-q-requires : goal.find_state-q-requires
-find_state-q-requires c =
+pub find_state-requires : goal.find_state-requires
+find_state-requires c =
     let within = spanned c.requires.spans_of c.requires.le_j c.requires.j_le_m c.wide-from.ensures c.wide-to.ensures in
     record {
       table_len = c.requires.table_len;
@@ -31,53 +31,35 @@ find_state-q-requires c =
       parents_within = within;
     }
 
-pub returns-then-q-setting : goal.returns-then-q-setting
-returns-then-q-setting c = record {
-  upper_bound = omega (arith, c.if-q-setting.true);
-  chosen = λ A t ts S N K O X. inl ((c.find_state-q.ensures A t ts S N K O X).there c.if-q-setting.true);
+pub returns-in-Some : goal.returns-in-Some
+returns-in-Some c = record {
+  upper_bound = omega (arith, c.in-Some.ensures.upper_bound);
+  chosen = λ A t ts S N K O X. inl (c.in-Some.ensures.state_sought A t ts S N K O X);
 }
 
-pub find_subtree-v-requires : goal.find_subtree-v-requires
-find_subtree-v-requires c =
+pub find_subtree-requires : goal.find_subtree-requires
+find_subtree-requires c =
     record {
-      table_len = c.requires.table_len;
       spans_of = c.requires.spans_of;
       le_j = c.requires.le_j;
       j_le_m = c.requires.j_le_m;
     }
 
-pub overflow_add-result-then-v-setting : goal.overflow_add-result-then-v-setting
-overflow_add-result-then-v-setting c =
-    omega (arith, c.args.setting.now.states, c.args.setting.now.shaped.few, c.if-v-setting.true)
-
-pub overflow_cast-result-then-v-setting : goal.overflow_cast-result-then-v-setting
-overflow_cast-result-then-v-setting c =
-    omega (arith, c.args.setting.now.states, c.args.setting.now.shaped.few, c.if-v-setting.true)
-
-pub returns-then-v-setting : goal.returns-then-v-setting
-returns-then-v-setting c = record {
-  upper_bound = omega (arith, c.if-v-setting.true);
+pub returns-in-Some-find_subtree : goal.returns-in-Some-find_subtree
+returns-in-Some-find_subtree c = record {
+  upper_bound = omega (arith, c.in-Some-find_subtree.ensures.bounds.1);
   chosen = λ A t ts S N K O X. inr (inl (record {
-    model = c.find_subtree-v.result;
-    above = c.find_subtree-v.ensures.lower_bound;
-    known = c.if-v-setting.true;
+    model = c.in-Some-find_subtree.v;
+    above = c.in-Some-find_subtree.ensures.bounds.0;
+    known = c.in-Some-find_subtree.ensures.bounds.1;
     same = refl;
-    chosen = (c.find_subtree-v.ensures.subtree_sought A t ts S N K X).there c.if-v-setting.true;
+    chosen = c.in-Some-find_subtree.ensures.subtree_sought A t ts S N K.holds K.classed X;
   }));
 }
-
-pub overflow_add-result-2 : goal.overflow_add-result-2
-overflow_add-result-2 c =
-    omega (arith, c.args.setting.now.states, c.args.setting.now.shaped.few, c.requires.j_le_m)
-
-pub overflow_cast-result-2 : goal.overflow_cast-result-2
-overflow_cast-result-2 c =
-    omega (arith, c.args.setting.now.states, c.args.setting.now.shaped.few, c.requires.j_le_m)
 
 pub returns : goal.returns
 returns c = record {
   upper_bound = omega (arith, c.requires.j_le_m);
-  chosen = λ A t ts S N K O X. inr (inr (own-chosen (c.find_state-q.ensures A t ts S N K O X)
-      (omega (arith, c.if-q-setting.false))
-      (c.find_subtree-v.ensures.subtree_sought A t ts S N K X) (omega (arith, c.if-v-setting.false))));
+  chosen = λ A t ts S N K O X. inr (inr (own-chosen (c.in_default.ensures.state_sought A t ts S N K O X)
+      (c.in_default-find_subtree.ensures.subtree_sought A t ts S N K.holds K.classed X)));
 }

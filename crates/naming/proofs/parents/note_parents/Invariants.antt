@@ -5,4 +5,4 @@ use Rattle.naming.specs.Parents.{ParentsNoted}
 use Rattle.naming.proofs.parents.note_parents.Given as goal
 
 abbrev pub invariant-loop-i : goal.invariant-loop-i
-invariant-loop-i l = (l.i ≤ l.setting.subtrees.now.count) × ParentsNoted l.setting.subtrees.now.arities l.setting.subtrees.now.children l.i (max_arity * l.i) l.froms l.tos
+invariant-loop-i l = (l.i ≤ l.setting.subtrees.now.count) × ParentsNoted l.setting.subtrees.now.arities l.setting.subtrees.now.children l.i (max_arity * l.i) l.parents.froms l.parents.tos

@@ -1,26 +1,25 @@
 -- `naming::seeking::find_state` meets its contract: a parent's name excludes every state, or the own
 -- state or 0 fits, or the search decides.
-use mathlib.Core.Path.{◌∙◌, subst, sym}
+use mathlib.Core.Path.{◌∙◌, sym}
 use native.Mathlib.Omega.{arith}
-use Rattle.naming.specs.Choice.{StateChosen}
 use Rattle.naming.proofs.Apart.{raised-no-state}
-use Rattle.naming.proofs.Choosing.{state-found, state-none}
 use Rattle.alike.proofs.Carried.{holds-subtrees}
-use Rattle.naming.proofs.Parentage.{state-most}
 use Rattle.naming.proofs.seeking.find_state.Goals as goal
 
 pub raised-requires : goal.raised-requires
 raised-requires c = record { parents_within = c.requires.parents_within }
 
 pub returns-then-raised : goal.returns-then-raised
-returns-then-raised c =
-    λ A t ts S N K O X. state-none (record {
-      each = λ q h f. raised-no-state S (holds-subtrees K.holds) K.classes.fits K.size X
-          (sym c.raised.ensures ∙ c.if-raised.true) q;
-    }) (omega arith)
+returns-then-raised c = record {
+  upper_bound = tt;
+  state_sought = λ A t ts S N K O X. record {
+    each = λ q h f. raised-no-state S (holds-subtrees K.holds) K.classes.fits K.size X
+        (sym c.raised.ensures ∙ c.if-raised.true) q;
+  };
+}
 
-pub fits_own_state-requires : goal.fits_own_state-requires
-fits_own_state-requires c =
+pub own_state-requires : goal.own_state-requires
+own_state-requires c =
     record {
       table_len = c.requires.table_len;
       le_j = c.requires.le_j;
@@ -28,16 +27,8 @@ fits_own_state-requires c =
       parents_within = c.requires.parents_within;
     }
 
-pub returns-then-fits_own_state : goal.returns-then-fits_own_state
-returns-then-fits_own_state c =
-    let j = c.args.j in
-    λ A t ts S N K O X. state-found (omega (
-      arith,
-      c.wide.ensures,
-      state-most (holds-subtrees K.holds) K.classes.fits j c.requires.le_j c.requires.j_le_m,
-      K.size,
-    )) (subst (StateChosen A t S ts N j) (sym c.wide.ensures)
-    ((c.fits_own_state.ensures A t ts S N K O X).yes c.if-fits_own_state.true))
+pub returns-in-Some : goal.returns-in-Some
+returns-in-Some c = record { upper_bound = c.in-Some.ensures.upper_bound; state_sought = λ A t ts S N K O X. c.in-Some.ensures.chosen A t ts S N K O X }
 
 pub fits_state-requires : goal.fits_state-requires
 fits_state-requires c = record {
@@ -49,8 +40,10 @@ fits_state-requires c = record {
 }
 
 pub returns-then-fits_state : goal.returns-then-fits_state
-returns-then-fits_state c =
-    λ A t ts S N K O X. state-found (omega arith) ((c.fits_state.ensures A t ts S N K O X).yes c.if-fits_state.true)
+returns-then-fits_state c = record {
+  upper_bound = omega arith;
+  state_sought = λ A t ts S N K O X. (c.fits_state.ensures A t ts S N K O X).yes c.if-fits_state.true;
+}
 
 pub other_state-requires : goal.other_state-requires
 other_state-requires c =

@@ -21,9 +21,11 @@ state_in_slot-requires c = record {
 }
 
 pub returns-then-z-ne0 : goal.returns-then-z-ne0
-returns-then-z-ne0 c =
-    λ A t ts S N K O X. c.state_in_slot.ensures A t ts S N K O X
-    (c.slot_of-z.ensures.states_slotted A t ts S N K.holds X (omega arith))
+returns-then-z-ne0 c = record {
+  upper_bound = c.state_in_slot.ensures.upper_bound;
+  state_sought = λ A t ts S N K O X. c.state_in_slot.ensures.state_sought A t ts S N K O X
+      (c.slot_of-z.ensures.states_slotted A t ts S N K.holds X (omega arith));
+}
 
 pub first_state-requires : goal.first_state-requires
 first_state-requires c =

@@ -1,7 +1,6 @@
 use mathlib.Core.Path.{subst}
 use native.Mathlib.Omega.{arith}
 use Rattle.naming.specs.Choice.{StateTried}
-use Rattle.naming.proofs.Choosing.{state-found}
 use Rattle.naming.proofs.Slotting.{none_first, none_left, none-next, place-state}
 use Rattle.naming.proofs.slots.state_in_slot.Goals as goal
 
@@ -42,11 +41,15 @@ fits_state-requires c =
     }
 
 pub returns-then-fits_state : goal.returns-then-fits_state
-returns-then-fits_state c =
-    let known = place-state c.args.setting.now.searchable c.args.setting.now.over c.loop-i.i c.args.z.place
-    c.loop-i-test.true c.requires.place_lt_max_arity in
-    λ A t ts S N K O X Z. state-found (omega (arith, c.arg_of-q.ensures.value, known))
-    ((c.fits_state.ensures A t ts S N K O X).yes c.if-fits_state.true)
+returns-then-fits_state c = record {
+  upper_bound = omega (
+    arith,
+    c.arg_of-q.ensures.value,
+    place-state c.args.setting.now.searchable c.args.setting.now.over c.loop-i.i c.args.z.place
+        c.loop-i-test.true c.requires.place_lt_max_arity,
+  );
+  state_sought = λ A t ts S N K O X Z. (c.fits_state.ensures A t ts S N K O X).yes c.if-fits_state.true;
+}
 
 pub overflow_add-i : goal.overflow_add-i
 overflow_add-i c =
@@ -74,10 +77,9 @@ loop-i-preserved c =
           (c.fits_state.ensures A t ts S N K O X)) c.next_in_slot-i.ensures.by_index;
     }
 
-pub overflow_add-result : goal.overflow_add-result
-overflow_add-result c = omega (arith, c.args.setting.now.states)
-
 pub returns : goal.returns
-returns c =
-    λ A t ts S N K O X Z. none_left Z (c.loop-i.invariant.each A t ts S N K O X)
-    (omega (arith, c.loop-i-test.false)) (omega arith)
+returns c = record {
+  upper_bound = tt;
+  state_sought = λ A t ts S N K O X Z. none_left Z (c.loop-i.invariant.each A t ts S N K O X)
+      (omega (arith, c.loop-i-test.false));
+}
