@@ -73,17 +73,17 @@ module _ (r c : List ℕ) (i : ℕ) {w : ℕ} {ns : List ℕ} (width : w ≡ get
   narrow : w ≤ max_arity
   narrow = omega (arith, shaped.narrow i h)
 
-  pub frame-slot : {l names : List ℕ} (z : Slot) → z.meta ≡ byte_pairs * w + get_or l i 0 →
+  pub frame-slot : {l names : List ℕ} (some : 1 ≤ get_or names i 0) (z : Slot) → z.meta ≡ byte_pairs * w + get_or l i 0 →
       z.args ≡ packed (set qs k 0) → z.place ≡ k → z.out ≡ get_or names i 0 → SlotOf m (child_at c i k) l r c q names z
-  frame-slot {l} {names} z meta args place out = record {
+  frame-slot {l} {names} some z meta args place out = record {
     place = omega (arith, shaped.narrow i h);
-    takes = λ s n A t ts S N search own holds known some p like. subst (SlotTakes s n z) (here p)
+    takes = λ s n A t ts S N search own holds known p like. subst (SlotTakes s n z) (here p)
         (slot-takes z (get_or l i 0) (ys p) search.padded (omega (arith, size p))
         (meta ∙ ap (λ x. byte_pairs * x + get_or l i 0) (sym (size p))) (number p)
         (subst (λ τs. Has τs (get_or l i 0) (ys p) z.out) own
         (step-has A (get_or l i 0) (ys p)
         (frame-stepped r c i width filled shaped holds k p h inside states refl
-        ∙ frame-named S holds i k h inside known p like ∙ sym out) some)));
+        ∙ frame-named S holds i k h inside known p like ∙ sym out) (omega (arith, some, out)))));
   }
     where
       ys : ℕ → List ℕ
@@ -107,10 +107,3 @@ module _ (r c : List ℕ) (i : ℕ) {w : ℕ} {ns : List ℕ} (width : w ≡ get
           ∙ ap (λ x. packed (set qs k 0) + p * 2 ^ (8 * (7 - x))) (sym place)
           ∙ ap (λ x. x + p * 2 ^ (8 * (7 - z.place))) (sym args)
           ∙ ap (λ x. z.args + x * 2 ^ (8 * (7 - z.place))) (sym (here p))
-
--- a slot without output meets `SlotOf`
-pub slot-none : (m j : ℕ) (l r c q names : List ℕ) (z : Slot) → z.place ≡ 0 → z.out ≡ 0 → SlotOf m j l r c q names z
-slot-none m j l r c q names z place out = record {
-  place = omega arith;
-  takes = λ s n A t ts S N search own holds known some p like. absurd (omega arith);
-}

@@ -1,17 +1,18 @@
 // A frame over a subtree as a slot. A state that the subtree is like steps to the parent's name there, so it is the
 // argument of a transition in the slot.
-ghost use Rattle.std.specs.Prelude.{◌<◌, ◌≤◌, get_or};
+ghost use Rattle.std.specs.Prelude.{IfSome, ◌<◌, ◌≤◌, get_or};
 ghost use Rattle.subtrees.specs.Store.{child_at};
 ghost use Rattle.alike.specs.Settings.{SlotIn};
 
 use crate::nodes::{children_of, states_of};
 use format::{MAX_ARITY, MAX_NODES, wide};
-use packed::{Slot, meta_of, no_slot, pack};
+use packed::{Slot, meta_of, pack};
 use uses::Setting;
 
 // The slot of place k of the subtree at index i, with the subtree's name as its output.
 fn frame_slot(setting: &Setting<'_>, names: &[u8; MAX_NODES], i: usize, k: usize) -> Slot
     requires i_lt_m { i < setting.now.subtrees.now.count }
+    requires name_some { 1 ≤ get_or names.now i 0 }
     requires k_bound { k < get_or setting.now.subtrees.now.arities i 0 }
     ensures { SlotIn setting.now.subtrees.now (child_at setting.now.subtrees.now.children i k) names.now result }
 {
@@ -30,24 +31,24 @@ fn frame_slot(setting: &Setting<'_>, names: &[u8; MAX_NODES], i: usize, k: usize
     }
 }
 
-// The slot of subtree j in the subtree at index i; no slot if j is not its child or if its name is 0.
-fn parent_slot(setting: &Setting<'_>, names: &[u8; MAX_NODES], i: usize, j: usize) -> Slot
+// The slot of subtree j in the subtree at index i; None if j is not its child or if its name is 0.
+fn parent_slot(setting: &Setting<'_>, names: &[u8; MAX_NODES], i: usize, j: usize) -> Option<Slot>
     requires i_lt_m { i < setting.now.subtrees.now.count }
-    ensures { SlotIn setting.now.subtrees.now j names.now result }
+    ensures { IfSome result (SlotIn setting.now.subtrees.now j names.now) }
 {
     if names[i] == 0 {
-        return no_slot();
+        return None;
     }
     let arity = wide(setting.subtrees.arities[i]);
     for k in 0..arity {
         if wide(setting.subtrees.children[MAX_ARITY * i + k]) == j {
-            return frame_slot(setting, names, i, k);
+            return Some(frame_slot(setting, names, i, k));
         }
     }
-    no_slot()
+    None
 }
 
-// The slot of a frame over subtree j whose parent has a name other than 0; no slot if there is none. The parents of j
+// The slot of a frame over subtree j whose parent has a name other than 0. The parents of j
 // have indices from `from` on and below `to`.
 pub fn frame_slot_of(
     setting: &Setting<'_>,
@@ -55,15 +56,14 @@ pub fn frame_slot_of(
     j: usize,
     from: usize,
     to: usize,
-) -> Slot
+) -> Option<Slot>
     requires to_le_m { to ≤ setting.now.subtrees.now.count }
-    ensures { SlotIn setting.now.subtrees.now j names.now result }
+    ensures { IfSome result (SlotIn setting.now.subtrees.now j names.now) }
 {
     for i in from..to {
-        let z = parent_slot(setting, names, i, j);
-        if z.out != 0 {
-            return z;
+        if let Some(z) = parent_slot(setting, names, i, j) {
+            return Some(z);
         }
     }
-    no_slot()
+    None
 }

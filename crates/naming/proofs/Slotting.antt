@@ -95,9 +95,9 @@ pub record SlotTried (b : List ℕ) (g : Setting) (o names : List ℕ) (j : ℕ)
 module _ {A : Automaton} {t : Tree} {ts : List Tree} {S : Tree → Bool} {N : Tree → ℕ} {s : List ℕ} {count n m j : ℕ}
     {l r c q w : List ℕ} {z : Slot} (holds : Holds A t ts s count n l r c q w m) where
   pub frame-slotted : {names : List ℕ} → Searchable s count → NamedAbove A t ts m j names N →
-      SlotOf m j l r c q names z → 1 ≤ z.out → StatesSlotted A t S ts s count N j z
-  frame-slotted sorted X slot some = record {
-    each = λ p e. slot.takes s count A t ts S N sorted holds.transitions (holds-subtrees holds) X some p e;
+      SlotOf m j l r c q names z → StatesSlotted A t S ts s count N j z
+  frame-slotted sorted X slot = record {
+    each = λ p e. slot.takes s count A t ts S N sorted holds.transitions (holds-subtrees holds) X p e;
   }
 
   -- a state that the subtree is like is used like the subtree's own state

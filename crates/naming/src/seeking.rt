@@ -35,11 +35,10 @@ fn other_state(
         KnownIn A t ts S table.now setting.now → Open A t marks.now →
         NamesKnown A t ts setting.now.subtrees.now j names.now N → StateSought A t S ts setting.now.n N j result }
 {
-    let z = slot_of(setting, names, j, from, to);
-    if z.out != 0 {
-        return state_in_slot(table, setting, marks, names, j, from, to, z);
+    match slot_of(setting, names, j, from, to) {
+        Some(z) => state_in_slot(table, setting, marks, names, j, from, to, z),
+        None => first_state(table, setting, marks, names, j, from, to),
     }
-    first_state(table, setting, marks, names, j, from, to)
 }
 
 // A state, or 0, that subtree j is like. There is none if the name of some parent is a

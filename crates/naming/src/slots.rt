@@ -51,26 +51,25 @@ pub fn state_in_slot(
 }
 
 // A slot that holds every state that subtree j is like. It is the slot of a frame whose parent has a name other than
-// 0, else a slot in which j's state is used and which the frames of j do not cover. No slot if neither is found.
+// 0, else a slot in which j's state is used and which the frames of j do not cover. None if neither is found.
 pub fn slot_of(
     setting: &Setting<'_>,
     names: &[u8; MAX_NODES],
     j: usize,
     from: usize,
     to: usize,
-) -> Slot
+) -> Option<Slot>
     requires le_j { 1 ≤ j }
     requires j_le_m { j ≤ setting.now.subtrees.now.count }
     requires parents_within { ParentsFrom setting.now.subtrees.now j from to }
-    ensures place_lt_max_arity { result.place < max_arity }
+    ensures place_lt_max_arity { IfSome result (λ z. z.place < max_arity) }
     ensures states_slotted { (A : Automaton) (t : Tree) (ts : List Tree) (S : (Tree → Bool)) (N : (Tree → ℕ)) →
         HoldsIn A t ts setting.now →
-        NamesKnown A t ts setting.now.subtrees.now j names.now N → 1 ≤ result.out →
-        StatesSlotted A t S ts setting.now.transitions.now setting.now.count N j result }
+        NamesKnown A t ts setting.now.subtrees.now j names.now N →
+        IfSome result (StatesSlotted A t S ts setting.now.transitions.now setting.now.count N j) }
 {
-    let z = frame_slot_of(setting, names, j, from, to);
-    if z.out != 0 {
-        return z;
+    if let Some(z) = frame_slot_of(setting, names, j, from, to) {
+        return Some(z);
     }
     use_slot(setting, from, to, j as u8)
 }

@@ -34,10 +34,6 @@ step-has A b qs {v} e some = go (step-view A b qs)
     go (inl z) = absurd (omega arith)
     go (inr (_, has)) = subst (Has A.transitions b qs) e has
 
--- a slot without output meets `SlotUsed`
-pub used-none : (a : Arrays) (s : List ℕ) (c p : ℕ) (z : Slot) → z.place ≡ 0 → z.out ≡ 0 → SlotUsed a s c p z
-used-none a s c p z place out = record { place = omega arith; takes = λ some q agree. absurd (omega arith) }
-
 module _ (a : Arrays) {s : List ℕ} {c n : ℕ} (r : Searchable s c) (over : HoldsTransitionsOver s c n) (i k : ℕ)
     (h : i < c) (d : k < arity_of s (transition_bytes * i)) {p : ℕ} (arg : p ≡ arg_of s (transition_bytes * i) k)
     (bare : covered_at a s (transition_bytes * i) k ≡ false) where
@@ -69,7 +65,7 @@ module _ (a : Arrays) {s : List ℕ} {c n : ℕ} (r : Searchable s c) (over : Ho
       z.place ≡ k → z.out ≡ out_of s at → SlotUsed a s c p z
   used-slot z meta args place out = record {
     place = omega (arith, (r.padded.each i h).narrow);
-    takes = λ some q agree. subst (SlotTakes s c z) (here q)
+    takes = λ q agree. subst (SlotTakes s c z) (here q)
         (slot-takes z (label_of s at) (exchanged_args s at k q) r.padded (omega (arith, size q))
         (meta ∙ ap (λ x. byte_pairs * x + label_of s at) (sym (size q))) (number q)
         (subst (Has (transitions_in s c) (label_of s at) (exchanged_args s at k q)) (sym out) (has-exchanged q agree)));

@@ -90,10 +90,10 @@ neither_at s at p q k = not (eqb (arg_of s at k) p) && not (eqb (arg_of s at k) 
 pub record Hinted (a : Arrays) (s : List ℕ) (c p q : ℕ) (b : Bool) : Type 0 where
   pub refused : b ≡ false → transitions_agree a s c p q ≡ false
 
--- if the slot z has an output, every state that is used like p has that output in z
+-- every state that is used like p has the output of the slot z there
 pub record SlotUsed (a : Arrays) (s : List ℕ) (c p : ℕ) (z : Slot) : Type 0 where
   pub place : z.place < max_arity
-  pub takes : 1 ≤ z.out → (q : ℕ) → transitions_agree a s c p q ≡ true → SlotTakes s c z q
+  pub takes : (q : ℕ) → transitions_agree a s c p q ≡ true → SlotTakes s c z q
 
 -- ---- what is read
 

@@ -1,6 +1,6 @@
 // A slot in which a subtree's state is used and which the subtree's frames do not cover. Every state that is used
 // alike has the same output in this slot.
-ghost use Rattle.std.specs.Prelude.{List, true, ◌≡◌, ◌*◌, ◌-◌, ◌<◌, ◌^◌, ◌≤◌, ℕ};
+ghost use Rattle.std.specs.Prelude.{IfSome, List, true, ◌≡◌, ◌*◌, ◌-◌, ◌<◌, ◌^◌, ◌≤◌, ℕ};
 ghost use Rattle.automata.specs.Alike.{frames_of, uses_agree};
 ghost use Rattle.automata.specs.Automaton.{Automaton, run};
 ghost use Rattle.fields.specs.Fields.{HoldsTransitionsOver};
@@ -20,7 +20,7 @@ use crate::setting::{Frames, Setting};
 use crate::spans::entry;
 use fields::{arg_of, arity_of, out_of};
 use format::{BYTE_VALUES, MAX_ARITY, MAX_NODES, TRANSITION_BYTES, wide};
-use packed::{Slot, args_at, at_place, meta_at, no_slot};
+use packed::{Slot, args_at, at_place, meta_at};
 
 // The slot of transition i without its argument k, which is p.
 fn slot_at(transitions: &[u8], count: usize, i: usize, k: usize, p: u8) -> Slot
@@ -45,7 +45,7 @@ fn slot_at(transitions: &[u8], count: usize, i: usize, k: usize, p: u8) -> Slot
     }
 }
 
-// The same, but no slot if argument k is not p or the frames of subtree j cover the slot.
+// The same, but None if argument k is not p or the frames of subtree j cover the slot.
 fn place_slot(
     setting: &Setting<'_>,
     start: usize,
@@ -54,15 +54,16 @@ fn place_slot(
     p: u8,
     i: usize,
     k: usize,
-) -> Slot
+) -> Option<Slot>
     requires scannable { ScannableIn setting.now (frames_of_one j start end) }
     requires i_lt_count { i < setting.now.count }
     requires k_bound { k < arity_of setting.now.transitions.now (transition_bytes * i) }
-    ensures { SlotUsed (arrays_of setting.now.subtrees.now setting.now.weights.now j 0) setting.now.transitions.now setting.now.count p result }
+    ensures { IfSome result (SlotUsed (arrays_of setting.now.subtrees.now setting.now.weights.now j 0)
+        setting.now.transitions.now setting.now.count p) }
 {
     let at = TRANSITION_BYTES * i;
     if arg_of(setting.transitions, at, k) != wide(p) {
-        return no_slot();
+        return None;
     }
     if is_covered(
         setting.transitions,
@@ -77,46 +78,53 @@ fn place_slot(
             end: end,
         },
     ) {
-        return no_slot();
+        return None;
     }
-    slot_at(setting.transitions, setting.count, i, k, p)
+    Some(slot_at(setting.transitions, setting.count, i, k, p))
 }
 
 // The slot of the first place of transition i that gives one.
-fn transition_slot(setting: &Setting<'_>, start: usize, end: usize, j: u8, p: u8, i: usize) -> Slot
+fn transition_slot(
+    setting: &Setting<'_>,
+    start: usize,
+    end: usize,
+    j: u8,
+    p: u8,
+    i: usize,
+) -> Option<Slot>
     requires scannable { ScannableIn setting.now (frames_of_one j start end) }
     requires i_lt_count { i < setting.now.count }
-    ensures { SlotUsed (arrays_of setting.now.subtrees.now setting.now.weights.now j 0) setting.now.transitions.now setting.now.count p result }
+    ensures { IfSome result (SlotUsed (arrays_of setting.now.subtrees.now setting.now.weights.now j 0)
+        setting.now.transitions.now setting.now.count p) }
 {
     let arity = arity_of(setting.transitions, TRANSITION_BYTES * i);
     for k in 0..arity {
-        let z = place_slot(setting, start, end, j, p, i, k);
-        if z.out != 0 {
-            return z;
+        if let Some(z) = place_slot(setting, start, end, j, p, i, k) {
+            return Some(z);
         }
     }
-    no_slot()
+    None
 }
 
 // A slot in which the state of subtree j is used and which the frames of j do not cover. Only the last transition
-// that uses the state is tried; no slot if it gives none.
-pub fn use_slot(setting: &Setting<'_>, start: usize, end: usize, j: u8) -> Slot
+// that uses the state is tried.
+pub fn use_slot(setting: &Setting<'_>, start: usize, end: usize, j: u8) -> Option<Slot>
     requires le_j { 1 ≤ j }
     requires j_le_m { j ≤ setting.now.subtrees.now.count }
     requires parents_within { ParentsFrom setting.now.subtrees.now j start end }
-    ensures place_lt_max_arity { result.place < max_arity }
+    ensures place_lt_max_arity { IfSome result (λ z. z.place < max_arity) }
     ensures slot_takes { (A : Automaton) (t : Tree) (ts : List Tree) →
-        HoldsIn A t ts setting.now → 1 ≤ result.out → (q : ℕ) →
+        HoldsIn A t ts setting.now → IfSome result (λ z. (q : ℕ) →
         uses_agree A t (frames_of t (tree_numbered ts j)) (run A (tree_numbered ts j)) q ≡ true →
-        SlotTakes setting.now.transitions.now setting.now.count result q }
+        SlotTakes setting.now.transitions.now setting.now.count z q) }
 {
     let p = setting.subtrees.states[wide(j) - 1];
     let number = entry(setting.lasts, p);
     if number == 0 {
-        return no_slot();
+        return None;
     }
     if number > setting.count {
-        return no_slot();
+        return None;
     }
     transition_slot(setting, start, end, j, p, number - 1)
 }

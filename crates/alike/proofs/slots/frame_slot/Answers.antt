@@ -30,5 +30,5 @@ pub returns : goal.returns
 returns c =
     frame-slot c.args.setting.now.subtrees.now.arities c.args.setting.now.subtrees.now.children c.args.i c.wide-arity.ensures
     c.children_of-numbers.ensures c.args.setting.now.subtrees.now.states c.states_of-qs.ensures c.args.setting.now.shaped c.args.k
-    c.requires.i_lt_m c.requires.k_bound _ c.meta_of-meta.ensures c.pack-args.ensures.value refl
+    c.requires.i_lt_m c.requires.k_bound c.requires.name_some _ c.meta_of-meta.ensures c.pack-args.ensures.value refl
     c.wide-name.ensures

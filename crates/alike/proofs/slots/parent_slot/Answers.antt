@@ -2,12 +2,7 @@ use mathlib.Core.Path.{◌∙◌, subst, sym}
 use Prim.Native.Nat.{ℕ}
 use native.Mathlib.Omega.{arith}
 use Rattle.alike.specs.Slots.{SlotOf}
-use Rattle.alike.proofs.FrameSlots.{slot-none}
 use Rattle.alike.proofs.slots.parent_slot.Goals as goal
-
-pub returns-then-names-i-eq0 : goal.returns-then-names-i-eq0
-returns-then-names-i-eq0 c = slot-none c.args.setting.now.subtrees.now.count c.args.j c.args.setting.now.subtrees.now.labels c.args.setting.now.subtrees.now.arities c.args.setting.now.subtrees.now.children c.args.setting.now.subtrees.now.states c.args.names.now
-    c.no_slot.result c.no_slot.ensures.place_value c.no_slot.ensures.out_value
 
 pub loop-k-init : goal.loop-k-init
 loop-k-init c = c.wide-arity.ensures
@@ -21,6 +16,7 @@ bounds-setting-i-in-loop-k c = omega (arith, c.loop-k.invariant, c.args.setting.
 pub frame_slot-requires : goal.frame_slot-requires
 frame_slot-requires c = record {
   i_lt_m = c.requires.i_lt_m;
+  name_some = omega (arith, c.if-names-i-eq0.false);
   k_bound = omega (arith, c.loop-k.invariant);
 }
 
@@ -31,7 +27,3 @@ returns-then-wide-j c = subst (λ (j : ℕ). SlotOf c.args.setting.now.subtrees.
 
 pub loop-k-preserved : goal.loop-k-preserved
 loop-k-preserved c = c.loop-k.invariant
-
-pub returns : goal.returns
-returns c = slot-none c.args.setting.now.subtrees.now.count c.args.j c.args.setting.now.subtrees.now.labels c.args.setting.now.subtrees.now.arities c.args.setting.now.subtrees.now.children c.args.setting.now.subtrees.now.states c.args.names.now
-    c.no_slot-2.result c.no_slot-2.ensures.place_value c.no_slot-2.ensures.out_value

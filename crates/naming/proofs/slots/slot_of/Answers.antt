@@ -1,14 +1,15 @@
 -- `naming::slots::slot_of` meets its contract: the frame's slot if there is one, else that of a use.
+use Rattle.std.proofs.lemmas.Option.{IfSome_then}
 use Rattle.naming.proofs.Slotting.{frame-slotted, use-slotted}
 use Rattle.naming.proofs.slots.slot_of.Goals as goal
 
-pub frame_slot_of-z-requires : goal.frame_slot_of-z-requires
-frame_slot_of-z-requires c = record { to_le_m = c.requires.parents_within.known }
+pub frame_slot_of-requires : goal.frame_slot_of-requires
+frame_slot_of-requires c = record { to_le_m = c.requires.parents_within.known }
 
-pub returns-then-z-ne0 : goal.returns-then-z-ne0
-returns-then-z-ne0 c = record {
-  place_lt_max_arity = c.frame_slot_of-z.ensures.place;
-  states_slotted = λ A t ts S N holds X some. frame-slotted holds c.args.setting.now.searchable X c.frame_slot_of-z.ensures some;
+pub returns-in-Some : goal.returns-in-Some
+returns-in-Some c = record {
+  place_lt_max_arity = c.in-Some.ensures.place;
+  states_slotted = λ A t ts S N holds X. frame-slotted holds c.args.setting.now.searchable X c.in-Some.ensures;
 }
 
 pub use_slot-requires : goal.use_slot-requires
@@ -22,5 +23,6 @@ use_slot-requires c =
 pub returns : goal.returns
 returns c = record {
   place_lt_max_arity = c.use_slot.ensures.place_lt_max_arity;
-  states_slotted = λ A t ts S N holds X some. use-slotted holds (c.use_slot.ensures.slot_takes A t ts holds some);
+  states_slotted = λ A t ts S N holds X. IfSome_then c.use_slot.result (c.use_slot.ensures.slot_takes A t ts holds)
+      (λ z takes. use-slotted holds takes);
 }

@@ -2,8 +2,8 @@
 use native.Mathlib.Omega.{arith}
 use mathlib.Core.Path.{◌∙◌, sym}
 use Rattle.fields.proofs.Transitions.{readable}
-use Rattle.uses.specs.Uses.{arrays}
-use Rattle.uses.proofs.UseSlots.{used-none, used-slot}
+use Rattle.uses.specs.Settings.{arrays_of}
+use Rattle.uses.proofs.UseSlots.{used-slot}
 use Rattle.uses.proofs.using.place_slot.Goals as goal
 
 pub arg_of-requires : goal.arg_of-requires
@@ -15,12 +15,6 @@ arg_of-requires c =
           (arith, r.narrow, c.requires.k_bound);
     }
 
-pub returns-then-arg_of-wide : goal.returns-then-arg_of-wide
-returns-then-arg_of-wide c =
-    used-none (arrays c.args.setting.now.subtrees.now.labels c.args.setting.now.subtrees.now.arities c.args.setting.now.subtrees.now.children c.args.setting.now.subtrees.now.states c.args.setting.now.weights.now c.args.setting.now.subtrees.now.count
-    c.args.j 0) c.args.setting.now.transitions.now c.args.setting.now.count c.args.p c.no_slot.result c.no_slot.ensures.place_value
-    c.no_slot.ensures.out_value
-
 pub is_covered-requires : goal.is_covered-requires
 is_covered-requires c = record {
   readable = readable c.requires.scannable.over.runs c.args.i
@@ -31,16 +25,9 @@ is_covered-requires c = record {
   parents_within_2 = c.requires.scannable.second;
 }
 
-pub returns-then-is_covered : goal.returns-then-is_covered
-returns-then-is_covered c =
-    used-none (arrays c.args.setting.now.subtrees.now.labels c.args.setting.now.subtrees.now.arities c.args.setting.now.subtrees.now.children c.args.setting.now.subtrees.now.states c.args.setting.now.weights.now c.args.setting.now.subtrees.now.count
-    c.args.j 0) c.args.setting.now.transitions.now c.args.setting.now.count c.args.p c.no_slot-then-is_covered.result c.no_slot-then-is_covered.ensures.place_value
-    c.no_slot-then-is_covered.ensures.out_value
-
 pub returns : goal.returns
 returns c =
-    used-slot (arrays c.args.setting.now.subtrees.now.labels c.args.setting.now.subtrees.now.arities c.args.setting.now.subtrees.now.children c.args.setting.now.subtrees.now.states c.args.setting.now.weights.now c.args.setting.now.subtrees.now.count
-    c.args.j 0) c.requires.scannable.searchable c.requires.scannable.over c.args.i c.args.k c.requires.i_lt_count c.requires.k_bound (sym
+    used-slot (arrays_of c.args.setting.now.subtrees.now c.args.setting.now.weights.now c.args.j 0) c.requires.scannable.searchable c.requires.scannable.over c.args.i c.args.k c.requires.i_lt_count c.requires.k_bound (sym
     c.wide.ensures ∙ sym c.if-arg_of-wide.false
     ∙ c.arg_of.ensures.value) (sym c.is_covered.ensures
     ∙ c.if-is_covered.false) c.slot_at.result c.slot_at.ensures.meta_value c.slot_at.ensures.args_value c.slot_at.ensures.place_value c.slot_at.ensures.out_value
