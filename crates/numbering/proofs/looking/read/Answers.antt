@@ -11,10 +11,6 @@ use Rattle.packed.specs.Heads.{place_of}
 use Rattle.numbering.proofs.Passes.{read-broken, read_known, read_low, read_next}
 use Rattle.numbering.proofs.looking.read.Goals as goal
 
-pub top_place-t-requires : goal.top_place-t-requires
-top_place-t-requires c =
-    omega (arith, c.arity_of.ensures, (c.args.transitions.now.holds.each c.args.i c.requires.i_lt_count).narrow)
-
 pub returns-then-out-t : goal.returns-then-out-t
 returns-then-out-t c =
     let t = (c.top_place-t.ensures ∙ ap (λ (n : ℕ). top (map (place_of (get_or c.args.transitions.now.args.now
@@ -36,11 +32,6 @@ returns-then-leads_to c =
     read_known c.args.transitions.now.heads.now c.args.transitions.now.args.now c.args.i c.args.seen.now
     c.requires.passed (search rules) c.requires.spans (omega (arith, t, o, c.if-out-t.false))
     (omega (arith, l.0, m)) (omega (arith, l.1, m, t))
-
-pub returns-then-not-all_seen : goal.returns-then-not-all_seen
-returns-then-not-all_seen c =
-    read-broken c.args.transitions.now.heads.now c.args.transitions.now.args.now c.args.i c.args.seen.now
-    c.requires.passed (search rules) c.requires.spans
 
 pub returns : goal.returns
 returns c =

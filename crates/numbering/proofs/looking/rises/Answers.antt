@@ -9,12 +9,6 @@ use Rattle.numbering.proofs.Entries.{rising-each}
 use Rattle.numbering.proofs.Places.{precedes-heads}
 use Rattle.numbering.proofs.looking.rises.Goals as goal
 
-pub loop-i-init : goal.loop-i-init
-loop-i-init c j h = absurd (omega arith)
-
-pub returns-then-not-is_before : goal.returns-then-not-is_before
-returns-then-not-is_before c = λ e. absurd (false≢true e)
-
 pub loop-i-preserved : goal.loop-i-preserved
 loop-i-preserved c j h =
     let i = c.loop-i.i in

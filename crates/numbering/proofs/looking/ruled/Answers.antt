@@ -30,37 +30,3 @@ loop-i-preserved-then-out_of-low c = let v = c.loop-i.invariant in record {
   spans = v.spans;
   all_seen = v.all_seen;
 }
-
-pub read-requires : goal.read-requires
-read-requires c = record {
-  i_lt_count = omega arith;
-  passed = c.loop-i.invariant.passed;
-  spans = c.loop-i.invariant.spans;
-}
-
-pub returns-then-not-read : goal.returns-then-not-read
-returns-then-not-read c = λ e. absurd (false≢true e)
-
-pub seen_up_to-low-requires : goal.seen_up_to-low-requires
-seen_up_to-low-requires c = record {
-  low_le_states = c.loop-i.invariant.low;
-  states_le_max_states = c.requires;
-  all_seen = λ q a b. c.read.ensures.kept q (c.loop-i.invariant.all_seen q a b);
-}
-
-pub loop-i-preserved : goal.loop-i-preserved
-loop-i-preserved c = record {
-  low = c.seen_up_to-low.ensures.upper_bound;
-  size = c.read.ensures.size;
-  passed = c.read.ensures.passed c.if-not-read.false;
-  spans = c.read.ensures.spans;
-  all_seen = c.seen_up_to-low.ensures.all_seen_2;
-}
-
-pub returns : goal.returns
-returns c =
-    λ e. let v = c.loop-i.invariant in
-    let d : c.loop-i.i ≡ c.args.transitions.now.count = omega (arith, c.loop-i.auto) in
-    pass-end c.args.transitions.now.heads.now c.args.transitions.now.args.now c.args.transitions.now.count c.loop-i.seen
-    (subst (λ (n : ℕ). Passed (packed_in c.args.transitions.now.heads.now c.args.transitions.now.args.now n) (marked c.loop-i.seen)) d v.passed)
-    c.args.states (λ q a b. v.all_seen q a (omega (arith, eqb-true c.loop-i.low c.args.states e)))

@@ -11,12 +11,6 @@ use Rattle.numbering.proofs.looking.top_place.Goals as goal
 greater : (a b : ℕ) → ord_max nat_cmp a b ≡ max a b
 greater a b = grind (arith, nat_tests)
 
-pub loop-k-init : goal.loop-k-init
-loop-k-init c = top_start
-
 pub loop-k-preserved : goal.loop-k-preserved
 loop-k-preserved c =
     rw (c.max-t.ensures, greater, c.place_of.ensures.value) (top-next c.loop-k.invariant (omega arith))
-
-pub returns : goal.returns
-returns c = top-end c.loop-k.invariant (omega arith)
