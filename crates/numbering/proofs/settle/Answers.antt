@@ -1,7 +1,5 @@
 -- `numbering::settle` meets its contract: transitions that pass the check are right by the rule.
-use mathlib.Core.Bool.{false≢true}
 use Rattle.numbering.proofs.Rebuilt.{numbered-bytes, settled, settled-holds}
-use native.Mathlib.Omega.{arith}
 use Rattle.std.proofs.Common.{rules}
 use Rattle.numbering.proofs.settle.Goals as goal
 

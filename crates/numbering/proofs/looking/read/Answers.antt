@@ -8,7 +8,7 @@ use lib.ListN.{get_or}
 use Rattle.automata.specs.Numbered.{top}
 use Rattle.lists.specs.Positions.{up_from}
 use Rattle.packed.specs.Heads.{place_of}
-use Rattle.numbering.proofs.Passes.{read-broken, read_known, read_low, read_next}
+use Rattle.numbering.proofs.Passes.{read_known, read_low, read_next}
 use Rattle.numbering.proofs.looking.read.Goals as goal
 
 pub returns-then-out-t : goal.returns-then-out-t

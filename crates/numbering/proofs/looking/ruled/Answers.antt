@@ -1,15 +1,9 @@
-use mathlib.Core.Bool.{false≢true}
-use borrow.Author.Tests.{eqb-true}
 use native.Mathlib.Omega.{arith}
-use mathlib.Core.Path.{◌≡◌, subst}
 use lib.ListN.{length-replicate}
 use Prim.Native.Nat.{ℕ}
-use Rattle.automata.specs.Numbered.{Passed}
 use Rattle.format.specs.Format.{byte_values}
-use Rattle.marking.specs.Marks.{marked}
-use Rattle.packed.specs.Heads.{packed_in}
 use Rattle.validity.proofs.Passing.{spans-none}
-use Rattle.numbering.proofs.Passes.{pass_below, pass-end, pass-start}
+use Rattle.numbering.proofs.Passes.{pass_below, pass-start}
 use Rattle.numbering.proofs.looking.ruled.Goals as goal
 
 pub loop-i-init : goal.loop-i-init

@@ -1,10 +1,10 @@
 use native.Mathlib.Omega.{arith}
-use mathlib.Core.Path.{◌∙◌, ◌≡◌}
+use mathlib.Core.Path.{◌≡◌}
 use Prim.Native.Nat.{ℕ}
 use Rattle.std.proofs.Common.{max}
 use Rattle.std.proofs.lemmas.Bool.Decides.{nat_tests}
 use Rattle.std.specs.Ordering.{nat_cmp, ord_max}
-use Rattle.validity.proofs.Arguments.{top-end, top-next, top_start}
+use Rattle.validity.proofs.Arguments.{top-next}
 use Rattle.numbering.proofs.looking.top_place.Goals as goal
 
 -- the library's greater number is the logic's

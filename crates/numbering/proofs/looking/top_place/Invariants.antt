@@ -1,7 +1,6 @@
 -- `numbering::looking::top_place` meets its contract: the greatest of those read and of those left is the greatest of
 -- all.
 use mathlib.Core.List.{map}
-use Prim.Native.Nat.{◌-◌}
 use Rattle.automata.specs.Numbered.{top}
 use Rattle.lists.specs.Positions.{up_from}
 use Rattle.packed.specs.Heads.{place_of}

@@ -1,8 +1,6 @@
 -- `numbering::order::follow` meets its contract: the heap and the order have room.
 use Prim.Native.Nat.{◌≤◌}
-use mathlib.Core.Path.{◌≡◌}
 use lib.ListN.{length}
-use Rattle.format.specs.Format.{byte_values}
 use Rattle.packed.specs.Heads.{Room}
 use Rattle.numbering.proofs.order.follow.Given as goal
 

@@ -1,8 +1,6 @@
 use native.Mathlib.Omega.{arith}
 use Rattle.std.proofs.Common.{rules}
-use mathlib.Core.Bool.{false≢true}
-use mathlib.Core.Path.{◌≡◌, refl, subst}
-use Rattle.numbering.specs.Steps.{Numbered}
+use mathlib.Core.Path.{refl}
 use Rattle.numbering.proofs.Numbers.{numbered_next, numbered-start}
 use Rattle.numbering.proofs.renumbering.number_names.Goals as goal
 

@@ -1,12 +1,6 @@
-use mathlib.Core.Path.{◌∙◌, ◌≡◌, ap, subst}
-use Prim.Native.Nat.{ℕ}
-use Rattle.std.specs.Prelude.{IfSome}
 use native.Mathlib.Omega.{arith}
-use Rattle.format.specs.Format.{max_arity}
-use Rattle.packed.specs.Packed.{pad_to}
 use Rattle.packed.proofs.Zeros.{digits-room}
-use Rattle.numbering.specs.Numbers.{ArgsByNumber}
-use Rattle.numbering.proofs.Numbers.{renamed-end, renamed-next, renamed-start}
+use Rattle.numbering.proofs.Numbers.{renamed-next}
 use Rattle.numbering.proofs.renumbering.rename_args.Goals as goal
 
 pub with_number-next-requires : goal.with_number-next-requires

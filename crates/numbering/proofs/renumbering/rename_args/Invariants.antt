@@ -1,5 +1,4 @@
 -- `numbering::renumbering::rename_args` meets its contract: the first k arguments have their numbers.
-use Prim.Native.Nat.{◌-◌}
 use Rattle.numbering.proofs.Numbers.{ArgsRenamed}
 use Rattle.numbering.proofs.renumbering.rename_args.Given as goal
 

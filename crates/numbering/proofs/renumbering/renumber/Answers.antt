@@ -1,6 +1,5 @@
 use native.Mathlib.Omega.{arith}
-use mathlib.Core.Bool.{false≢true}
-use Rattle.numbering.proofs.Numbers.{packs-next, renumbered-end, renumbered-next, renumbered-start}
+use Rattle.numbering.proofs.Numbers.{renumbered-next}
 use Rattle.numbering.proofs.renumbering.renumber.Goals as goal
 
 pub loop-i-preserved : goal.loop-i-preserved

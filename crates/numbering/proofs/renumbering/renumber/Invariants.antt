@@ -1,6 +1,5 @@
 -- `numbering::renumbering::renumber` meets its contract: in the loop the first i transitions have numbers for names,
 -- the others are unchanged.
-use Prim.Native.Nat.{◌-◌}
 use Rattle.numbering.proofs.Numbers.{RenumberedTo}
 use Rattle.numbering.proofs.renumbering.renumber.Given as goal
 

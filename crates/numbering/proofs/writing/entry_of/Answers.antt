@@ -1,5 +1,5 @@
 use native.Mathlib.Omega.{arith}
-use Rattle.numbering.proofs.Tables.{entry-end, entry_next}
+use Rattle.numbering.proofs.Tables.{entry_next}
 use Rattle.numbering.proofs.writing.entry_of.Goals as goal
 
 pub loop-k-preserved : goal.loop-k-preserved

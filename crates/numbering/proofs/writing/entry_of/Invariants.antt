@@ -1,5 +1,4 @@
 -- `numbering::writing::entry_of` meets its contract: in the loop the first k arguments are there.
-use Prim.Native.Nat.{◌-◌}
 use Rattle.numbering.proofs.Tables.{EntryTo}
 use Rattle.numbering.proofs.writing.entry_of.Given as goal
 

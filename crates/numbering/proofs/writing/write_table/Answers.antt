@@ -1,8 +1,6 @@
 -- `numbering::writing::write_table` meets its contract: states, classes, count, transitions and zeros, in turn.
-use mathlib.Core.Path.{◌∙◌, refl}
+use mathlib.Core.Path.{refl}
 use Prim.Native.Nat.{◌%◌, ◌/◌}
-use native.Mathlib.Omega.{arith}
-use lib.ListN.{length-set, set}
 use Rattle.numbering.proofs.Tables.{table-put}
 use Rattle.numbering.proofs.writing.write_table.Goals as goal
 
