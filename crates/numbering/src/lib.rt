@@ -31,7 +31,7 @@ use crate::renumbering::{number_names, renumber};
 use crate::sorting::sort;
 pub use crate::writing::write_run;
 use crate::writing::write_table;
-use format::{BYTE_VALUES, MAX_STATES};
+use format::BYTE_VALUES;
 use minimize::renaming::no_names;
 
 // Gives the names in the transitions their numbers by an order, and sorts. Returns whether the result is right by the
@@ -98,10 +98,9 @@ pub fn rebuild(
     } = buffers;
     let mut order = no_names();
     let transitions = Transitions { heads, args, count };
-    let states = guess(&transitions, next, room, spare, &mut order, old, few);
-    if states > MAX_STATES {
+    let Some(states) = guess(&transitions, next, room, spare, &mut order, old, few) else {
         return false;
-    }
+    };
     if !settle(heads, args, count, room, spare, &order, states) {
         return false;
     }

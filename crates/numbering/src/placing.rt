@@ -1,6 +1,6 @@
 // Transitions placed on the way to an order. If all arguments have numbers, a transition is offered to its output;
 // else it waits in the list of an argument that has none. Nothing is proved of the choice.
-ghost use Rattle.std.specs.Prelude.{◌≡◌, ◌<◌, ◌≤◌, length};
+ghost use Rattle.std.specs.Prelude.{IfSome, ◌≡◌, ◌<◌, ◌≤◌, length};
 ghost use Rattle.format.specs.Format.{byte_values};
 
 use crate::lent::Transitions;
@@ -39,20 +39,23 @@ fn later(most: usize, q: usize, numbers: &[u8; BYTE_VALUES]) -> usize
     q
 }
 
-// The greatest name among the arguments that has no number; 0 if each has one. Names of states are their old numbers,
-// so a transition mostly waits for the argument that is numbered last. Places beyond the arguments are 0.
-fn waits_on(args: u64, numbers: &[u8; BYTE_VALUES]) -> usize
-    ensures { result < byte_values }
+// The greatest name among the arguments that has no number, if one has none. Names of states are their old numbers, so
+// a transition mostly waits for the argument that is numbered last. Places beyond the arguments are 0.
+fn waits_on(args: u64, numbers: &[u8; BYTE_VALUES]) -> Option<usize>
+    ensures { IfSome result (λ q. q < byte_values) }
 {
     let mut most = 0;
     for k in 0..MAX_ARITY {
         let q = place_of(args, k);
         if q == 0 {
-            return most;
+            break;
         }
         most = later(most, q, numbers);
     }
-    most
+    if most == 0 {
+        return None;
+    }
+    Some(most)
 }
 
 impl Placing {
@@ -112,8 +115,7 @@ impl Placing {
         if self.numbers[o] != 0 {
             return;
         }
-        let q = waits_on(transitions.args[i], &self.numbers);
-        if q != 0 {
+        if let Some(q) = waits_on(transitions.args[i], &self.numbers) {
             next[i] = self.lists[q];
             self.lists[q] = (i + 1) as u16;
             return;

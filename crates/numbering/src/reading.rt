@@ -1,20 +1,10 @@
 // The parts of a packed transition: its head, which has child count, label and output, and its arguments.
-ghost use Rattle.std.specs.Prelude.{◌≡◌, ◌<◌, get_or, length};
+ghost use Rattle.std.specs.Prelude.{◌≡◌, ◌<◌};
 ghost use Rattle.format.specs.Format.{byte_values, max_arity};
-ghost use Rattle.minimize.specs.Renaming.{name_in};
 ghost use Rattle.packed.specs.Packed.{before};
 ghost use Rattle.packed.specs.Heads.{head_arity, head_label, head_meta, head_out, place_of};
 
-use format::BYTE_VALUES;
 use packed::comes_before;
-
-// Entry q of a table of names or of numbers.
-pub fn name_at(list: &[u8; BYTE_VALUES], q: usize) -> u8
-    requires { q < byte_values }
-    ensures { result ≡ name_in list.now q }
-{
-    list[q]
-}
 
 // Argument k.
 pub fn place_of(args: u64, k: usize) -> usize

@@ -7,6 +7,6 @@ use Rattle.numbering.proofs.rebuild.Goals as goal
 
 pub returns-clause-table_after : goal.returns-clause-table_after
 returns-clause-table_after c =
-    rebuilt c.args.classes.now (search rules) (omega (arith, c.if-states-gt-MAX_STATES.false))
+    rebuilt c.args.classes.now (search rules) c.in-Some.ensures.upper_bound
     (c.settle.ensures c.if-not-settle.false) c.write_table.ensures (λ i.
     (c.type_inv.table i).fits)
