@@ -60,7 +60,8 @@ pub fn sum_accepting(classes: &[u8], n: usize, numbers: &Numbers) -> Option<u64>
 {
     let mut sum = Some(0);
     for q in 1..n + 1 {
-        if classes[q] == 1 {
+        let accepting = classes[q] == 1;
+        if accepting {
             sum = plus(sum, numbers[q]);
         }
     }

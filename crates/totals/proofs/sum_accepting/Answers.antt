@@ -8,7 +8,7 @@ use Rattle.fields.proofs.Views.{viewed-class}
 use Rattle.totals.proofs.Accepting.{accepted-end, accepted-next, accepted-same, accepted-start}
 use Rattle.table.specs.Layout.{class_at}
 use Rattle.totals.proofs.Tables.{number-at}
-use Rattle.totals.proofs.sum_accepting.Goals.{In-loop-q, else-classes-q-eq1, then-classes-q-eq1}
+use Rattle.totals.proofs.sum_accepting.Goals.{In-loop-q, else-accepting, then-accepting}
 use Rattle.totals.proofs.sum_accepting.Goals as goal
 
 pub loop-q-init : goal.loop-q-init
@@ -20,14 +20,14 @@ class : (c : In-loop-q) →
 class c = viewed-class c.args.classes.now [] c.args.n 0 c.loop-q.q (omega arith) (omega arith)
 
 pub loop-q-preserved : goal.loop-q-preserved
-loop-q-preserved c = elim c.if-classes-q-eq1.branch [
-  | then-classes-q-eq1 w ↦
+loop-q-preserved c = elim c.if-accepting.branch [
+  | then-accepting w ↦
       rw w.sum-is (accepted-next c.loop-q.invariant (omega arith)
-      (class (goal.at.loop-q-preserved c).In-loop-q ∙ eq-eqb _ 1 w.if-classes-q-eq1.true)
+      (class (goal.at.loop-q-preserved c).In-loop-q ∙ eq-eqb _ 1 w.if-accepting.true)
       (number-at c.args.numbers.now c.loop-q.q) w.plus-sum.ensures)
-  | else-classes-q-eq1 w ↦
+  | else-accepting w ↦
       rw w.sum-is (accepted-same c.loop-q.invariant (omega arith)
-      (class (goal.at.loop-q-preserved c).In-loop-q ∙ ne_eqb _ 1 w.if-classes-q-eq1.false))
+      (class (goal.at.loop-q-preserved c).In-loop-q ∙ ne_eqb _ 1 w.if-accepting.false))
 ]
 
 pub returns : goal.returns
