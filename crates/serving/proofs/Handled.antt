@@ -11,14 +11,16 @@ use Rattle.calls.specs.declared.Answer.TheVariants.{Accepted, Approved, Done, Fi
 use Rattle.calls.specs.declared.Answer.TheVariants.{Serial, Total as Counted}
 use Rattle.report.specs.Printing.{Printed}
 use Rattle.report.specs.Report.{end_text, line_text}
-use Rattle.report.specs.declared.Outcome.{Outcome}
-use Rattle.report.specs.declared.Outcome.TheVariants.{Answered, Form as Malformed, Long as TooLong}
 use Rattle.text.proofs.Lines.{padded-listing}
 use Rattle.text.specs.Grammar.{Command, to_add, to_ask, to_drop}
 use Rattle.text.specs.Outcome.{listed, padded, parsed, parsed_as}
 use Rattle.text.specs.Reader.{Line, form, formed, long, read_line, totalled}
-use Rattle.text.specs.declared.Parsed.{Parsed}
-use Rattle.text.specs.declared.Parsed.TheVariants.{Add, Ask, Drop, Form, Long, Total}
+use Rattle.text.specs.declared.Command as read
+use Rattle.text.specs.declared.Command.TheVariants.{Add, Ask, Drop, Total}
+use Rattle.text.specs.declared.Malformed.{Malformed}
+use Rattle.text.specs.declared.Malformed.TheVariants.{Form, Long}
+use Rattle.std.specs.Prelude.{Err, Ok}
+use Rattle.std.specs.Prelude as std
 use Rattle.serving.specs.Answering.{Serves, handling}
 use Rattle.serving.specs.Serving.{answered, called, closing, closing_for, handled, reported, served}
 
@@ -28,14 +30,14 @@ record Commands (r : Line) (c : Command) (n : ℕ) : Type 0 where
   line : r ≡ formed c listing
   size : n ≡ length listing
 
--- what the reader's enum says of its line
-Says : Line → Parsed → Type 0
-Says r (Add n) = Commands r to_add n
-Says r (Drop n) = Commands r to_drop n
-Says r (Ask n) = Commands r to_ask n
-Says r (Form n) = r ≡ form n
-Says r Long = r ≡ long
-Says r Total = r ≡ totalled
+-- what the reader's result says of its line
+Says : Line → std.Result read.Command Malformed → Type 0
+Says r (Ok (Add n)) = Commands r to_add n
+Says r (Ok (Drop n)) = Commands r to_drop n
+Says r (Ok (Ask n)) = Commands r to_ask n
+Says r (Ok Total) = r ≡ totalled
+Says r (Err (Form n)) = r ≡ form n
+Says r (Err Long) = r ≡ long
 
 says-itself : (r : Line) → Says r (parsed r)
 unfolding Says parsed
@@ -46,16 +48,16 @@ says-itself (form n) = refl
 says-itself long = refl
 says-itself totalled = refl
 
-says : (r : Line) (x : Parsed) → parsed r ≡ x → Says r x
+says : (r : Line) (x : std.Result read.Command Malformed) → parsed r ≡ x → Says r x
 says r x e = subst (Says r) e (says-itself r)
 
-commands : (r : Line) (c : Command) (n : ℕ) → parsed r ≡ parsed_as c n → Commands r c n
+commands : (r : Line) (c : Command) (n : ℕ) → parsed r ≡ Ok (parsed_as c n) → Commands r c n
 unfolding Says
-commands r to_add n e = says r (Add n) e
-commands r to_drop n e = says r (Drop n) e
-commands r to_ask n e = says r (Ask n) e
+commands r to_add n e = says r (Ok (Add n)) e
+commands r to_drop n e = says r (Ok (Drop n)) e
+commands r to_ask n e = says r (Ok (Ask n)) e
 
-module _ (r : Line) (c : Command) (n : ℕ) (e : parsed r ≡ parsed_as c n) where
+module _ (r : Line) (c : Command) (n : ℕ) (e : parsed r ≡ Ok (parsed_as c n)) where
   -- the lent bytes have its listing
   pub listing-within : (m : List ℕ) → m ≡ listed r → n ≤ length m
   unfolding listed padded
@@ -77,24 +79,21 @@ module _ (r : Line) (c : Command) (n : ℕ) (e : parsed r ≡ parsed_as c n) whe
       ap answered (h ∙ ap (λ (s : List ℕ). called c s b w) t) ∙ sym (ap (λ (l : Line). handled l b w) X.line)
 
 -- a malformed line and one that is too long change nothing
-pub form-handled : (r : Line) (n : ℕ) → parsed r ≡ Form n → (b w : List ℕ) →
-    handling (Malformed n) b w ≡ handled r b w
+pub malformed-handled : (r : Line) (e : Malformed) → parsed r ≡ Err e → (b w : List ℕ) →
+    handling (Err e) b w ≡ handled r b w
 unfolding Says handled
-form-handled r n e b w = sym (ap (λ (l : Line). handled l b w) (says r (Form n) e))
-
-pub long-handled : (r : Line) → parsed r ≡ Long → (b w : List ℕ) → handling TooLong b w ≡ handled r b w
-unfolding Says handled
-long-handled r e b w = sym (ap (λ (l : Line). handled l b w) (says r Long e))
+malformed-handled r (Form n) e b w = sym (ap (λ (l : Line). handled l b w) (says r (Err (Form n)) e))
+malformed-handled r Long e b w = sym (ap (λ (l : Line). handled l b w) (says r (Err Long) e))
 
 -- the total changes nothing
-pub total-handled : (r : Line) → parsed r ≡ Total → (b w : List ℕ) (a : Answer) → a ≡ total_answer b →
-    handling (Answered a) b w ≡ handled r b w
+pub total-handled : (r : Line) → parsed r ≡ Ok Total → (b w : List ℕ) (a : Answer) → a ≡ total_answer b →
+    handling (Ok a) b w ≡ handled r b w
 unfolding Says handled
 total-handled r e b w a h =
-    ap (λ x. handling (Answered x) b w) h ∙ sym (ap (λ (l : Line). handled l b w) (says r Total e))
+    ap (λ x. handling (Ok x) b w) h ∙ sym (ap (λ (l : Line). handled l b w) (says r (Ok Total) e))
 
 -- a line handled and its outcome printed
-pub printed-served : (n : ℕ) (s b w : List ℕ) (o : Outcome) (b' w' t : List ℕ) (r : ℕ) →
+pub printed-served : (n : ℕ) (s b w : List ℕ) (o : std.Result Answer Malformed) (b' w' t : List ℕ) (r : ℕ) →
     handling o b' w' ≡ handled (read_line s) b w → Printed t (line_text n o) r → Serves n s b w t r b' w'
 unfolding served
 printed-served n s b w o b' w' t r e p = record {

@@ -1,11 +1,12 @@
 -- What the functions leave: an outcome with the table and the scratch after it, and a buffer that holds a text.
-use Rattle.std.specs.Prelude.{List, ◌≡◌, ◌≤◌, ℕ, length, take}
+use Rattle.std.specs.Prelude.{List, Result, ◌≡◌, ◌≤◌, ℕ, length, take}
 use Rattle.report.specs.Printing.{line_bytes}
-use Rattle.report.specs.declared.Outcome.{Outcome}
+use Rattle.calls.specs.declared.Answer.{Answer}
+use Rattle.text.specs.declared.Malformed.{Malformed}
 use Rattle.serving.specs.Serving.{Handled, Served, served}
 
 -- an outcome with the table and the scratch
-abbrev pub handling : Outcome → List ℕ → List ℕ → Handled
+abbrev pub handling : Result Answer Malformed → List ℕ → List ℕ → Handled
 handling o b w = record { outcome = o; table = b; scratch = w }
 
 -- the first bytes of a buffer with the table and the scratch

@@ -10,29 +10,22 @@ ghost use Rattle.serving.specs.Serving.{closing, handled};
 
 use calls::Answer;
 use format::LISTING_BYTES;
-use report::{LINE_BYTES, Outcome};
-use text::{Parsed, read_line};
+use report::LINE_BYTES;
+use text::{Command, Malformed, read_line};
 
 // Reads a line and makes the call that it asks for.
-fn handle(line: &[u8], table: &mut [u8], scratch: &mut [u8]) -> Outcome
+fn handle(line: &[u8], table: &mut [u8], scratch: &mut [u8]) -> Result<Answer, Malformed>
     ensures { handling result table.new scratch.new ≡
         handled (read_line line.now) table.old scratch.old }
 {
     let mut listing = [0u8; LISTING_BYTES];
-    match read_line(line, &mut listing) {
-        Parsed::Add { len } => {
-            Outcome::Answered(answering::add(&listing[0..len], table, scratch))
-        }
-        Parsed::Drop { len } => {
-            Outcome::Answered(answering::remove(&listing[0..len], table, scratch))
-        }
-        Parsed::Ask { len } => Outcome::Answered(answering::ask(&listing[0..len], table)),
-        Parsed::Total => Outcome::Answered(answering::total(table)),
-        Parsed::Form { column } => Outcome::Form {
-            column: column as u64,
-        },
-        Parsed::Long => Outcome::Long,
-    }
+    let command = read_line(line, &mut listing)?;
+    Ok(match command {
+        Command::Add { len } => answering::add(&listing[0..len], table, scratch),
+        Command::Drop { len } => answering::remove(&listing[0..len], table, scratch),
+        Command::Ask { len } => answering::ask(&listing[0..len], table),
+        Command::Total => answering::total(table),
+    })
 }
 
 // Carries out a line and writes what is printed for it, from the first byte of the buffer on; returns its length.
