@@ -14,7 +14,7 @@ use Rattle.calls.specs.Claim.{InStep}
 use Rattle.calls.specs.Series.{BringsBytes, Model, empty_model, perform, query, query_result}
 use Rattle.calls.specs.Series.{total}
 use Rattle.format.specs.Format.{AllBytes, max_line, scratch_bytes, table_bytes}
-use Rattle.report.specs.declared.Outcome.TheVariants.{Answered}
+use Rattle.std.specs.Prelude.{Ok}
 use Rattle.report.specs.Report.{line_text}
 use Rattle.serving.specs.Serving.{called, closing, closing_for, handled, served}
 use Rattle.text.proofs.LineMeaning.{line-long}
@@ -85,13 +85,13 @@ unfolding handled perform query_result
 line_step s (formed c l) e b m X =
     let (a, Y) = one-call b m X (call_of c l) (brings c l (line-bytes s c l (short s c l e) e)) in
     record {
-      outcome = ap Answered (called-answer c l b ∙ ap (λ (x : Response). x.answer) a);
+      outcome = ap Ok (called-answer c l b ∙ ap (λ (x : Response). x.answer) a);
       next = rw (called-table c l b) Y;
       scratch = called-scratch c l b;
     }
 line_step s totalled e b m X =
     let (a, Y) = one-call b m X (query total) tt in
-    record { outcome = ap Answered (ap (λ (x : Response). x.answer) a); next = X; scratch = refl }
+    record { outcome = ap Ok (ap (λ (x : Response). x.answer) a); next = X; scratch = refl }
 line_step s (form n) e b m X = record { outcome = refl; next = X; scratch = refl }
 line_step s long e b m X = record { outcome = refl; next = X; scratch = refl }
 

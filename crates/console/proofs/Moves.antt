@@ -52,23 +52,20 @@ stepped_kept x b e = rw (ne_eqb b newline e)
 
 module _ (p : Progress) (l b w o : List ℕ) where
   pub line-moved : (t b' w' o' : List ℕ) (k r : ℕ) → Buffered p l o →
-      Serves (p.lines + 1) (take (p.held - 0) (drop 0 l)) b w t k b' w' →
-      Put o o' p.printed (take (k - 0) (drop 0 t)) r →
+      Serves (p.lines + 1) (take p.held l) b w t k b' w' →
+      Put o o' p.printed (take k t) r →
       Moved p (line_ended (console p l b w o)) (record { held = 0; lines = p.lines + 1; printed = r }) l b' w' o'
   unfolding line_ended
   line-moved t b' w' o' k r R S P =
-      let z : p.held - 0 ≡ p.held = omega arith in
-      let y : k - 0 ≡ k = omega arith in
       let n : p.lines + 1 ≡ suc p.lines = add-one p.lines in
-      let s = (rw (z, n) at S).equal in
-      let q = rw y at P in
+      let s = (rw n at S).equal in
       let u : length (take k t) ≤ line_bytes = simp length-take (omega (arith, S.within)) in
       record {
-        ready = record { line = R.line; out = q.size ∙ R.out; held = omega arith };
+        ready = record { line = R.line; out = P.size ∙ R.out; held = omega arith };
         lines = omega arith;
-        printed = omega (arith, q.end);
+        printed = omega (arith, P.end);
         equal =
-            (λ i. record { held = []; lines = n i; table = b'; scratch = w'; text = q.bytes i }) ∙
+            (λ i. record { held = []; lines = n i; table = b'; scratch = w'; text = P.bytes i }) ∙
             ap (after (console p l b w o)) s;
       }
 
@@ -107,17 +104,15 @@ module _ (p : Progress) (l b w o : List ℕ) where
 
 pub close-moved : (p q : Progress) (x : Console) (l b w o t o' : List ℕ) (k r : ℕ) → ProgressRoom p 1 2 →
     Moved p (input_ended x) q l b w o → Printed t (closing q.lines b) k →
-    Put o o' q.printed (take (k - 0) (drop 0 t)) r → ClosedTo x r o'
+    Put o o' q.printed (take k t) r → ClosedTo x r o'
 unfolding closed
 close-moved p q x l b w o t o' k r room M T P =
-    let y : k - 0 ≡ k = omega arith in
-    let P' = rw y at P in
     let u : length (take k t) ≤ line_bytes = simp length-take (omega (arith, T.within)) in
     record {
-      size = P'.size ∙ M.ready.out;
-      within = omega (arith, P'.end, M.printed, room.printed);
+      size = P.size ∙ M.ready.out;
+      within = omega (arith, P.end, M.printed, room.printed);
       text =
-          P'.bytes ∙ ap (λ (s : List ℕ). take q.printed o ++ s) T.text ∙
+          P.bytes ∙ ap (λ (s : List ℕ). take q.printed o ++ s) T.text ∙
           ap (λ (z : Console). z.text ++ closing z.lines z.table) M.equal;
     }
 
@@ -171,12 +166,14 @@ module _ {p : Progress} {x : Console} {s : List ℕ} {i : ℕ} {q : Progress} {l
       go zero f = absurd (omega (arith, f refl, room.printed))
       go (suc j) f = omega arith
 
-  pub feeding-all : length s ≤ i → FedTo p x s (record { taken = i; progress = q }) l b w o
-  feeding-all h = record {
-    ready = F.ready;
-    within = F.within;
-    some = λ k. omega arith;
-    lines = F.lines;
-    printed = F.printed;
-    equal = F.equal;
-  }
+  pub feeding-all : length s ≤ i → FedTo p x s (record { taken = length s; progress = q }) l b w o
+  feeding-all h =
+      let e : i ≡ length s = omega (arith, F.within) in
+      record {
+        ready = F.ready;
+        within = omega arith;
+        some = λ k. k;
+        lines = omega (arith, F.lines);
+        printed = F.printed;
+        equal = F.equal ∙ ap (λ (n : ℕ). fed x (take n s)) e;
+      }

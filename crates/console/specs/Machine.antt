@@ -1,14 +1,15 @@
 -- What the bench program prints, by the model that keeps a set (01: the plain machine): there is no table, and every
 -- answer is the model's.
-use Rattle.std.specs.Prelude.{List, [], ◌++◌, ◌∷◌, suc, ℕ, length, replicate}
+use Rattle.std.specs.Prelude.{Err, List, Ok, Result, [], ◌++◌, ◌∷◌, suc, ℕ, length, replicate}
 use Rattle.automata.specs.Automaton.{states}
+use Rattle.calls.specs.declared.Answer.{Answer}
 use Rattle.calls.specs.Series.{Call, Model, add, ask, canonical_of, empty_model, query, remove, respond, total}
 use Rattle.format.specs.Format.{scratch_bytes}
 use Rattle.report.specs.Report.{end_text, line_text}
-use Rattle.report.specs.declared.Outcome.{Outcome}
-use Rattle.report.specs.declared.Outcome.TheVariants.{Answered, Form, Long}
 use Rattle.text.specs.Grammar.{Command, to_add, to_ask, to_drop}
 use Rattle.text.specs.Reader.{Line, form, formed, long, read_line, totalled}
+use Rattle.text.specs.declared.Malformed.{Malformed}
+use Rattle.text.specs.declared.Malformed.TheVariants.{Form, Long}
 use Rattle.console.specs.Input.{lines_of}
 
 -- the call that a command makes, with a listing and a scratch of the right length
@@ -18,11 +19,11 @@ call_of to_drop s = remove s (replicate scratch_bytes 0)
 call_of to_ask s = query (ask s)
 
 -- what comes of a line, and the model after it
-abbrev pub line_outcome : Line → Model → Outcome
-line_outcome (formed c s) m = Answered (respond m (call_of c s)).response.answer
-line_outcome totalled m = Answered (respond m (query total)).response.answer
-line_outcome (form n) m = Form n
-line_outcome long m = Long
+abbrev pub line_outcome : Line → Model → Result Answer Malformed
+line_outcome (formed c s) m = Ok (respond m (call_of c s)).response.answer
+line_outcome totalled m = Ok (respond m (query total)).response.answer
+line_outcome (form n) m = Err (Form n)
+line_outcome long m = Err Long
 
 abbrev pub line_model : Line → Model → Model
 line_model (formed c s) m = (respond m (call_of c s)).next

@@ -17,7 +17,7 @@ pub const HELD_BYTES: usize = MAX_LINE + 1;
 // The bytes of the buffer for what is printed.
 pub const OUT_BYTES: usize = 65536;
 
-const NEWLINE: u8 = 10;
+const NEWLINE: u8 = b'\n';
 
 // The bytes held of the line that has not ended, the lines before it, and the bytes printed and not written yet.
 #[derive(Clone, Copy)]
@@ -76,8 +76,8 @@ fn end_line(
     let held = p.held;
     let number = p.lines + 1;
     let mut text = [0u8; LINE_BYTES];
-    let len = serving::serve(&line[0..held], number, table, scratch, &mut text);
-    let printed = put_word(out, p.printed, &text[0..len]);
+    let len = serving::serve(&line[..held], number, table, scratch, &mut text);
+    let printed = put_word(out, p.printed, &text[..len]);
     Progress {
         held: 0,
         lines: number,
@@ -103,11 +103,7 @@ fn step(
         return end_line(p, line, table, scratch, out);
     }
     let held = keep(line, p.held, byte);
-    Progress {
-        held,
-        lines: p.lines,
-        printed: p.printed,
-    }
+    Progress { held, ..p }
 }
 
 // Takes a part of the input, as far as there is room for what is printed.
@@ -126,8 +122,7 @@ pub fn feed(
         out.new }
 {
     let mut q = p;
-    let mut i = 0;
-    while i < input.len() {
+    for i in 0..input.len() {
         if q.printed + LINE_BYTES > OUT_BYTES {
             return Fed {
                 taken: i,
@@ -135,10 +130,9 @@ pub fn feed(
             };
         }
         q = step(q, input[i], line, table, scratch, out);
-        i += 1;
     }
     Fed {
-        taken: i,
+        taken: input.len(),
         progress: q,
     }
 }
@@ -178,5 +172,5 @@ pub fn close(
     let q = end_input(p, line, table, scratch, out);
     let mut text = [0u8; LINE_BYTES];
     let len = serving::finish(q.lines, table, &mut text);
-    put_word(out, q.printed, &text[0..len])
+    put_word(out, q.printed, &text[..len])
 }

@@ -14,19 +14,12 @@ use Rattle.scalebench.specs.Typed.{Small, line_number}
 use Rattle.text.specs.Grammar.{Command, to_add, to_ask, to_drop}
 use Rattle.text.specs.Outcome.{listed, padded, parsed, parsed_as}
 use Rattle.text.specs.Reader.{Line, form, formed, long, read_line, totalled}
-use Rattle.text.specs.declared.Parsed.{Parsed}
+use Rattle.std.specs.Prelude.{Ok, Result}
+use Rattle.text.specs.declared.Command as read
+use Rattle.text.specs.declared.Malformed.{Malformed}
 use Rattle.text.proofs.Heads.{length-blank}
 use Rattle.text.proofs.LineMeaning.{line-form, line-long}
 use Rattle.text.proofs.Lines.{formed-size}
-use Rattle.lists.proofs.Filling.{FilledTo}
-
--- ---- copying
-
-pub copied-end : (from : List ℕ) {to : List ℕ} {i : ℕ} → FilledTo listing_bytes (λ j. get_or from j 0) to i →
-    listing_bytes ≤ i →
-    length from ≡ listing_bytes → to ≡ from
-copied-end from {to} x h e =
-    ext_get_or 0 to from (x.size ∙ sym e) (λ j l. x.same j (omega (arith, x.size)))
 
 -- ---- numbers
 
@@ -36,7 +29,7 @@ is_long totalled = false
 is_long (form n) = false
 is_long long = true
 
-small-as : (c : Command) {n : ℕ} → n ≤ listing_bytes → Small (parsed_as c n)
+small-as : (c : Command) {n : ℕ} → n ≤ listing_bytes → Small (Ok (parsed_as c n))
 small-as to_add h = omega arith
 small-as to_drop h = omega arith
 small-as to_ask h = omega arith
@@ -79,7 +72,7 @@ module _ (s : List ℕ) where
 
 -- ---- the answer
 
-module _ (s : List ℕ) {p : Parsed} (e : p ≡ parsed (read_line s)) where
+module _ (s : List ℕ) {p : Result read.Command Malformed} (e : p ≡ parsed (read_line s)) where
   pub read_small : Small p
   read_small = subst Small (sym e) (small_line s)
 

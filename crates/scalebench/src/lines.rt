@@ -6,23 +6,13 @@ ghost use Rattle.text.specs.Reader.{read_line};
 ghost use Rattle.scalebench.specs.Typed.{Small, line_number};
 
 use format::LISTING_BYTES;
-use text::{Parsed, read_line};
+use text::{Command, Malformed, read_line};
 
 // No listing. A function of its own, so that no other proof computes with so many bytes.
 fn no_listing() -> [u8; LISTING_BYTES]
     ensures { result ≡ no_listing }
 {
     [0u8; LISTING_BYTES]
-}
-
-fn copy(from: &[u8; LISTING_BYTES], to: &mut [u8])
-    requires from_len { length from.now ≡ listing_bytes }
-    requires to_len { length to.old ≡ listing_bytes }
-    ensures { to.new ≡ from.now }
-{
-    for i in 0..LISTING_BYTES {
-        to[i] = from[i];
-    }
 }
 
 // A kind and a number in one.
@@ -34,17 +24,21 @@ fn kind_number(kind: u64, number: usize) -> u64
     256 * kind + 65536 * number as u64
 }
 
-fn line_number(line: Parsed) -> u64
+fn line_number(line: Result<Command, Malformed>) -> u64
     requires { Small line }
     ensures { result ≡ line_number line }
 {
     match line {
-        Parsed::Add { len } => kind_number(1, len),
-        Parsed::Drop { len } => kind_number(2, len),
-        Parsed::Ask { len } => kind_number(3, len),
-        Parsed::Form { column } => kind_number(4, column),
-        Parsed::Long => 1280,
-        Parsed::Total => 1536,
+        Ok(command) => match command {
+            Command::Add { len } => kind_number(1, len),
+            Command::Drop { len } => kind_number(2, len),
+            Command::Ask { len } => kind_number(3, len),
+            Command::Total => 1536,
+        },
+        Err(why) => match why {
+            Malformed::Form { column } => kind_number(4, column),
+            Malformed::Long => 1280,
+        },
     }
 }
 
@@ -62,6 +56,6 @@ pub extern "C" fn scalebench_read(line: &[u8], listing: &mut [u8]) -> u64
     }
     let mut bytes = no_listing();
     let parsed = read_line(line, &mut bytes);
-    copy(&bytes, listing);
+    listing.copy_from_slice(&bytes);
     line_number(parsed)
 }

@@ -4,18 +4,11 @@ ghost use Rattle.calls.specs.Answers.{answer_number, counts_number, number_after
 
 use calls::Answer;
 
-// A byte as a number to return.
-fn wide64(x: u8) -> u64
-    ensures { result ≡ x }
-{
-    x as u64
-}
-
 // Two numbers in one.
 fn counts(states: u16, transitions: u16) -> u64
     ensures { result ≡ counts_number states transitions }
 {
-    65536 * states as u64 + 4294967296 * transitions as u64
+    65536 * u64::from(states) + 4294967296 * u64::from(transitions)
 }
 
 // The number that stands for an answer.
@@ -25,7 +18,7 @@ pub fn answer_number(answer: Answer) -> u64
     match answer {
         Answer::Approved => 256,
         Answer::NotPart => 512,
-        Answer::NotAt { place } => 65536 * wide64(place),
+        Answer::NotAt { place } => 65536 * u64::from(place),
         Answer::Accepted {
             states,
             transitions,
@@ -38,7 +31,7 @@ pub fn answer_number(answer: Answer) -> u64
         Answer::Over => 256,
         Answer::Serial { .. } => 256,
         Answer::Finished => 0,
-        Answer::Refused { number } => wide64(number),
+        Answer::Refused { number } => u64::from(number),
     }
 }
 

@@ -6,7 +6,7 @@ use Rattle.scalebench.proofs.numbers.answer_number.Goals as goal
 
 pub returns-in-NotAt : goal.returns-in-NotAt
 returns-in-NotAt c =
-    ap (λ (n : ℕ). 65536 * n) c.wide64.ensures ∙ ap answer_number (sym c.in-NotAt.is)
+    ap (λ (n : ℕ). 65536 * n) c.from.ensures ∙ ap answer_number (sym c.in-NotAt.is)
 
 pub returns-in-Accepted : goal.returns-in-Accepted
 returns-in-Accepted c =
