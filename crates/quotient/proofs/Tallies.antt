@@ -10,7 +10,7 @@ use lib.ListN.{length}
 use Rattle.lists.specs.Positions.{up_from}
 use Rattle.lists.specs.Tests.{bit, filter}
 use Rattle.marking.specs.Marks.{nonzero}
-use Rattle.lists.proofs.Loops.{up_from-next, up_from-none, up_from-whole}
+use Rattle.lists.proofs.Loops.{up_from-next, up_from-whole}
 use Rattle.lists.proofs.Positions.{up_from-length}
 use Rattle.lists.proofs.Tests.{filter-length}
 
@@ -47,10 +47,6 @@ module _ {p : ℕ → Bool} {n : ℕ} where
           let g : length (filter p (i ∷ up_from (i + 1) (n - (i + 1)))) ≡
           length (filter p (up_from (i + 1) (n - (i + 1)))) = rw d in
           omega (arith, g, ap (λ (l : List ℕ). length (filter p l)) (up_from-next i n h))
-
-  pub tally-end : {all sum i : ℕ} → TallyFrom p all n sum i → n ≤ i → sum ≡ all
-  tally-end {all} {sum} {i} T h =
-      omega (arith, T.left, ap (λ (l : List ℕ). length (filter p l)) (up_from-none i n h))
 
 pub tally-few : (p : ℕ → Bool) (k m : ℕ) → length (filter p (up_from k m)) ≤ m
 tally-few p k m = omega (arith, filter-length p (up_from k m), up_from-length k m)

@@ -1,183 +1,71 @@
-// All choices of kept names for the arguments of a transition, one place after another. The names chosen so far are
-// the digits of one number to base 256, the first the highest.
-ghost use Rattle.std.specs.Prelude.{false, true, List, [], ◌≡◌, ◌*◌, ◌+◌, ◌<◌, ◌^◌, ◌≤◌, ℕ, length};
+// All choices of kept names for the arguments of a transition, one place after another.
+ghost use Rattle.std.specs.Prelude.{◌*◌, ◌+◌, ◌<◌, ◌^◌, ◌≤◌, length};
 ghost use Rattle.fields.specs.Fields.{Readable};
-ghost use Rattle.format.specs.Format.{max_nodes};
 ghost use Rattle.table.specs.Layout.{arity_of};
-ghost use Rattle.quotient.specs.Kept.{Rises};
-ghost use Rattle.quotient.specs.Making.{Appended, Room, chosen_from, finished};
+ghost use Rattle.quotient.specs.Choosing.{ChoicesOf};
+ghost use Rattle.quotient.specs.Making.{Appended, Room};
+ghost use Rattle.quotient.specs.Named.{choices_at, choices_from};
 
-use crate::finishing::finish;
+use crate::finishing::{Choice, finish};
+use crate::named::Names;
 use fields::{arg_of, arity_of};
-use format::{BYTE_VALUES, MAX_NODES};
 use pairs::index;
 
-// Appends the entries of all choices for the last place, k: one for each name. Like all functions here it returns how
-// many entries there are then.
-fn choose_last(
-    transitions: &[u8],
-    at: usize,
-    k: usize,
-    firsts: &[u8; BYTE_VALUES],
-    nexts: &[u8; BYTE_VALUES],
-    n: usize,
-    m: usize,
-    metas: &[u64; MAX_NODES],
-    keys: &[u64; MAX_NODES],
-    names: &[u8; MAX_NODES],
-    own: bool,
-    prefix: u64,
-    heads: &mut [u64],
-    args: &mut [u64],
-    count: usize,
-) -> usize
-    requires readable { Readable transitions.now at }
-    requires k_value { k + 1 ≡ arity_of transitions.now at }
-    requires rises { Rises nexts.now }
-    requires m_le_max_nodes { m ≤ max_nodes }
-    requires prefix_bound { prefix < 2 ^ (8 * k) }
-    requires room { Room heads.old args.old (count + length (chosen_from transitions.now at k firsts.now nexts.now
-        n m metas.now keys.now names.now own prefix)) }
-    ensures { Appended heads.old args.old count (chosen_from transitions.now at k
-        firsts.now nexts.now n m metas.now keys.now names.now own prefix) heads.new args.new result }
-{
-    let mut made = count;
-    let mut x = index(firsts[arg_of(transitions, at, k)]);
-    while x != 0 {
-        made = finish(
-            transitions,
-            at,
-            m,
-            metas,
-            keys,
-            names,
-            own & (n < x),
-            256 * prefix + x as u64,
-            heads,
-            args,
-            made,
-        );
-        x = index(nexts[x]);
-    }
-    made
-}
-
-// Appends the entries of all choices for the places from k on.
+// Appends the entries of all choices for the places from k on, after the names chosen for those before it. Like all
+// functions here it returns how many entries there are then.
 fn choose(
     transitions: &[u8],
     at: usize,
     k: usize,
-    firsts: &[u8; BYTE_VALUES],
-    nexts: &[u8; BYTE_VALUES],
-    n: usize,
-    m: usize,
-    metas: &[u64; MAX_NODES],
-    keys: &[u64; MAX_NODES],
-    names: &[u8; MAX_NODES],
-    own: bool,
-    prefix: u64,
+    names: &Names<'_>,
+    choice: Choice,
     heads: &mut [u64],
     args: &mut [u64],
     count: usize,
 ) -> usize
     requires readable { Readable transitions.now at }
     requires k_bound { k ≤ arity_of transitions.now at }
-    requires rises { Rises nexts.now }
-    requires m_le_max_nodes { m ≤ max_nodes }
-    requires prefix_bound { prefix < 2 ^ (8 * k) }
-    requires room { Room heads.old args.old (count + length (chosen_from transitions.now at k firsts.now nexts.now
-        n m metas.now keys.now names.now own prefix)) }
-    ensures { Appended heads.old args.old count (chosen_from transitions.now at k
-        firsts.now nexts.now n m metas.now keys.now names.now own prefix) heads.new args.new result }
+    requires prefix_bound { choice.prefix < 2 ^ (8 * k) }
+    requires room { Room heads.old args.old (count + length (choices_from names.now transitions.now at k choice.own
+        choice.prefix)) }
+    ensures { Appended heads.old args.old count (choices_from names.now transitions.now at k choice.own choice.prefix)
+        heads.new args.new result }
 {
     let arity = arity_of(transitions, at);
     if k == arity {
-        return finish(
-            transitions,
-            at,
-            m,
-            metas,
-            keys,
-            names,
-            own,
-            prefix,
-            heads,
-            args,
-            count,
-        );
-    }
-    if k + 1 == arity {
-        return choose_last(
-            transitions,
-            at,
-            k,
-            firsts,
-            nexts,
-            n,
-            m,
-            metas,
-            keys,
-            names,
-            own,
-            prefix,
-            heads,
-            args,
-            count,
-        );
+        return finish(transitions, at, names, choice, heads, args, count);
     }
     let mut made = count;
-    let mut x = index(firsts[arg_of(transitions, at, k)]);
+    let mut x = index(names.kept.firsts[arg_of(transitions, at, k)]);
     while x != 0 {
-        made = choose(
-            transitions,
-            at,
-            k + 1,
-            firsts,
-            nexts,
-            n,
-            m,
-            metas,
-            keys,
-            names,
-            own & (n < x),
-            256 * prefix + x as u64,
-            heads,
-            args,
-            made,
-        );
-        x = index(nexts[x]);
+        let longer = Choice {
+            own: choice.own & (names.named.n < x),
+            prefix: 256 * choice.prefix + x as u64,
+        };
+        // the last place does without one more call for each name
+        made = if k + 1 == arity {
+            finish(transitions, at, names, longer, heads, args, made)
+        } else {
+            choose(transitions, at, k + 1, names, longer, heads, args, made)
+        };
+        x = index(names.kept.nexts[x]);
     }
     made
 }
 
-// The first kept name of each argument, packed in `prefix`. `none`: some argument has no name. `only`: no argument
-// has a second one. `own`: all these names are own names of subtrees.
-#[derive(Drop)]
-struct Firsts {
-    none: bool,
-    only: bool,
-    own: bool,
-    prefix: u64,
+// How many choices of names there are for the arguments of a transition. `None`: some argument has no name. `One`:
+// each has one. `Several`: each has a name, and some have more.
+#[derive(Clone, Copy)]
+enum Choices {
+    None,
+    One(Choice),
+    Several,
 }
 
-// The first names for the transition that starts at a byte. If `none`, there is no choice. If `only` and not `none`,
-// there is one choice, and `prefix` is it.
-fn first_names(
-    transitions: &[u8],
-    at: usize,
-    firsts: &[u8; BYTE_VALUES],
-    nexts: &[u8; BYTE_VALUES],
-    n: usize,
-) -> Firsts
-    requires readable { Readable transitions.now at }
-    requires rises { Rises nexts.now }
-    ensures prefix_bound { result.prefix < 2 ^ (8 * arity_of transitions.now at) }
-    ensures true_value { result.none ≡ true → (m : ℕ) (metas keys names : List ℕ) →
-        chosen_from transitions.now at 0 firsts.now nexts.now n m metas keys names true
-        0 ≡ [] }
-    ensures true_value_2 { result.none ≡ false → result.only ≡ true → (m : ℕ) (metas keys names : List ℕ) →
-        chosen_from transitions.now at 0 firsts.now nexts.now n m metas keys names true
-        0 ≡ finished transitions.now at metas keys names m result.own result.prefix }
+// The choices for the transition that starts at a byte.
+fn choices_of(transitions: &[u8], at: usize, names: &Names<'_>) -> Choices
+    requires { Readable transitions.now at }
+    ensures { ChoicesOf names.now transitions.now at result }
 {
     let arity = arity_of(transitions, at);
     let mut none = false;
@@ -185,18 +73,19 @@ fn first_names(
     let mut own = true;
     let mut prefix = 0u64;
     for k in 0..arity {
-        let x = index(firsts[arg_of(transitions, at, k)]);
+        let x = index(names.kept.firsts[arg_of(transitions, at, k)]);
         none = none | (x == 0);
-        only = only & (nexts[x] == 0);
-        own = own & (n < x);
+        only = only & (names.kept.nexts[x] == 0);
+        own = own & (names.named.n < x);
         prefix = 256 * prefix + x as u64;
     }
-    Firsts {
-        none: none,
-        only: only,
-        own: own,
-        prefix: prefix,
+    if none {
+        return Choices::None;
     }
+    if only {
+        return Choices::One(Choice { own, prefix });
+    }
+    Choices::Several
 }
 
 // Appends the entries of all choices. Most transitions have one choice or none, and these do without the recursion.
@@ -204,59 +93,24 @@ fn first_names(
 pub fn choose_names(
     transitions: &[u8],
     at: usize,
-    firsts: &[u8; BYTE_VALUES],
-    nexts: &[u8; BYTE_VALUES],
-    n: usize,
-    m: usize,
-    metas: &[u64; MAX_NODES],
-    keys: &[u64; MAX_NODES],
-    names: &[u8; MAX_NODES],
+    names: &Names<'_>,
     heads: &mut [u64],
     args: &mut [u64],
     count: usize,
 ) -> usize
     requires readable { Readable transitions.now at }
-    requires rises { Rises nexts.now }
-    requires m_le_max_nodes { m ≤ max_nodes }
-    requires room { Room heads.old args.old (count + length (chosen_from transitions.now at 0 firsts.now nexts.now
-        n m metas.now keys.now names.now true 0)) }
-    ensures { Appended heads.old args.old count (chosen_from transitions.now at 0
-        firsts.now nexts.now n m metas.now keys.now names.now true 0) heads.new args.new result }
+    requires room { Room heads.old args.old (count + length (choices_at names.now transitions.now at)) }
+    ensures { Appended heads.old args.old count (choices_at names.now transitions.now at) heads.new args.new result }
 {
-    let first = first_names(transitions, at, firsts, nexts, n);
-    if first.none {
-        return count;
+    match choices_of(transitions, at, names) {
+        Choices::None => count,
+        Choices::One(choice) => finish(transitions, at, names, choice, heads, args, count),
+        Choices::Several => {
+            let start = Choice {
+                own: true,
+                prefix: 0,
+            };
+            choose(transitions, at, 0, names, start, heads, args, count)
+        }
     }
-    if first.only {
-        return finish(
-            transitions,
-            at,
-            m,
-            metas,
-            keys,
-            names,
-            first.own,
-            first.prefix,
-            heads,
-            args,
-            count,
-        );
-    }
-    choose(
-        transitions,
-        at,
-        0,
-        firsts,
-        nexts,
-        n,
-        m,
-        metas,
-        keys,
-        names,
-        true,
-        0,
-        heads,
-        args,
-        count,
-    )
 }

@@ -10,8 +10,10 @@ mod finishing; // the entry of one choice
 mod kept; // the names that are kept, by state
 mod plain; // transitions over states that keep their names
 mod making; // all transitions
+mod named; // the subtrees with their names, and the names that are kept
 mod nodes; // subtrees as nodes over own names
 
 pub use counting::table_fits;
 pub use kept::keep;
 pub use making::make;
+pub use named::{Candidates, KeptNames, NamedSubtrees};

@@ -1,168 +1,152 @@
--- `quotient::choosing::choose` meets its contract: the names of place k before x have their entries.
--- The measure is the number of places left.
-use Prim.Native.Nat.{ℕ, ◌*◌, ◌+◌, ◌<◌, ◌^◌}
 use native.Mathlib.Omega.{arith}
-use mathlib.Core.Path.{◌∙◌, ap, refl, subst, sym}
 use mathlib.Core.Bool.{◌&&◌}
+use mathlib.Core.Path.{◌∙◌, ap, refl, subst, sym}
+use Prim.Native.Nat.{ℕ, ◌*◌, ◌+◌, ◌<◌, ◌^◌}
 use lib.Dec.{ltb}
 use Rattle.pairs.specs.Counts.{entry}
-use Rattle.quotient.specs.Making.{chosen_from, with_name}
+use Rattle.quotient.specs.Making.{with_name}
+use Rattle.quotient.specs.Named.{choices_from, finished_in}
 use Rattle.quotient.proofs.Appending.{appended-same, making-end, making-next, making-room, making-start}
 use Rattle.quotient.proofs.Appending.{room-same}
 use Rattle.quotient.proofs.Padding.{digit-below, digit-fits}
-use Rattle.quotient.proofs.Walking.{chain-less, chosen-end, chosen-first, chosen_last, chosen-next}
-use Rattle.quotient.proofs.Walking.{chosen_left}
+use Rattle.quotient.proofs.Walking.{chain-less, chosen-end, chosen-first, chosen_last, chosen_left, chosen-next}
+use Rattle.quotient.proofs.Walking.{last-next}
 use Rattle.quotient.proofs.choosing.+choose.Goals as goal
+use Rattle.quotient.proofs.choosing.+choose.Goals.{else-k-arity-2, then-k-arity-2}
 
-pub finish-requires : goal.finish-requires
-finish-requires t c =
-    let arity-of-call = c.arity_of-arity in
-    let if1 = c.if-k-arity in
-    record {
-      readable = c.requires.readable;
-      m_le_max_nodes = c.requires.m_le_max_nodes;
-      prefix_bound = subst (λ (j : ℕ). c.args.prefix < 2 ^ (8 * j)) (if1.true ∙ arity-of-call.ensures)
-          c.requires.prefix_bound;
-      room = room-same c.args.count (chosen_last c.args.transitions.now c.args.at c.args.k c.args.firsts.now
-          c.args.nexts.now c.args.n c.args.m c.args.metas.now c.args.keys.now c.args.names.now c.args.own
-          c.args.prefix (if1.true ∙ arity-of-call.ensures)) c.requires.room;
-    }
+pub finish-requires-clause-room : goal.finish-requires-clause-room
+finish-requires-clause-room t c =
+    room-same c.args.count
+    (chosen_last c.args.names.now c.args.transitions.now c.args.at c.args.k c.args.choice.own c.args.choice.prefix
+    (c.if-k-arity.true ∙ c.arity_of-arity.ensures)) c.requires.room
 
 pub returns-then-k-arity : goal.returns-then-k-arity
 returns-then-k-arity t c =
-    let arity-of-call = c.arity_of-arity in
-    let if1 = c.if-k-arity in
-    appended-same (sym (chosen_last c.args.transitions.now c.args.at c.args.k c.args.firsts.now c.args.nexts.now c.args.n c.args.m c.args.metas.now c.args.keys.now c.args.names.now c.args.own c.args.prefix (if1.true ∙ arity-of-call.ensures)))
-    c.finish.ensures
-
-pub overflow_add-k : goal.overflow_add-k
-overflow_add-k t c =
-    omega (arith, c.requires.readable.narrow, c.requires.k_bound)
-
-pub choose_last-requires : goal.choose_last-requires
-choose_last-requires t c =
-    let arity-of-call = c.arity_of-arity in
-    record {
-      readable = c.requires.readable;
-      k_value = c.if-k-arity-2.true ∙ arity-of-call.ensures;
-      rises = c.requires.rises;
-      m_le_max_nodes = c.requires.m_le_max_nodes;
-      prefix_bound = c.requires.prefix_bound;
-      room = c.requires.room;
-    }
-
-pub arg_of-requires : goal.arg_of-requires
-arg_of-requires t c = record {
-  transition_bytes_in_bounds = c.requires.readable.inside;
-  k_lt_max_arity = omega (
-    arith,
-    c.requires.readable.narrow,
-    c.arity_of-arity.ensures,
-    c.requires.k_bound,
-    c.if-k-arity.false,
-  );
-}
+    appended-same
+    (sym (chosen_last c.args.names.now c.args.transitions.now c.args.at c.args.k c.args.choice.own c.args.choice.prefix
+    (c.if-k-arity.true ∙ c.arity_of-arity.ensures))) c.finish.ensures
 
 pub loop-x-init : goal.loop-x-init
-loop-x-init t c =
-    let arity-of-call = c.arity_of-arity in
-    let if1 = c.if-k-arity in (
-      making-start (chosen-first c.args.transitions.now c.args.at c.args.k c.args.firsts.now c.args.nexts.now c.args.n c.args.m
-          c.args.metas.now c.args.keys.now c.args.names.now c.args.own c.args.prefix c.index-x.result (omega (
+loop-x-init t c = (
+  making-start
+      (chosen-first c.args.names.now c.args.transitions.now c.args.at c.args.k c.args.choice.own c.args.choice.prefix
+      c.index-x.result (omega (arith, c.arity_of-arity.ensures, c.requires.k_bound, c.if-k-arity.false))
+      (c.index-x.ensures.value ∙ ap (entry c.args.names.now.kept.now.firsts) c.arg_of.ensures.value)),
+  c.index-x.ensures.upper_bound,
+)
+
+pub overflow_mul-longer : goal.overflow_mul-longer
+overflow_mul-longer t c =
+    omega (
+      arith,
+      digit-fits c.args.k c.args.choice.prefix c.loop-x.x
+          (omega (
             arith,
-            arity-of-call.ensures,
+            c.requires.readable.narrow,
+            c.arity_of-arity.ensures,
             c.requires.k_bound,
-            if1.false,
-          )) (c.index-x.ensures.value ∙ ap (entry c.args.firsts.now) c.arg_of.ensures.value)),
-      c.index-x.ensures.upper_bound,
+            c.if-k-arity.false,
+          )) c.requires.prefix_bound c.loop-x.invariant.1,
     )
 
-pub overflow_add-k-in-loop-x : goal.overflow_add-k-in-loop-x
-overflow_add-k-in-loop-x t c =
-    omega (arith, c.requires.readable.narrow, c.requires.k_bound)
-
-pub overflow_mul-prefix : goal.overflow_mul-prefix
-overflow_mul-prefix t c =
-    let arity-of-call = c.arity_of-arity in
-    let if1 = c.if-k-arity in
+pub overflow_add-longer : goal.overflow_add-longer
+overflow_add-longer t c =
     omega (
       arith,
-      digit-fits c.args.k c.args.prefix c.loop-x.x (omega (
-        arith,
-        c.requires.readable.narrow,
-        arity-of-call.ensures,
-        c.requires.k_bound,
-        if1.false,
-      )) c.requires.prefix_bound c.loop-x.invariant.1,
+      digit-fits c.args.k c.args.choice.prefix c.loop-x.x
+          (omega (
+            arith,
+            c.requires.readable.narrow,
+            c.arity_of-arity.ensures,
+            c.requires.k_bound,
+            c.if-k-arity.false,
+          )) c.requires.prefix_bound c.loop-x.invariant.1,
     )
 
-pub overflow_add-prefix : goal.overflow_add-prefix
-overflow_add-prefix t c =
-    let arity-of-call = c.arity_of-arity in
-    let if1 = c.if-k-arity in
-    omega (
-      arith,
-      digit-fits c.args.k c.args.prefix c.loop-x.x (omega (
-        arith,
-        c.requires.readable.narrow,
-        arity-of-call.ensures,
-        c.requires.k_bound,
-        if1.false,
-      )) c.requires.prefix_bound c.loop-x.invariant.1,
-    )
+pub finish-made-requires-clause-prefix_bound : goal.finish-made-requires-clause-prefix_bound
+finish-made-requires-clause-prefix_bound t c =
+    subst (λ (j : ℕ). with_name c.args.choice.prefix c.loop-x.x < 2 ^ (8 * j))
+    (c.if-k-arity-2.true ∙ c.arity_of-arity.ensures)
+    (digit-below c.args.k c.args.choice.prefix c.loop-x.x c.requires.prefix_bound c.loop-x.invariant.1)
+
+pub finish-made-requires-clause-room : goal.finish-made-requires-clause-room
+finish-made-requires-clause-room t c =
+    let g = c.args.names.now in
+    let s = c.args.transitions.now in
+    let at = c.args.at in
+    let own = c.args.choice.own in
+    let prefix = c.args.choice.prefix in
+    let x = c.loop-x.x in
+    let next = entry g.kept.now.nexts x in
+    making-room (finished_in g s at (own && ltb g.named.now.n x) (with_name prefix x))
+    (chosen_left g s at c.args.k own prefix next) c.loop-x.invariant.0
+    (last-next g s at c.args.k own prefix x next (c.if-k-arity-2.true ∙ c.arity_of-arity.ensures)
+    (omega (arith, c.loop-x-test.true)) refl) c.requires.room
 
 pub choose-made-requires : goal.choose-made-requires
 choose-made-requires t c =
-    let arity-of-call = c.arity_of-arity in
-    let if1 = c.if-k-arity in
-    let loop = c.loop-x in (
-      omega (arith, c.decreases, c.requires.readable.narrow, arity-of-call.ensures, c.requires.k_bound, if1.false),
+    let g = c.args.names.now in
+    let s = c.args.transitions.now in
+    let at = c.args.at in
+    let own = c.args.choice.own in
+    let prefix = c.args.choice.prefix in
+    let x = c.loop-x.x in
+    let next = entry g.kept.now.nexts x in (
+      omega (
+        arith,
+        c.decreases,
+        c.requires.readable.narrow,
+        c.arity_of-arity.ensures,
+        c.requires.k_bound,
+        c.if-k-arity.false,
+      ),
       (
         c.requires.readable,
         (
-          omega (arith, arity-of-call.ensures, c.requires.k_bound, if1.false),
+          omega (arith, c.arity_of-arity.ensures, c.requires.k_bound, c.if-k-arity.false),
           (
-            c.requires.rises,
-            (
-              c.requires.m_le_max_nodes,
-              (
-                digit-below c.args.k c.args.prefix loop.x c.requires.prefix_bound loop.invariant.1,
-                making-room (chosen_from c.args.transitions.now c.args.at (c.args.k + 1) c.args.firsts.now
-                    c.args.nexts.now c.args.n c.args.m c.args.metas.now c.args.keys.now c.args.names.now
-                    (c.args.own && ltb c.args.n loop.x) (with_name c.args.prefix loop.x))
-                    (chosen_left c.args.transitions.now c.args.at c.args.k c.args.firsts.now c.args.nexts.now
-                    c.args.n c.args.m c.args.metas.now c.args.keys.now c.args.names.now c.args.own c.args.prefix
-                    (entry c.args.nexts.now loop.x)) loop.invariant.0
-                    (chosen-next c.args.transitions.now c.args.at c.args.k c.args.firsts.now c.args.nexts.now
-                    c.args.n c.args.m c.args.metas.now c.args.keys.now c.args.names.now c.requires.rises c.args.own
-                    c.args.prefix loop.x (entry c.args.nexts.now loop.x) (omega arith) refl) c.requires.room,
-              ),
-            ),
+            digit-below c.args.k prefix x c.requires.prefix_bound c.loop-x.invariant.1,
+            making-room (choices_from g s at (c.args.k + 1) (own && ltb g.named.now.n x) (with_name prefix x))
+                (chosen_left g s at c.args.k own prefix next) c.loop-x.invariant.0
+                (chosen-next g s at c.args.k own prefix x next (omega (arith, c.loop-x-test.true)) refl)
+                c.requires.room,
           ),
         ),
       ),
     )
 
-pub bounds-nexts-x : goal.bounds-nexts-x
-bounds-nexts-x t c =
-    omega (arith, c.loop-x.invariant.1)
-
 pub loop-x-smaller : goal.loop-x-smaller
 loop-x-smaller t c =
-    let loop = c.loop-x in
-    rw c.index-x-in-loop-x.ensures.value (chain-less loop.x c.requires.rises (omega arith) loop.invariant.1)
+    rw c.index-x-in-loop-x.ensures.value
+    (chain-less c.loop-x.x c.args.names.now.rises (omega (arith, c.loop-x-test.true)) c.loop-x.invariant.1)
 
 pub loop-x-preserved : goal.loop-x-preserved
 loop-x-preserved t c =
-    let loop = c.loop-x in (
-      making-next (chosen_left c.args.transitions.now c.args.at c.args.k c.args.firsts.now c.args.nexts.now c.args.n c.args.m c.args.metas.now c.args.keys.now c.args.names.now c.args.own c.args.prefix c.index-x-in-loop-x.result) loop.invariant.0
-          (chosen-next c.args.transitions.now c.args.at c.args.k c.args.firsts.now c.args.nexts.now c.args.n c.args.m c.args.metas.now
-          c.args.keys.now c.args.names.now c.requires.rises c.args.own c.args.prefix loop.x c.index-x-in-loop-x.result
-          (omega arith) c.index-x-in-loop-x.ensures.value) c.choose-made.ensures,
-      c.index-x-in-loop-x.ensures.upper_bound,
-    )
+    let g = c.args.names.now in
+    let s = c.args.transitions.now in
+    let at = c.args.at in
+    let own = c.args.choice.own in
+    let prefix = c.args.choice.prefix in
+    let x = c.loop-x.x in
+    let next = c.index-x-in-loop-x.result in
+    let rest = chosen_left g s at c.args.k own prefix next in
+    elim c.if-k-arity-2.branch [
+      | then-k-arity-2 w ↦ (
+        rw (w.heads-is, w.args-is, w.made-is) (making-next rest c.loop-x.invariant.0
+            (last-next g s at c.args.k own prefix x next (w.if-k-arity-2.true ∙ c.arity_of-arity.ensures)
+            (omega (arith, c.loop-x-test.true)) c.index-x-in-loop-x.ensures.value) w.finish-made.ensures),
+        c.index-x-in-loop-x.ensures.upper_bound,
+      )
+      | else-k-arity-2 w ↦ (
+        rw (w.heads-is, w.args-is, w.made-is) (making-next rest c.loop-x.invariant.0
+            (chosen-next g s at c.args.k own prefix x next (omega (arith, c.loop-x-test.true))
+            c.index-x-in-loop-x.ensures.value) w.choose-made.ensures),
+        c.index-x-in-loop-x.ensures.upper_bound,
+      )
+    ]
 
 pub returns : goal.returns
 returns t c =
-    making-end c.loop-x.invariant.0 (chosen-end c.args.transitions.now c.args.at c.args.k c.args.firsts.now c.args.nexts.now c.args.n c.args.m c.args.metas.now c.args.keys.now c.args.names.now c.requires.rises c.args.own c.args.prefix
-    c.loop-x.x (omega arith))
+    making-end c.loop-x.invariant.0
+    (chosen-end c.args.names.now c.args.transitions.now c.args.at c.args.k c.args.choice.own c.args.choice.prefix
+    c.loop-x.x (omega (arith, c.loop-x-test.false)))

@@ -2,7 +2,7 @@
 -- The measure is the number of places left.
 use Rattle.std.proofs.Common.{◌-◌, ◌<◌}
 use Rattle.format.specs.Format.{byte_values}
-use Rattle.quotient.specs.Making.{chosen_from}
+use Rattle.quotient.specs.Named.{choices_from}
 use Rattle.quotient.proofs.Appending.{Making}
 use Rattle.quotient.proofs.Walking.{chain_left, chosen_left}
 use Rattle.quotient.proofs.choosing.+choose.Given as goal
@@ -12,8 +12,10 @@ decreases-choose l = 8 - l.k
 
 abbrev pub invariant-loop-x : goal.invariant-loop-x
 invariant-loop-x l =
-    Making l.initial.heads l.initial.args l.count (chosen_from l.transitions l.at l.k l.firsts l.nexts l.n l.m l.metas l.keys l.names l.own l.prefix)
-    (chosen_left l.transitions l.at l.k l.firsts l.nexts l.n l.m l.metas l.keys l.names l.own l.prefix l.x) l.heads l.args l.made × (l.x < byte_values)
+    Making l.initial.heads l.initial.args l.count
+    (choices_from l.names l.transitions l.at l.k l.choice.own l.choice.prefix)
+    (chosen_left l.names l.transitions l.at l.k l.choice.own l.choice.prefix l.x) l.heads l.args l.made ×
+    (l.x < byte_values)
 
 abbrev pub decreases-loop-x : goal.decreases-loop-x
 decreases-loop-x l = chain_left l.x

@@ -1,6 +1,6 @@
 -- `quotient::counting::table_fits` meets its contract: the numbers counted are those of the definition.
 use native.Mathlib.Omega.{arith}
-use Rattle.quotient.specs.Nodes.{gone_at, new_at}
+use Rattle.quotient.specs.Named.{adds, takes_away}
 use Rattle.quotient.proofs.CountLink.{fits_not, fits_sum}
 use Rattle.quotient.proofs.Tallies.{tally-few}
 use Rattle.quotient.proofs.counting.table_fits.Goals as goal
@@ -13,8 +13,8 @@ overflow_add-limit c =
     omega (
       arith,
       c.count_gone-gone.ensures,
-      (tally-few (gone_at c.args.n c.args.arities.now c.args.children.now c.args.states.now c.args.names.now) 0 c.args.m),
-      c.requires.nodes.few,
+      (tally-few (takes_away c.args.named.now) 0 c.args.named.now.subtrees.now.count),
+      c.args.named.now.nodes.few,
       c.requires.limit_le_max_transitions,
     )
 
@@ -24,15 +24,15 @@ sum_fits-requires c = record {
   more_le_limit = omega (
     arith,
     c.count_new-new.ensures,
-    (tally-few (new_at c.args.n c.args.arities.now c.args.children.now c.args.states.now c.args.names.now) 0 c.args.m),
-    c.requires.nodes.few,
+    (tally-few (adds c.args.named.now) 0 c.args.named.now.subtrees.now.count),
+    c.args.named.now.nodes.few,
     c.requires.max_nodes_le_limit,
   );
   limit_le_max_product = omega (
     arith,
     c.count_gone-gone.ensures,
-    (tally-few (gone_at c.args.n c.args.arities.now c.args.children.now c.args.states.now c.args.names.now) 0 c.args.m),
-    c.requires.nodes.few,
+    (tally-few (takes_away c.args.named.now) 0 c.args.named.now.subtrees.now.count),
+    c.args.named.now.nodes.few,
     c.requires.limit_le_max_transitions,
   );
 }

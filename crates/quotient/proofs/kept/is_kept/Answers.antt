@@ -8,10 +8,10 @@ use Prim.Native.Nat.{ℕ}
 use Rattle.quotient.proofs.Tallies.{unequal-nonzero}
 use Rattle.quotient.proofs.kept.is_kept.Goals as goal
 
-pub returns-then-x-n : goal.returns-then-x-n
-returns-then-x-n c =
-    rw (le-leb c.args.x c.args.n c.if-x-n.true) (unequal-nonzero (get_or c.args.opens.now c.args.x 0))
+pub returns-then-x-candidates : goal.returns-then-x-candidates
+returns-then-x-candidates c =
+    rw (le-leb c.args.x c.args.candidates.now.n c.if-x-candidates.true) (unequal-nonzero (get_or c.args.candidates.now.opens.now c.args.x 0))
 
 pub returns : goal.returns
 returns c =
-    rw (lt-leb c.args.x c.args.n c.if-x-n.false) (ap (λ (y : ℕ). eqb y c.args.x) c.wide.ensures)
+    rw (lt-leb c.args.x c.args.candidates.now.n c.if-x-candidates.false) (ap (λ (y : ℕ). eqb y c.args.x) c.wide.ensures)

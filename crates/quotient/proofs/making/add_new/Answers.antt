@@ -10,39 +10,39 @@ use Rattle.quotient.proofs.making.add_new.Goals as goal
 
 pub returns-then-not-is_new : goal.returns-then-not-is_new
 returns-then-not-is_new c =
-    appended-same (sym (entry-none c.args.n c.args.arities.now c.args.children.now c.args.states.now c.args.names.now c.args.metas.now c.args.keys.now c.args.j (sym c.is_new.ensures ∙ c.if-not-is_new.true)))
+    appended-same (sym (entry-none c.args.names.now c.args.j (sym c.is_new.ensures ∙ c.if-not-is_new.true)))
     appended-none
 
-pub overflow_mul-metas : goal.overflow_mul-metas
-overflow_mul-metas c =
+pub overflow_mul-names : goal.overflow_mul-names
+overflow_mul-names c =
     omega (
       arith,
-      c.requires.each_node.each c.args.j c.requires.j_lt_m,
-      c.requires.nodes.label c.args.j c.requires.j_lt_m,
-      c.requires.nodes.narrow c.args.j c.requires.j_lt_m,
+      c.args.names.now.each_meta.each c.args.j c.requires.j_lt_m,
+      c.args.names.now.named.now.nodes.label c.args.j c.requires.j_lt_m,
+      c.args.names.now.named.now.nodes.narrow c.args.j c.requires.j_lt_m,
     )
 
-pub overflow_add-metas : goal.overflow_add-metas
-overflow_add-metas c =
+pub overflow_add-names : goal.overflow_add-names
+overflow_add-names c =
     let index-call = c.index-name in
     omega (
       arith,
       index-call.ensures.upper_bound,
-      c.requires.each_node.each c.args.j c.requires.j_lt_m,
-      c.requires.nodes.label c.args.j c.requires.j_lt_m,
-      c.requires.nodes.narrow c.args.j c.requires.j_lt_m,
+      c.args.names.now.each_meta.each c.args.j c.requires.j_lt_m,
+      c.args.names.now.named.now.nodes.label c.args.j c.requires.j_lt_m,
+      c.args.names.now.named.now.nodes.narrow c.args.j c.requires.j_lt_m,
     )
 
 pub push-requires : goal.push-requires
 push-requires c =
     let is-new-call = c.is_new in
     let if1 = c.if-not-is_new in
-    room-same c.args.count (entry_new c.args.n c.args.arities.now c.args.children.now c.args.states.now c.args.names.now c.args.metas.now c.args.keys.now c.args.j (sym is-new-call.ensures ∙ if1.false)) c.requires.room
+    room-same c.args.count (entry_new c.args.names.now c.args.j (sym is-new-call.ensures ∙ if1.false)) c.requires.room
 
 pub returns : goal.returns
 returns c =
     let is-new-call = c.is_new in
     let if1 = c.if-not-is_new in
     let index-call = c.index-name in
-    appended-same (ap (λ (x : ℕ). (256 * get_or c.args.metas.now c.args.j 0 + x, get_or c.args.keys.now c.args.j 0) ∷ [])
-    index-call.ensures.value ∙ sym (entry_new c.args.n c.args.arities.now c.args.children.now c.args.states.now c.args.names.now c.args.metas.now c.args.keys.now c.args.j (sym is-new-call.ensures ∙ if1.false))) c.push.ensures
+    appended-same (ap (λ (x : ℕ). (256 * get_or c.args.names.now.metas.now c.args.j 0 + x, get_or c.args.names.now.keys.now c.args.j 0) ∷ [])
+    index-call.ensures.value ∙ sym (entry_new c.args.names.now c.args.j (sym is-new-call.ensures ∙ if1.false))) c.push.ensures

@@ -2,14 +2,14 @@ use native.Mathlib.Omega.{arith}
 use mathlib.Core.Path.{refl}
 use Prim.Native.Nat.{◌+◌}
 use Rattle.fields.proofs.Transitions.{readable}
-use Rattle.quotient.specs.Making.{nth_chosen}
+use Rattle.quotient.specs.Named.{nth_choices}
 use Rattle.quotient.proofs.Appending.{making-end, making-next, making-room, making-start}
 use Rattle.quotient.proofs.Walking.{chosen-start, left_end, left-next, left_from}
 use Rattle.quotient.proofs.making.choose_all.Goals as goal
 
 pub loop-i-init : goal.loop-i-init
 loop-i-init c = (
-  making-start (chosen-start c.args.transitions.now c.args.count c.args.firsts.now c.args.nexts.now c.args.n c.args.m c.args.metas.now c.args.keys.now c.args.names.now),
+  making-start (chosen-start c.args.names.now c.args.transitions.now c.args.count),
   omega arith,
   refl,
 )
@@ -17,13 +17,11 @@ loop-i-init c = (
 pub choose_at-made-requires : goal.choose_at-made-requires
 choose_at-made-requires c =
     let loop = c.loop-i in
-    let nth = nth_chosen c.args.transitions.now c.args.firsts.now c.args.nexts.now c.args.n c.args.m c.args.metas.now c.args.keys.now c.args.names.now in
+    let nth = nth_choices c.args.names.now c.args.transitions.now in
     record {
       readable = readable c.requires.holds_padded.runs loop.i (omega arith);
       padded = c.requires.holds_padded.each loop.i (omega arith);
-      rises = c.requires.rises;
       odd_marked = c.requires.odd_marked;
-      m_le_max_nodes = c.requires.m_le_max_nodes;
       room = making-room (nth loop.i) (left_from nth c.args.count (loop.i + 1)) loop.invariant.0
           (left-next nth c.args.count loop.i (omega arith)) c.requires.room;
     }
@@ -31,7 +29,7 @@ choose_at-made-requires c =
 pub note_end-requires : goal.note_end-requires
 note_end-requires c =
     let loop = c.loop-i in
-    let nth = nth_chosen c.args.transitions.now c.args.firsts.now c.args.nexts.now c.args.n c.args.m c.args.metas.now c.args.keys.now c.args.names.now in
+    let nth = nth_choices c.args.names.now c.args.transitions.now in
     let room = making-room (nth loop.i) (left_from nth c.args.count (loop.i + 1)) loop.invariant.0
     (left-next nth c.args.count loop.i (omega (arith, c.loop-i-test.true)))
     c.requires.room in
@@ -40,7 +38,7 @@ note_end-requires c =
 pub loop-i-preserved : goal.loop-i-preserved
 loop-i-preserved c =
     let loop = c.loop-i in
-    let nth = nth_chosen c.args.transitions.now c.args.firsts.now c.args.nexts.now c.args.n c.args.m c.args.metas.now c.args.keys.now c.args.names.now in (
+    let nth = nth_choices c.args.names.now c.args.transitions.now in (
       making-next (left_from nth c.args.count (loop.i + 1)) loop.invariant.0
           (left-next nth c.args.count loop.i (omega (arith, c.loop-i-test.true)))
           c.choose_at-made.ensures,
@@ -53,5 +51,5 @@ shape_of-ends c = c.loop-i.invariant.2
 
 pub returns : goal.returns
 returns c =
-    let nth = nth_chosen c.args.transitions.now c.args.firsts.now c.args.nexts.now c.args.n c.args.m c.args.metas.now c.args.keys.now c.args.names.now in
+    let nth = nth_choices c.args.names.now c.args.transitions.now in
     making-end c.loop-i.invariant.0 (left_end nth c.args.count c.loop-i.i (omega arith))

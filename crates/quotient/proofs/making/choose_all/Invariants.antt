@@ -1,13 +1,14 @@
 -- `quotient::making::choose_all` meets its contract: the transitions before i have their entries.
 use mathlib.Core.Path.{◌≡◌}
-use Prim.Native.Nat.{◌-◌, ◌≤◌}
+use Prim.Native.Nat.{◌≤◌}
 use lib.ListN.{length}
-use Rattle.quotient.specs.Making.{chosen_in, nth_chosen}
+use Rattle.quotient.specs.Named.{choices_in, nth_choices}
 use Rattle.quotient.proofs.Appending.{Making}
 use Rattle.quotient.proofs.Walking.{left_from}
 use Rattle.quotient.proofs.making.choose_all.Given as goal
 
 abbrev pub invariant-loop-i : goal.invariant-loop-i
-invariant-loop-i l = Making l.initial.heads l.initial.args 0 (chosen_in l.transitions l.count l.firsts l.nexts l.n l.m l.metas l.keys l.names) (left_from (nth_chosen
-    l.transitions l.firsts l.nexts l.n l.m l.metas l.keys l.names) l.count l.i) l.heads l.args l.made × (l.i ≤ l.count) ×
+invariant-loop-i l =
+    Making l.initial.heads l.initial.args 0 (choices_in l.names l.transitions l.count)
+    (left_from (nth_choices l.names l.transitions) l.count l.i) l.heads l.args l.made × (l.i ≤ l.count) ×
     (length l.ends ≡ length l.initial.ends)

@@ -6,36 +6,35 @@ use Rattle.quotient.proofs.nodes.children_own.Goals as goal
 
 pub loop-k-init : goal.loop-k-init
 loop-k-init c =
-    (c.wide-arity.ensures, every-start (get_or c.args.arities.now c.args.j 0) (omega arith))
+    (c.wide-arity.ensures, every-start (get_or c.args.named.now.subtrees.now.arities c.args.j 0) (omega arith))
 
 pub overflow_add-j : goal.overflow_add-j
 overflow_add-j c =
     omega (
       arith,
       c.loop-k.invariant.0,
-      c.requires.nodes.narrow c.args.j c.requires.j_lt_m,
-      c.requires.nodes.few,
+      c.args.named.now.nodes.narrow c.args.j c.requires,
+      c.args.named.now.nodes.few,
     )
 
-pub bounds-children-j : goal.bounds-children-j
-bounds-children-j c =
+pub bounds-named-j-in-loop-k : goal.bounds-named-j-in-loop-k
+bounds-named-j-in-loop-k c =
     omega (
       arith,
       c.loop-k.invariant.0,
-      c.requires.nodes.narrow c.args.j c.requires.j_lt_m,
-      c.requires.nodes.few,
+      c.args.named.now.nodes.narrow c.args.j c.requires,
+      c.args.named.now.nodes.few,
     )
 
 pub has_own-requires : goal.has_own-requires
 has_own-requires c =
     let loop = c.loop-k in
     record {
-      n_le_max_states = c.requires.n_le_max_states;
-      le_child = c.requires.nodes.some c.args.j loop.k c.requires.j_lt_m (omega (arith, loop.invariant.0));
-      child_le_max_nodes = c.requires.nodes.known c.args.j loop.k c.requires.j_lt_m (omega (
+      le_child = c.args.named.now.nodes.some c.args.j loop.k c.requires (omega (arith, loop.invariant.0));
+      child_le_max_nodes = c.args.named.now.nodes.known c.args.j loop.k c.requires (omega (
         arith,
         loop.invariant.0,
-        c.requires.nodes.narrow c.args.j c.requires.j_lt_m,
+        c.args.named.now.nodes.narrow c.args.j c.requires,
       ));
     }
 

@@ -10,9 +10,9 @@ pub emit-requires : goal.emit-requires
 emit-requires c =
     let plain = c.is_plain in
     let meta-at-call = c.meta_at in
-    let entry = plain_entry c.args.transitions.now c.args.at c.args.firsts.now c.args.nexts.now c.args.odd.now c.args.n
-    c.requires.rises c.requires.odd_marked (λ i. omega (arith, c.type_inv.transitions i)) c.requires.padded
-    (plain.ensures.bound c.if-is_plain.true) (plain.ensures.at_value c.if-is_plain.true) c.args.m c.args.metas.now c.args.keys.now c.args.names.now
+    let entry = plain_entry c.args.names.now c.args.transitions.now c.args.at c.args.odd.now
+    c.requires.odd_marked (λ i. omega (arith, c.type_inv.transitions i)) c.requires.padded
+    (plain.ensures.bound c.if-is_plain.true) (plain.ensures.at_value c.if-is_plain.true)
     meta-at-call.ensures c.args_at.ensures c.out_of-out.ensures.value in
     record {
       room = room-same c.args.count entry c.requires.room;
@@ -22,16 +22,8 @@ emit-requires c =
 pub returns-then-is_plain : goal.returns-then-is_plain
 returns-then-is_plain c =
     let plain = c.is_plain in
-    let entry = plain_entry c.args.transitions.now c.args.at c.args.firsts.now c.args.nexts.now c.args.odd.now c.args.n
-    c.requires.rises c.requires.odd_marked (λ i. omega (arith, c.type_inv.transitions i)) c.requires.padded
-    (plain.ensures.bound c.if-is_plain.true) (plain.ensures.at_value c.if-is_plain.true) c.args.m c.args.metas.now c.args.keys.now c.args.names.now
+    let entry = plain_entry c.args.names.now c.args.transitions.now c.args.at c.args.odd.now
+    c.requires.odd_marked (λ i. omega (arith, c.type_inv.transitions i)) c.requires.padded
+    (plain.ensures.bound c.if-is_plain.true) (plain.ensures.at_value c.if-is_plain.true)
     c.meta_at.ensures c.args_at.ensures c.out_of-out.ensures.value in
     appended-same (sym entry) c.emit.ensures
-
-pub choose_names-requires : goal.choose_names-requires
-choose_names-requires c = record {
-  readable = c.requires.readable;
-  rises = c.requires.rises;
-  m_le_max_nodes = c.requires.m_le_max_nodes;
-  room = c.requires.room;
-}

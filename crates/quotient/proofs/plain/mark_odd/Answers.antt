@@ -4,22 +4,21 @@ use lib.ListN.{length, length-replicate}
 use Prim.Native.Nat.{ℕ}
 use mathlib.Core.List.{List}
 use Rattle.format.specs.Format.{byte_values}
-use Rattle.quotient.specs.Kept.{OddMarked}
+use Rattle.quotient.specs.Named.{OddIn}
 use Rattle.quotient.proofs.PlainChoice.{odd-start}
 use Rattle.quotient.proofs.plain.mark_odd.Goals as goal
 
 pub loop-q-init : goal.loop-q-init
 loop-q-init c = (
   omega arith,
-  subst (λ (l : List ℕ). length l ≡ byte_values) (sym c.requires.odd_value) (length-replicate {A = ℕ} byte_values 1),
-  subst (OddMarked c.args.n c.args.firsts.now c.args.nexts.now) (sym c.requires.odd_value) (odd-start c.args.n c.args.firsts.now c.args.nexts.now),
+  subst (λ (l : List ℕ). length l ≡ byte_values) (sym c.requires) (length-replicate {A = ℕ} byte_values 1),
+  subst (OddIn c.args.names.now) (sym c.requires) (odd-start c.args.names.now.named.now.n c.args.names.now.kept.now.firsts c.args.names.now.kept.now.nexts),
 )
 
 pub unmark-requires : goal.unmark-requires
 unmark-requires c =
     let inv = c.loop-q.invariant in
     record {
-      n_le_max_states = c.requires.n_le_max_states;
       le_q = inv.0;
       q_le_n = omega arith;
       odd_len = inv.1;
