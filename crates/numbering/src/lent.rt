@@ -39,7 +39,7 @@ pub struct OldTable<'a> {
 
 impl OldTable<'_> {
     // How many entries had been made after transition g, counted from 1; at most `limit`.
-    pub fn end_of(&self, g: usize, limit: usize) -> usize
+    pub(crate) fn end_of(&self, g: usize, limit: usize) -> usize
         ensures { result ≤ limit }
     {
         if (g == 0) | (g > self.ends.len()) {
@@ -49,14 +49,14 @@ impl OldTable<'_> {
     }
 
     // How many entries had been made before it.
-    pub fn start_of(&self, g: usize, limit: usize) -> usize
+    pub(crate) fn start_of(&self, g: usize, limit: usize) -> usize
         ensures { result ≤ limit }
     {
         self.end_of(g.saturating_sub(1), limit)
     }
 
     // How many entries had been made after all transitions.
-    pub fn made(&self, limit: usize) -> usize
+    pub(crate) fn made(&self, limit: usize) -> usize
         ensures { result ≤ limit }
     {
         self.end_of(self.transitions, limit)

@@ -16,7 +16,8 @@ use validity::{all_seen, leads_to};
 
 // Whether each transition comes before the next.
 fn rises(transitions: &Transitions<'_>) -> bool
-    ensures { result ≡ true → rising (packed_in transitions.now.heads.now transitions.now.args.now transitions.now.count) ≡ true }
+    ensures { result ≡ true → rising (packed_in transitions.now.heads.now transitions.now.args.now
+        transitions.now.count) ≡ true }
 {
     let heads = transitions.heads;
     let args = transitions.args;

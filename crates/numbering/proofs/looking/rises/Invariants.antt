@@ -7,4 +7,6 @@ use Rattle.packed.specs.Heads.{nth_packed}
 use Rattle.numbering.proofs.looking.rises.Given as goal
 
 abbrev pub invariant-loop-i : goal.invariant-loop-i
-invariant-loop-i l = (j : ℕ) → j + 1 < l.i → precedes (nth_packed l.transitions.heads.now l.transitions.args.now j) (nth_packed l.transitions.heads.now l.transitions.args.now (j + 1)) ≡ true
+invariant-loop-i l =
+    let t = l.transitions in (j : ℕ) → j + 1 < l.i →
+    precedes (nth_packed t.heads.now t.args.now j) (nth_packed t.heads.now t.args.now (j + 1)) ≡ true

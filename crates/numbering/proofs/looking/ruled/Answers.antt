@@ -19,8 +19,8 @@ pub loop-i-preserved-then-out_of-low : goal.loop-i-preserved-then-out_of-low
 loop-i-preserved-then-out_of-low c = let v = c.loop-i.invariant in record {
   low = v.low;
   size = v.size;
-  passed = pass_below c.args.transitions.now.heads.now c.args.transitions.now.args.now c.loop-i.i c.loop-i.seen v.passed c.loop-i.low v.all_seen
-      (omega (arith, c.out_of.ensures.value));
+  passed = pass_below c.args.transitions.now.heads.now c.args.transitions.now.args.now c.loop-i.i c.loop-i.seen v.passed
+      c.loop-i.low v.all_seen (omega (arith, c.out_of.ensures.value));
   spans = v.spans;
   all_seen = v.all_seen;
 }
