@@ -33,9 +33,10 @@ use Rattle.totals.proofs.Tables.{number-none, same_numbers}
 pub record Reached (A : Automaton) (d : ℕ) (m : List (Option ℕ)) : Type 0 where
   pub each : (q : ℕ) → 1 ≤ q → q ≤ states A → number_in m q ≡ min limit (number_at (trees_within A d) q)
 
-pub reached-start : (A : Automaton) → states A < byte_values → Reached A 0 (replicate byte_values (Some 0))
+pub reached-start : (A : Automaton) → states A < byte_values → {m : List (Option ℕ)} →
+    m ≡ replicate byte_values (Some 0) → Reached A 0 m
 unfolding trees_within
-reached-start A few = record { each = λ q h l. number-none q (omega arith) ∙ none q }
+reached-start A few e = record { each = λ q h l. ap (λ m. number_in m q) e ∙ number-none q (omega arith) ∙ none q }
   where
     none : (q : ℕ) → 0 ≡ min limit (number_at (replicate (states A) 0) q)
     none zero = refl

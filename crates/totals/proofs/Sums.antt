@@ -7,7 +7,7 @@ use native.Mathlib.Nat.{mul_assoc, mul-one, one-mul}
 use native.Mathlib.Numerals.{add-one}
 use native.Mathlib.Omega.{arith}
 use lib.Dec.{eqb}
-use lib.ListN.{length-replicate, replicate}
+use lib.ListN.{length, length-replicate, replicate}
 use borrow.Author.Tests.{eqb-false, eqb-true}
 use Rattle.std.specs.declared.option.Option.{Option}
 use Rattle.std.specs.declared.option.Option.TheVariants.{Some}
@@ -71,11 +71,12 @@ sum-last : (w : ℕ → ℕ) (q : ℕ) (τs : List Transition) (τ : Transition)
 sum-last w q [] τ = omega arith
 sum-last w q (σ ∷ τs) τ = omega (arith, sum-last w q τs τ)
 
-pub sums-start : {w : ℕ → ℕ} (s : List ℕ) → Sums w (transitions_in s 0) (replicate byte_values (Some 0))
+pub sums-start : {w : ℕ → ℕ} (s : List ℕ) {m : List (Option ℕ)} → m ≡ replicate byte_values (Some 0) →
+    Sums w (transitions_in s 0) m
 unfolding transitions_in
-sums-start {w} s = record {
-  size = length-replicate {A = Option ℕ} byte_values (Some 0);
-  each = λ q h. number-none q h;
+sums-start {w} s e = record {
+  size = ap length e ∙ length-replicate {A = Option ℕ} byte_values (Some 0);
+  each = λ q h. ap (λ m. number_in m q) e ∙ number-none q h;
 }
 
 -- t is the product x that is added to the sum of state o

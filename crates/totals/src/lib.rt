@@ -41,14 +41,16 @@ fn numbers_of(transitions: &[u8], count: usize, n: usize) -> Numbers
     let mut links = [0u16; LINKS];
     link(transitions, count, &mut links);
     let mut numbers = [Some(0); BYTE_VALUES];
+    let mut next = numbers;
     for _ in 0..n {
         settle_all(transitions, count, n, &links, &mut numbers);
-        let next = round(transitions, count, &numbers);
+        round(transitions, count, &numbers, &mut next);
         if same(&numbers, &next, n) {
             return numbers;
         }
     }
-    rounds(transitions, count, n)
+    rounds(transitions, count, n, &mut numbers, &mut next);
+    numbers
 }
 
 // The sum of the numbers of those of the states 1 to n that are accepting. `classes` has the class of state q at

@@ -12,7 +12,7 @@ ghost use Rattle.totals.specs.Numbers.{Added, NumbersOf, Sums, number_in};
 use crate::limited::times;
 use crate::numbers::{Numbers, add};
 use fields::{arg_of, arity_of, out_of};
-use format::{BYTE_VALUES, TRANSITION_BYTES};
+use format::TRANSITION_BYTES;
 
 // The product of the numbers of the arguments of the transition that starts at a byte.
 pub fn product(transitions: &[u8], at: usize, numbers: &Numbers) -> Option<u64>
@@ -39,26 +39,27 @@ fn add_product(transitions: &[u8], at: usize, numbers: &Numbers, sums: &mut Numb
     add(sums, out_of(transitions, at), more);
 }
 
-pub fn round(transitions: &[u8], count: usize, numbers: &Numbers) -> Numbers
+// The numbers are written to a lent array: one that is returned takes more stack.
+pub fn round(transitions: &[u8], count: usize, numbers: &Numbers, sums: &mut Numbers)
     requires { HoldsTransitions transitions.now count }
-    ensures { Sums (number_in numbers.now) (transitions_in transitions.now count) result }
+    ensures { Sums (number_in numbers.now) (transitions_in transitions.now count) sums.new }
 {
-    let mut sums = [Some(0); BYTE_VALUES];
+    sums.fill(Some(0));
     for i in 0..count {
-        add_product(transitions, TRANSITION_BYTES * i, numbers, &mut sums);
+        add_product(transitions, TRANSITION_BYTES * i, numbers, sums);
     }
-    sums
 }
 
-// The numbers after a round for each state, from none on: no tree of a state that has finitely many is deeper.
-pub fn rounds(transitions: &[u8], count: usize, n: usize) -> Numbers
+// The numbers after a round for each state, from none on: no tree of a state that has finitely many is deeper. `next`
+// is for the numbers of a round.
+pub fn rounds(transitions: &[u8], count: usize, n: usize, numbers: &mut Numbers, next: &mut Numbers)
     requires holds_transitions_over { HoldsTransitionsOver transitions.now count n }
     requires n_lt_byte_values { n < byte_values }
-    ensures { (cl : List ℕ) → NumbersOf (viewed cl transitions.now n count) result }
+    ensures { (cl : List ℕ) → NumbersOf (viewed cl transitions.now n count) numbers.new }
 {
-    let mut numbers = [Some(0); BYTE_VALUES];
+    numbers.fill(Some(0));
     for depth in 0..n {
-        numbers = round(transitions, count, &numbers);
+        round(transitions, count, numbers, next);
+        *numbers = *next;
     }
-    numbers
 }

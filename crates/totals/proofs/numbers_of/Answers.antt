@@ -12,7 +12,7 @@ settle_all-requires c = record {
 pub returns-then-same : goal.returns-then-same
 returns-then-same c =
     λ cl ac. lawful-numbers cl c.args.transitions.now c.args.n c.args.count c.requires.holds_transitions_over c.requires.n_lt_byte_values c.requires.count_value ac
-    c.round-next.ensures (sym c.same.ensures ∙ c.if-same.true)
+    c.round.ensures (sym c.same.ensures ∙ c.if-same.true)
 
 pub returns : goal.returns
 returns c = λ cl ac. c.rounds.ensures cl

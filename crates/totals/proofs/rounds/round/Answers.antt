@@ -1,10 +1,11 @@
 use native.Mathlib.Omega.{arith}
 use Rattle.fields.proofs.Transitions.{readable}
+use borrow.Author.Rules.{rules}
 use Rattle.totals.proofs.Sums.{sums_next, sums-start, sums-end}
 use Rattle.totals.proofs.rounds.round.Goals as goal
 
 pub loop-i-init : goal.loop-i-init
-loop-i-init c = sums-start c.args.transitions.now
+loop-i-init c = sums-start c.args.transitions.now (search rules)
 
 pub add_product-requires : goal.add_product-requires
 add_product-requires c = readable c.requires c.loop-i.i (omega arith)
