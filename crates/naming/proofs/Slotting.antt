@@ -1,8 +1,8 @@
 -- The states in a slot tried one after another. Every state that the subtree is like is among them.
 use mathlib.Core.Bool.{Bool, false, true, true≢false}
 use mathlib.Core.List.{List}
-use mathlib.Core.Path.{◌∙◌, ◌≡◌, refl, sym}
-use Prim.Native.Nat.{◌*◌, ◌+◌, ◌<◌, ◌≤◌, ℕ}
+use mathlib.Core.Path.{◌∙◌, ◌≡◌, ap, refl, sym}
+use Prim.Native.Nat.{◌*◌, ◌+◌, ◌-◌, ◌<◌, ◌≤◌, ℕ}
 use native.Mathlib.Omega.{arith}
 use lib.Dec.{eqb, ltb}
 use borrow.Author.Tests.{eqb-false, eqb-true, ltb-false, ltb-true}
@@ -29,6 +29,8 @@ use Rattle.uses.specs.declared.setting.Setting.{Setting}
 use Rattle.alike.proofs.Carried.{holds-subtrees}
 use Rattle.alike.proofs.Criterion.{like-state-parts}
 use Rattle.lists.proofs.Tests.{and_right}
+use Rattle.std.specs.Option.{ForSome, unwrap_or}
+use Rattle.std.specs.Prelude.{None, Option, Some}
 use Rattle.naming.proofs.Parentage.{refuted}
 
 -- a place of a transition has a state, or 0 beyond its arguments
@@ -82,13 +84,24 @@ module _ {A : Automaton} {t : Tree} {S : Tree → Bool} {ts : List Tree} {s : Li
 
 -- ---- the loop
 
--- the states in the slot before index i were tried
-pub record SlotTried (b : List ℕ) (g : Setting) (o names : List ℕ) (j : ℕ) (z : Slot) (i : ℕ) : Type 0 where
-  pub within : i ≤ g.count
-  pub here : i < g.count → InSlot g.transitions.now z i
+-- the states in the slot before the next transition in it were tried
+pub record SlotTried (b : List ℕ) (g : Setting) (o names : List ℕ) (j : ℕ) (z : Slot) (next : Option ℕ) : Type 0 where
+  pub here : ForSome next (λ i. i < g.count)
   pub each : (A : Automaton) (t : Tree) (ts : List Tree) (S : Tree → Bool) (N : Tree → ℕ) →
       KnownIn A t ts S b g → Open A t o → NamesKnown A t ts g.subtrees.now j names N →
-      NoneSlotted A t S ts g.transitions.now N j z i
+      NoneSlotted A t S ts g.transitions.now N j z (unwrap_or next g.count)
+
+-- less of the run is left after the next transition than after transition i
+pub later-less : {n i : ℕ} {now next : Option ℕ} → i < n → now ≡ Some i → ForSome next (λ j. i + 1 ≤ j) →
+    n - unwrap_or next n < n - unwrap_or now n
+later-less {n} {i} {now} {next} h e f = go next f
+  where
+    here : unwrap_or now n ≡ i
+    here = ap (λ (o : Option ℕ). unwrap_or o n) e
+
+    go : (o : Option ℕ) → ForSome o (λ j. i + 1 ≤ j) → n - unwrap_or o n < n - unwrap_or now n
+    go None f = omega (arith, here)
+    go (Some j) f = let l = f j refl in omega (arith, here)
 
 -- ---- slots that take every state that a subtree is like
 

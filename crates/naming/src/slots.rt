@@ -39,13 +39,13 @@ pub fn state_in_slot(
         NamesKnown A t ts setting.now.subtrees.now j names.now N → StatesSlotted A t S ts setting.now.transitions.now setting.now.count N j z →
         StateSought A t S ts setting.now.n N j result }
 {
-    let mut i = first_in_slot(setting.transitions, setting.count, z);
-    while i < setting.count {
+    let mut next = first_in_slot(setting.transitions, setting.count, z);
+    while let Some(i) = next {
         let q = arg_of(setting.transitions, TRANSITION_BYTES * i, z.place);
         if fits_state(table, setting, marks, names, j, from, to, q) {
             return Some(q);
         }
-        i = next_in_slot(setting.transitions, setting.count, z, i + 1);
+        next = next_in_slot(setting.transitions, setting.count, z, i + 1);
     }
     None
 }

@@ -1,8 +1,9 @@
 -- The search for a transition with another state for one of its arguments finds what the step gives.
 use mathlib.Core.List.{List}
-use mathlib.Core.Path.{◌∙◌, ◌≡◌, ap, ap₂, subst}
+use mathlib.Core.Path.{◌∙◌, ◌≡◌, ap, ap₂}
 use Prim.Native.Nat.{◌*◌, ◌+◌, ◌-◌, ◌<◌, ◌^◌, ◌≤◌, ℕ}
 use native.Mathlib.Omega.{arith}
+use Rattle.std.specs.Prelude.{None, Option, Some}
 use Rattle.automata.specs.Automaton.{lookup}
 use Rattle.sorted.specs.Steps.{step_at}
 use Rattle.fields.specs.Fields.{HoldsTransitionsOver}
@@ -35,7 +36,7 @@ module _ {s : List ℕ} {c n : ℕ} (bytes : AllBytes s) (r : Searchable s c) (o
     pub exchange-fits : other < 2 ^ 64
     exchange-fits = omega (arith, other-is, exchanged-fits s at k (r.padded.each i h) d bytes y byte)
 
-    module _ (some : y ≡ 0 → ⊥) {m z number : ℕ} (meta : m ≡ meta_at s at) (new : z ≡ other)
+    module _ (some : y ≡ 0 → ⊥) {m z : ℕ} {number : Option ℕ} (meta : m ≡ meta_at s at) (new : z ≡ other)
         (found : (b : ℕ) (qs : List ℕ) → Packs m z b qs → SoughtAt s c b qs number) where
       at-sought : SoughtAt s c (label_of s at) (exchanged_args s at k y) number
       at-sought =
@@ -49,10 +50,8 @@ module _ {s : List ℕ} {c n : ℕ} (bytes : AllBytes s) (r : Searchable s c) (o
           (e ∙ ap (λ (qs : List ℕ). lookup (label_of s at) qs (transitions_in s c))
           (args-put (arg_of s at) k (arity_of s at) y d))
 
-      pub step-nothing : number ≡ 0 → 0 ≡ step_at s c at k y
-      step-nothing e =
-          step_is
-          (sought-nothing bytes r (subst (SoughtAt s c (label_of s at) (exchanged_args s at k y)) e at-sought))
+      pub step-nothing : number ≡ None → 0 ≡ step_at s c at k y
+      step-nothing e = step_is (sought-nothing bytes r at-sought e)
 
-      pub step-found : (number ≡ 0 → ⊥) → number ≤ c → out_of s (transition_bytes * (number - 1)) ≡ step_at s c at k y
-      step-found e l = step_is (sought-output bytes r at-sought (omega arith) l)
+      pub step-found : {j : ℕ} → number ≡ Some j → j < c → out_of s (transition_bytes * j) ≡ step_at s c at k y
+      step-found e l = step_is (sought-output bytes r at-sought e l)

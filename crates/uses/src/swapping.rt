@@ -46,11 +46,10 @@ fn swapped_out(
         return 0;
     }
     let sought = exchanged(args, k, x, y);
-    let number = seek(setting.transitions, setting.count, meta, sought);
-    if number == 0 {
+    let Some(found) = seek(setting.transitions, setting.count, meta, sought) else {
         return 0;
-    }
-    out_of(setting.transitions, TRANSITION_BYTES * (number - 1))
+    };
+    out_of(setting.transitions, TRANSITION_BYTES * found)
 }
 
 // Whether transition i with y for its argument k has the same output, or the slot is covered.

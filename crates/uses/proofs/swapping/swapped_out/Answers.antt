@@ -24,17 +24,17 @@ exchanged-sought-requires c =
           c.requires.k_bound c.requires.args_value c.requires.x_value (omega (arith, c.ranges.y));
     }
 
-pub returns-then-number-eq0 : goal.returns-then-number-eq0
-returns-then-number-eq0 c =
+pub returns-in_default : goal.returns-in_default
+returns-in_default c =
     step-nothing c.args.setting.now.bytes c.args.setting.now.searchable c.args.setting.now.over c.args.i
     c.args.k c.requires.i_lt_count c.requires.k_bound c.requires.args_value c.requires.x_value
     (omega (arith, c.ranges.y)) c.if-y-eq0.false c.requires.meta_value
-    c.exchanged-sought.ensures c.seek-number.ensures.by_index c.if-number-eq0.true
+    c.exchanged-sought.ensures c.seek.ensures.by_index c.in_default.is
 
 pub returns : goal.returns
 returns c =
     c.out_of.ensures.value ∙ step-found c.args.setting.now.bytes c.args.setting.now.searchable c.args.setting.now.over
     c.args.i c.args.k c.requires.i_lt_count c.requires.k_bound c.requires.args_value c.requires.x_value
     (omega (arith, c.ranges.y)) c.if-y-eq0.false c.requires.meta_value
-    c.exchanged-sought.ensures c.seek-number.ensures.by_index c.if-number-eq0.false
-    c.seek-number.ensures.upper_bound
+    c.exchanged-sought.ensures c.seek.ensures.by_index c.in-Some.is
+    (c.seek.ensures.upper_bound _ c.in-Some.is)

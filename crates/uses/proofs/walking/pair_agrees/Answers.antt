@@ -1,10 +1,11 @@
 -- Each of the two transitions is the one that a search finds for the other with its state exchanged.
 use mathlib.Core.Bool.{false≢true}
 use mathlib.Core.List.{List}
-use mathlib.Core.Path.{◌∙◌, ◌≡◌, ap, refl, sym}
+use mathlib.Core.Path.{◌∙◌, ◌≡◌, refl, sym}
 use Prim.Native.Nat.{◌*◌, ◌+◌, ◌-◌, ◌<◌, ◌^◌, ◌≤◌, ℕ}
 use native.Mathlib.Omega.{arith}
 use borrow.Author.Tests.{eqb-true}
+use Rattle.std.specs.Prelude.{Some}
 use Rattle.fields.specs.Fields.{HoldsTransitionsOver}
 use Rattle.format.specs.Format.{AllBytes, byte_values, transition_bytes}
 use Rattle.packed.specs.Packed.{Searchable, meta_at, packed_at}
@@ -24,11 +25,9 @@ step_other : {s : List ℕ} {c n : ℕ} → AllBytes s → Searchable s c → Ho
     packed_at s (transition_bytes * i) - p * 2 ^ (8 * (7 - k)) + q * 2 ^ (8 * (7 - k)) →
     step_at s c (transition_bytes * i) k q ≡ out_of s (transition_bytes * x)
 step_other {s} bytes r over i x k p q h l d arg byte some meta new =
-    let same : x + 1 - 1 ≡ x = omega arith in
     sym (step-found bytes r over i k h d {a = packed_at s (transition_bytes * i)} {x = p} {y = q} refl (sym arg) byte
-    (λ e. omega arith) {m = meta_at s (transition_bytes * x)} {z = packed_at s (transition_bytes * x)} {number = x + 1}
-    (sym meta) new (sought-there {i = x} bytes r l refl refl refl refl) (λ e. omega arith) (omega arith))
-    ∙ ap (λ (y : ℕ). out_of s (transition_bytes * y)) same
+    (λ e. omega arith) {m = meta_at s (transition_bytes * x)} {z = packed_at s (transition_bytes * x)} {number = Some x}
+    (sym meta) new (sought-there {i = x} bytes r l refl refl refl refl) refl l)
 
 module _ {s : List ℕ} {c n k p q to i x : ℕ} (bytes : AllBytes s) (w : Walkable s c n k p q to) (u : AtUse s k p to i)
     (v : AtUse s k q to x) (h : i < to) (l : x < to) where
