@@ -16,6 +16,7 @@ use Rattle.subtrees.specs.Store.{child_at, tree_numbered}
 use Rattle.trees.specs.Context.{Frame, fill}
 use Rattle.trees.specs.Tree.{Tree, no_tree}
 use Rattle.alike.specs.Agreeing.{frame_agrees, named_like_state, named_like_subtree, parent_agrees}
+use Rattle.alike.specs.declared.frames.Candidate.TheVariants.{State, Subtree}
 use Rattle.alike.specs.Known.{Holds}
 use Rattle.subtrees.proofs.Frames.{every-frame, fill-own}
 
@@ -74,25 +75,25 @@ module _ {A : Automaton} {t : Tree} {ts : List Tree} {m : ℕ} {l r c q : List �
 
   -- b is the result of the loop over the parents of subtree w
   pub state-names : (x : ℕ) {w : ℕ} {b : Bool} → w ≡ j →
-      b ≡ every (parent_agrees A N ts l r c w true x) (up_from 0 m) →
+      b ≡ every (parent_agrees A N ts l r c w (State x)) (up_from 0 m) →
       b ≡ every (λ f. eqb (N (fill f (tree_numbered ts j))) (step_frame A f x)) (frames_of t (tree_numbered ts j))
   state-names x z d =
-      d ∙ ap (λ a. every (parent_agrees A N ts l r c a true x) (up_from 0 m)) z
+      d ∙ ap (λ a. every (parent_agrees A N ts l r c a (State x)) (up_from 0 m)) z
       ∙ every-frame holds.stored t holds.subtree holds.every-subtree
-      (λ f. eqb (N (fill f (tree_numbered ts j))) (step_frame A f x)) (frame_agrees A N ts l r c true x) j some known
+      (λ f. eqb (N (fill f (tree_numbered ts j))) (step_frame A f x)) (frame_agrees A N ts l r c (State x)) j some known
       (λ i k h g e. ap (λ n. eqb n (step_frame A (frame_at ts l r c i k) x)) (own_name i k h g e))
 
   pub subtree-names : (x : ℕ) {w : ℕ} {b : Bool} → w ≡ j →
-      b ≡ every (parent_agrees A N ts l r c w false x) (up_from 0 m) →
+      b ≡ every (parent_agrees A N ts l r c w (Subtree x)) (up_from 0 m) →
       b ≡ every (agree N (tree_numbered ts j) (tree_numbered ts x)) (frames_of t (tree_numbered ts j))
   subtree-names x z d =
-      d ∙ ap (λ a. every (parent_agrees A N ts l r c a false x) (up_from 0 m)) z
+      d ∙ ap (λ a. every (parent_agrees A N ts l r c a (Subtree x)) (up_from 0 m)) z
       ∙ every-frame holds.stored t holds.subtree holds.every-subtree
-      (agree N (tree_numbered ts j) (tree_numbered ts x)) (frame_agrees A N ts l r c false x) j some known
+      (agree N (tree_numbered ts j) (tree_numbered ts x)) (frame_agrees A N ts l r c (Subtree x)) j some known
       (λ i k h g e. ap (λ n. eqb n (N (fill (frame_at ts l r c i k) (tree_numbered ts x)))) (own_name i k h g e))
 
   pub turned-names : (x : ℕ) {w : ℕ} {b : Bool} → w ≡ j →
-      b ≡ every (parent_agrees A N ts l r c w false x) (up_from 0 m) →
+      b ≡ every (parent_agrees A N ts l r c w (Subtree x)) (up_from 0 m) →
       b ≡ every (agree N (tree_numbered ts x) (tree_numbered ts j)) (frames_of t (tree_numbered ts j))
   turned-names x z d =
       subtree-names x z d

@@ -22,7 +22,8 @@ use Rattle.trees.specs.Context.{fill}
 use Rattle.trees.specs.Tree.{Tree, no_tree, node}
 use Rattle.alike.specs.Agreeing.{name_in, parent_agrees, place_agrees, state_of}
 use Rattle.uses.specs.Frames.{Shaped}
-use Rattle.alike.specs.Known.{Holds, NamedAbove}
+use Rattle.alike.specs.declared.frames.Candidate.{Candidate}
+use Rattle.alike.specs.Known.{FromOn, Holds, NamedAbove}
 use Rattle.lists.proofs.Intervals.{at_every, every-at, length-tabulated}
 use Rattle.lists.proofs.Loops.{EveryFrom}
 use Rattle.lists.proofs.Tests.{same_test}
@@ -70,13 +71,13 @@ module _ (r c : List ℕ) (i : ℕ) {w : ℕ} {ns : List ℕ} (width : w ≡ get
 
 -- ---- a place
 
-module _ (A : Automaton) (N : Tree → ℕ) (ts : List Tree) (l r c : List ℕ) (a : ℕ) (state : Bool) (x i k : ℕ) where
-  pub place_other : (child_at c i k ≡ a → ⊥) → true ≡ place_agrees A N ts l r c a state x i k
+module _ (A : Automaton) (N : Tree → ℕ) (ts : List Tree) (l r c : List ℕ) (a : ℕ) (x : Candidate) (i k : ℕ) where
+  pub place_other : (child_at c i k ≡ a → ⊥) → true ≡ place_agrees A N ts l r c a x i k
   place_other d = rw (ne_eqb (child_at c i k) a d)
 
   pub place-own : {t : Tree} {m j : ℕ} {names : List ℕ} {y z : ℕ} → Shaped m r c → i < m → k < get_or r i 0 →
       NamedAbove A t ts m j names N → j ≤ a → child_at c i k ≡ a → y ≡ get_or names i 0 →
-      z ≡ name_in A N ts state x (frame_at ts l r c i k) → eqb y z ≡ place_agrees A N ts l r c a state x i k
+      z ≡ name_in A N ts x (frame_at ts l r c i k) → eqb y z ≡ place_agrees A N ts l r c a x i k
   place-own {t} {m} {j} {names} {y} {z} shaped h inside known above d e f =
       let n : i + 1 - 1 ≡ i = omega arith in
       let own : N (get_or ts i no_tree) ≡ y =
@@ -88,11 +89,11 @@ module _ (A : Automaton) (N : Tree → ℕ) (ts : List Tree) (l r c : List ℕ) 
 -- ---- loops
 
 -- what holds of every setting in which code looks at the frames over subtree a
-abbrev pub Given : List ℕ → ℕ → ℕ → List ℕ → List ℕ → List ℕ → List ℕ → List ℕ → ℕ → Bool → ℕ →
+abbrev pub Given : List ℕ → ℕ → ℕ → List ℕ → List ℕ → List ℕ → List ℕ → List ℕ → ℕ → Candidate →
     (Automaton → (Tree → ℕ) → List Tree → Type 0) → Type 0
-Given s n m l r c q names a state x P =
+Given s n m l r c q names a x P =
     (A : Automaton) (t : Tree) (ts : List Tree) (N : Tree → ℕ) (j : ℕ) → A.transitions ≡ transitions_in s n →
-    Holds A t ts m l r c q → NamedAbove A t ts m j names N → j ≤ a → (state ≡ false → j ≤ x) → P A N ts
+    Holds A t ts m l r c q → NamedAbove A t ts m j names N → j ≤ a → FromOn j x → P A N ts
 
 -- the bounds of the parents of a subtree whose number equals j
 pub numbered-parents : {m : ℕ} {r c : List ℕ} {j w from to : ℕ} → w ≡ j → ParentsWithin m r c j from to →
@@ -100,28 +101,28 @@ pub numbered-parents : {m : ℕ} {r c : List ℕ} {j w from to : ℕ} → w ≡ 
 numbered-parents {m} {r} {c} {j} {w} {from} {to} e p = subst (λ (x : ℕ). ParentsWithin m r c x from to) (sym e) p
 
 -- a loop between the bounds of the parents sees every parent
-pub parents-within : (A : Automaton) (N : Tree → ℕ) (ts : List Tree) (l r c : List ℕ) (a : ℕ) (state : Bool) (x : ℕ)
+pub parents-within : (A : Automaton) (N : Tree → ℕ) (ts : List Tree) (l r c : List ℕ) (a : ℕ) (x : Candidate)
     {m from to : ℕ} → ParentsWithin m r c a from to →
-    EveryFrom (every (parent_agrees A N ts l r c a state x) (up_from 0 m)) (parent_agrees A N ts l r c a state x)
+    EveryFrom (every (parent_agrees A N ts l r c a x) (up_from 0 m)) (parent_agrees A N ts l r c a x)
     (from + (to - from)) from
-parents-within A N ts l r c a state x {m} {from} {to} within = record {
+parents-within A N ts l r c a x {m} {from} {to} within = record {
   within = omega arith;
   left = same_test (every p (up_from 0 m)) (every p (up_from from (from + (to - from) - from)))
       (λ e. at_every p from (from + (to - from) - from)
       (λ i u v. every-at p 0 m e i (omega arith) (omega (arith, within.known))))
       (λ e. at_every p 0 m
-      (λ i u v. at_every (place_agrees A N ts l r c a state x i) 0 (get_or r i 0) (λ k g h. one e i k (omega arith) (omega arith)
+      (λ i u v. at_every (place_agrees A N ts l r c a x i) 0 (get_or r i 0) (λ k g h. one e i k (omega arith) (omega arith)
       (eqb (child_at c i k) a) refl)));
 }
   where
     p : ℕ → Bool
-    p = parent_agrees A N ts l r c a state x
+    p = parent_agrees A N ts l r c a x
 
-    one : every (parent_agrees A N ts l r c a state x) (up_from from (from + (to - from) - from)) ≡ true → (i k : ℕ) →
-        i < m → k < get_or r i 0 → (b : Bool) → eqb (child_at c i k) a ≡ b → place_agrees A N ts l r c a state x i k ≡ true
+    one : every (parent_agrees A N ts l r c a x) (up_from from (from + (to - from) - from)) ≡ true → (i k : ℕ) →
+        i < m → k < get_or r i 0 → (b : Bool) → eqb (child_at c i k) a ≡ b → place_agrees A N ts l r c a x i k ≡ true
     one e i k u v true d =
         let own = eqb-true (child_at c i k) a d in
-        every-at (place_agrees A N ts l r c a state x i) 0 (get_or r i 0)
-        (every-at (parent_agrees A N ts l r c a state x) from (from + (to - from) - from) e i (within.above i k u v own)
+        every-at (place_agrees A N ts l r c a x i) 0 (get_or r i 0)
+        (every-at (parent_agrees A N ts l r c a x) from (from + (to - from) - from) e i (within.above i k u v own)
         (omega (arith, within.below i k u v own))) k (omega arith) (omega arith)
-    one e i k u v false d = sym (place_other A N ts l r c a state x i k (eqb-false (child_at c i k) a d))
+    one e i k u v false d = sym (place_other A N ts l r c a x i k (eqb-false (child_at c i k) a d))

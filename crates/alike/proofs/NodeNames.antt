@@ -14,7 +14,7 @@ use Rattle.format.specs.Format.{max_arity}
 use Rattle.lists.specs.Positions.{up_from}
 use Rattle.lists.specs.Tests.{any, every}
 use Rattle.packed.specs.Seeking.{Places}
-use Rattle.subtrees.specs.Steps.{Children, Filled, First, same_child, same_node}
+use Rattle.subtrees.specs.Steps.{Children, Filled, same_child, same_node}
 use Rattle.subtrees.specs.Store.{Stored, child_at, tree_numbered, trees_numbered}
 use Rattle.trees.specs.Tree.{Tree, no_tree, node}
 use Rattle.alike.specs.Agreeing.{state_of}
@@ -159,12 +159,12 @@ widened-step A ts b ns qs e d f =
 
 module _ {A : Automaton} {t : Tree} {ts : List Tree} {m j : ℕ} {l r c q names : List ℕ} {N : Tree → ℕ}
     (holds : Holds A t ts m l r c q) (known : NamedAbove A t ts m j names N) {b n : ℕ} {ns : List ℕ}
-    (eight : length ns ≡ max_arity) (ch : Children ns n m) {i : ℕ} (first : First (same_node l r c b n ns) m i) where
+    (eight : length ns ≡ max_arity) (ch : Children ns n m) where
   -- the name if the node is the subtree at index i
-  pub name-found : (k : ℕ) → k < n → j ≤ get_or ns k 0 → i < m → get_or names i 0 ≡ N (node b (trees_numbered ts (take n ns)))
-  name-found k h a inside =
+  pub name-found : (i k : ℕ) → k < n → j ≤ get_or ns k 0 → i < m → same_node l r c b n ns i ≡ true →
+      get_or names i 0 ≡ N (node b (trees_numbered ts (take n ns)))
+  name-found i k h a inside same =
       let st = holds.stored in
-      let same = first.there inside in
       let d = and_right (eqb (get_or l i 0) b) _ same in
       let s = eqb-true (get_or r i 0) n (and_left _ _ d) in
       let child = eqb-true (child_at c i k) (get_or ns k 0) (every-at (same_child c i ns) 0 n
@@ -175,9 +175,9 @@ module _ {A : Automaton} {t : Tree} {ts : List Tree} {m j : ℕ} {l r c q names 
       ∙ ap N (ap (λ x. get_or ts x no_tree) z ∙ same-tree st b ch eight i inside same)
 
   -- the name if the node is no subtree
-  pub name-missing : {x : ℕ} → m ≤ i → x ≡ step A b (runs A (trees_numbered ts (take n ns))) →
+  pub name-missing : {x : ℕ} → ((i : ℕ) → i < m → same_node l r c b n ns i ≡ false) → x ≡ step A b (runs A (trees_numbered ts (take n ns))) →
       x ≡ N (node b (trees_numbered ts (take n ns)))
-  name-missing h e =
+  name-missing none e =
       let u = node b (trees_numbered ts (take n ns)) in
       e ∙ sym (known.others u (not-subtree t u
-      (λ k. enter-missing holds.stored b ch eight first h (holds.every-subtree u k))))
+      (λ k. enter-missing holds.stored b ch eight none (holds.every-subtree u k))))

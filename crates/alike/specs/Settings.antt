@@ -9,6 +9,7 @@ use Rattle.trees.specs.Context.{Frame}
 use Rattle.trees.specs.Tree.{Tree}
 use Rattle.uses.specs.declared.setting.Setting.{Setting}
 use Rattle.alike.specs.Agreeing.{parent_agrees, place_agrees}
+use Rattle.alike.specs.declared.frames.Candidate.{Candidate}
 use Rattle.alike.specs.Known.{Holds, NamedAbove}
 use Rattle.alike.specs.Slots.{SlotOf}
 
@@ -28,11 +29,11 @@ abbrev pub frame_in : List Tree → Subtrees → ℕ → ℕ → Frame
 frame_in ts s i k = frame_at ts s.labels s.arities s.children i k
 
 -- the names that a candidate gives
-abbrev pub place_agrees_in : Automaton → (Tree → ℕ) → List Tree → Subtrees → ℕ → Bool → ℕ → ℕ → ℕ → Bool
-place_agrees_in A N ts s a state x i k = place_agrees A N ts s.labels s.arities s.children a state x i k
+abbrev pub place_agrees_in : Automaton → (Tree → ℕ) → List Tree → Subtrees → ℕ → Candidate → ℕ → ℕ → Bool
+place_agrees_in A N ts s a x i k = place_agrees A N ts s.labels s.arities s.children a x i k
 
-abbrev pub parent_agrees_in : Automaton → (Tree → ℕ) → List Tree → Subtrees → ℕ → Bool → ℕ → ℕ → Bool
-parent_agrees_in A N ts s a state x i = parent_agrees A N ts s.labels s.arities s.children a state x i
+abbrev pub parent_agrees_in : Automaton → (Tree → ℕ) → List Tree → Subtrees → ℕ → Candidate → ℕ → Bool
+parent_agrees_in A N ts s a x i = parent_agrees A N ts s.labels s.arities s.children a x i
 
 -- a slot for each state that subtree j is like
 abbrev pub SlotIn : Subtrees → ℕ → List ℕ → Slot → Type 0

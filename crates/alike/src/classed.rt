@@ -11,7 +11,7 @@ ghost use Rattle.alike.specs.Agreeing.{named_like_state, named_like_subtree};
 ghost use Rattle.uses.specs.Settings.{ParentsFrom, SearchableIn};
 ghost use Rattle.alike.specs.Settings.{HasTransitions, HoldsSubtrees, NamesKnown};
 
-use crate::frames::frames_agree;
+use crate::frames::{Candidate, frames_agree};
 use format::{MAX_NODES, wide};
 use subtrees::CHILD_NUMBERS;
 use uses::Setting;
@@ -51,7 +51,7 @@ pub fn named_like_state(
     if !same_class(setting.classes[number - 1], class) {
         return false;
     }
-    frames_agree(setting, names, number, true, q, from, to)
+    frames_agree(setting, names, number, Candidate::State(q), from, to)
 }
 
 // Whether subtrees j and v have the same class and, in each frame of either, the same name. `from` and `to` bound the
@@ -82,8 +82,8 @@ pub fn named_like_subtree(
     if !same_class(setting.classes[first - 1], setting.classes[second - 1]) {
         return false;
     }
-    if !frames_agree(setting, names, first, false, v, from, to) {
+    if !frames_agree(setting, names, first, Candidate::Subtree(v), from, to) {
         return false;
     }
-    frames_agree(setting, names, second, false, j, from, to)
+    frames_agree(setting, names, second, Candidate::Subtree(j), from, to)
 }

@@ -13,7 +13,7 @@ ghost use Rattle.subtrees.specs.Store.{tree_numbered};
 ghost use Rattle.trees.specs.Context.{fill};
 ghost use Rattle.trees.specs.Tree.{Tree};
 ghost use Rattle.alike.specs.Agreeing.{name_in, parent_agrees, place_agrees};
-ghost use Rattle.alike.specs.Known.{Candidate};
+ghost use Rattle.alike.specs.Known.{FromOn, Numbered};
 ghost use Rattle.uses.specs.Settings.{ParentsFrom, SearchableIn};
 ghost use Rattle.alike.specs.Settings.{HasTransitions, HoldsSubtrees, NamesKnown, frame_in, place_agrees_in, parent_agrees_in};
 
@@ -21,6 +21,13 @@ use crate::nodes::{children_of, node_name, states_of, step_node};
 use format::{MAX_ARITY, MAX_NODES, wide};
 use subtrees::CHILD_NUMBERS;
 use uses::Setting;
+
+// What stands in a subtree's place: a state or 0, or the subtree with a number.
+#[derive(Clone, Copy)]
+pub enum Candidate {
+    State(u8),
+    Subtree(u8),
+}
 
 // The state of the subtree at index i if its child k had state x.
 fn frame_step(setting: &Setting<'_>, i: usize, k: usize, x: u8) -> u8
@@ -57,29 +64,28 @@ fn frame_node(setting: &Setting<'_>, names: &[u8; MAX_NODES], i: usize, k: usize
     node_name(setting, names, setting.subtrees.labels[i], arity, numbers)
 }
 
-// The name that the subtree at index i would have with the candidate x, a state or a subtree, for its child k.
+// The name that the subtree at index i would have with the candidate x for its child k.
 fn frame_name(
     setting: &Setting<'_>,
     names: &[u8; MAX_NODES],
     i: usize,
     k: usize,
-    state: bool,
-    x: u8,
+    x: Candidate,
 ) -> u8
     requires i_lt_m { i < setting.now.subtrees.now.count }
     requires k_bound { k < get_or setting.now.subtrees.now.arities i 0 }
-    requires candidate { Candidate setting.now.subtrees.now.count state x }
+    requires numbered { Numbered setting.now.subtrees.now.count x }
     ensures { (A : Automaton) (t : Tree) (ts : List Tree) (N : Tree → ℕ) (j : ℕ) →
         HasTransitions A setting.now →
         HoldsSubtrees A t ts setting.now.subtrees.now →
-        NamesKnown A t ts setting.now.subtrees.now j names.now N → (state ≡ false → j ≤ x) →
-        result ≡ name_in A N ts state x
+        NamesKnown A t ts setting.now.subtrees.now j names.now N → FromOn j x →
+        result ≡ name_in A N ts x
         (frame_in ts setting.now.subtrees.now i k) }
 {
-    if state {
-        return frame_step(setting, i, k, x);
+    match x {
+        Candidate::State(q) => frame_step(setting, i, k, q),
+        Candidate::Subtree(v) => frame_node(setting, names, i, k, v),
     }
-    frame_node(setting, names, i, k, x)
 }
 
 // Whether the subtree at index i keeps its name with the candidate for its child k. True if that child is not subtree
@@ -90,22 +96,21 @@ fn place_agrees(
     i: usize,
     k: usize,
     a: usize,
-    state: bool,
-    x: u8,
+    x: Candidate,
 ) -> bool
     requires i_lt_m { i < setting.now.subtrees.now.count }
     requires k_bound { k < get_or setting.now.subtrees.now.arities i 0 }
-    requires candidate { Candidate setting.now.subtrees.now.count state x }
+    requires numbered { Numbered setting.now.subtrees.now.count x }
     ensures { (A : Automaton) (t : Tree) (ts : List Tree) (N : Tree → ℕ) (j : ℕ) →
         HasTransitions A setting.now →
         HoldsSubtrees A t ts setting.now.subtrees.now →
-        NamesKnown A t ts setting.now.subtrees.now j names.now N → j ≤ a → (state ≡ false → j ≤ x) →
-        result ≡ place_agrees_in A N ts setting.now.subtrees.now a state x i k }
+        NamesKnown A t ts setting.now.subtrees.now j names.now N → j ≤ a → FromOn j x →
+        result ≡ place_agrees_in A N ts setting.now.subtrees.now a x i k }
 {
     if wide(setting.subtrees.children[MAX_ARITY * i + k]) != a {
         return true;
     }
-    let name = frame_name(setting, names, i, k, state, x);
+    let name = frame_name(setting, names, i, k, x);
     names[i] == name
 }
 
@@ -115,20 +120,19 @@ fn parent_agrees(
     names: &[u8; MAX_NODES],
     i: usize,
     a: usize,
-    state: bool,
-    x: u8,
+    x: Candidate,
 ) -> bool
     requires i_lt_m { i < setting.now.subtrees.now.count }
-    requires candidate { Candidate setting.now.subtrees.now.count state x }
+    requires numbered { Numbered setting.now.subtrees.now.count x }
     ensures { (A : Automaton) (t : Tree) (ts : List Tree) (N : Tree → ℕ) (j : ℕ) →
         HasTransitions A setting.now →
         HoldsSubtrees A t ts setting.now.subtrees.now →
-        NamesKnown A t ts setting.now.subtrees.now j names.now N → j ≤ a → (state ≡ false → j ≤ x) →
-        result ≡ parent_agrees_in A N ts setting.now.subtrees.now a state x i }
+        NamesKnown A t ts setting.now.subtrees.now j names.now N → j ≤ a → FromOn j x →
+        result ≡ parent_agrees_in A N ts setting.now.subtrees.now a x i }
 {
     let arity = wide(setting.subtrees.arities[i]);
     for k in 0..arity {
-        if !place_agrees(setting, names, i, k, a, state, x) {
+        if !place_agrees(setting, names, i, k, a, x) {
             return false;
         }
     }
@@ -141,21 +145,20 @@ pub fn frames_agree(
     setting: &Setting<'_>,
     names: &[u8; MAX_NODES],
     a: usize,
-    state: bool,
-    x: u8,
+    x: Candidate,
     from: usize,
     to: usize,
 ) -> bool
     requires parents_within { ParentsFrom setting.now.subtrees.now a from to }
-    requires candidate { Candidate setting.now.subtrees.now.count state x }
+    requires numbered { Numbered setting.now.subtrees.now.count x }
     ensures { (A : Automaton) (t : Tree) (ts : List Tree) (N : Tree → ℕ) (j : ℕ) →
         HasTransitions A setting.now →
         HoldsSubtrees A t ts setting.now.subtrees.now →
-        NamesKnown A t ts setting.now.subtrees.now j names.now N → j ≤ a → (state ≡ false → j ≤ x) →
-        result ≡ every (parent_agrees_in A N ts setting.now.subtrees.now a state x) (up_from 0 setting.now.subtrees.now.count) }
+        NamesKnown A t ts setting.now.subtrees.now j names.now N → j ≤ a → FromOn j x →
+        result ≡ every (parent_agrees_in A N ts setting.now.subtrees.now a x) (up_from 0 setting.now.subtrees.now.count) }
 {
     for i in from..to {
-        if !parent_agrees(setting, names, i, a, state, x) {
+        if !parent_agrees(setting, names, i, a, x) {
             return false;
         }
     }

@@ -90,8 +90,7 @@ pub fn node_name(
         NamesKnown A t ts setting.now.subtrees.now j names.now N → k < arity → j ≤ get_or numbers k 0 →
         result ≡ N (node label (trees_numbered ts (take arity numbers))) }
 {
-    let i = search(setting.subtrees, label, arity, numbers);
-    if i < setting.subtrees.count {
+    if let Some(i) = search(setting.subtrees, label, arity, numbers) {
         return names[i];
     }
     let width = wide(arity);

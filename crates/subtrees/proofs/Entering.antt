@@ -16,7 +16,7 @@ use Rattle.automata.specs.Automaton.{Automaton, run}
 use Rattle.format.specs.Format.{max_arity, max_label, max_nodes}
 use Rattle.lists.specs.Positions.{up_from}
 use Rattle.lists.specs.Tests.{◌∈◌, every}
-use Rattle.subtrees.specs.Steps.{Children, ChildrenStored, Entered, First, Sized, add_last, same_child}
+use Rattle.subtrees.specs.Steps.{Children, ChildrenStored, Entered, Sized, add_last, same_child}
 use Rattle.subtrees.specs.Steps.{same_node}
 use Rattle.subtrees.specs.Store.{Stored, child_at, child_numbers, tree_numbered, trees_numbered}
 use Rattle.trees.specs.Tree.{Tree, no_tree, node}
@@ -128,17 +128,17 @@ module _ {A : Automaton} {ts : List Tree} {n : ℕ} {l r c q : List ℕ} (st : S
             (at_every (same_child c j ns) 0 k (λ i b m. eq-eqb _ _ (numbers.1 i (omega arith)))))
 
     -- the node was found before, at index i
-    pub enter-old : {i : ℕ} → First (same_node l r c a k ns) n i → i < n → Entered A ts entrant n (i + 1) l r c q
+    pub enter-old : {i : ℕ} → same_node l r c a k ns i ≡ true → i < n → Entered A ts entrant n (i + 1) l r c q
     enter-old {i} f h =
-        let e = same-tree i h (f.there h) in
+        let e = same-tree i h f in
         let b : i < length ts = omega (arith, st.size) in
         let z : i + 1 - 1 ≡ i = omega arith in
         entered A ts ts entrant n (i + 1) l r c q (last-old ts entrant (rw (← e) (get_d-in ts i no_tree b))) st (rw z e)
 
-    pub enter-missing : {i : ℕ} → First (same_node l r c a k ns) n i → n ≤ i → entrant ∈ ts → ⊥
-    enter-missing {i} f h m =
+    pub enter-missing : ((j : ℕ) → j < n → same_node l r c a k ns j ≡ false) → entrant ∈ ts → ⊥
+    enter-missing f m =
         let (j, b, e) = in-get_d ts entrant no_tree m in
-        other-tree j (omega (arith, st.size)) (f.before j (omega (arith, st.size))) (sym e)
+        other-tree j (omega (arith, st.size)) (f j (omega (arith, st.size))) (sym e)
 
     module _ (sz : Sized l r c q) (room : n < max_nodes) (small : a ≤ max_label) {c' : List ℕ} (cs : ChildrenStored c n ns c') {v : ℕ}
         (right : v ≡ run A entrant) (missing : entrant ∈ ts → ⊥) where

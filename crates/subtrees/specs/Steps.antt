@@ -1,5 +1,6 @@
 -- What the steps of the pass leave: eight bytes filled, a node searched for and stored.
-use Rattle.std.specs.Prelude.{Bool, ◌&&◌, cond, false, true, List, [], ◌++◌, ◌∷◌, ◌≡◌, ◌*◌, ◌+◌, ◌<◌, ◌≤◌, ℕ, eqb, get_or, length}
+use Rattle.std.specs.Option.{MatchOption}
+use Rattle.std.specs.Prelude.{Bool, ◌&&◌, cond, false, true, List, Option, [], ◌++◌, ◌∷◌, ◌≡◌, ◌*◌, ◌+◌, ◌<◌, ◌≤◌, ℕ, eqb, get_or, length}
 use Rattle.automata.specs.Automaton.{Automaton}
 use Rattle.format.specs.Format.{max_arity, max_nodes}
 use Rattle.lists.specs.Closure.{elem}
@@ -36,11 +37,15 @@ abbrev pub same_node : List ℕ → List ℕ → List ℕ → ℕ → ℕ → Li
 same_node l r c a n ns j =
     eqb (get_or l j 0) a && (eqb (get_or r j 0) n && every (same_child c j ns) (up_from 0 n))
 
--- i is the first number below n that passes; n if none does
-pub record First (p : ℕ → Bool) (n i : ℕ) : Type 0 where
-  pub within : i ≤ n
+-- i is the first number below n that passes
+pub record FirstAt (p : ℕ → Bool) (n i : ℕ) : Type 0 where
+  pub within : i < n
   pub before : (j : ℕ) → j < i → p j ≡ false
-  pub there : i < n → p i ≡ true
+  pub there : p i ≡ true
+
+-- o is that number, or none passes
+abbrev pub First : (ℕ → Bool) → ℕ → Option ℕ → Type 0
+First p n o = MatchOption o ((j : ℕ) → j < n → p j ≡ false) (FirstAt p n)
 
 -- c' has ns as the eight child numbers of index j, and the entries before these are those of c
 pub record ChildrenStored (c : List ℕ) (j : ℕ) (ns c' : List ℕ) : Type 0 where

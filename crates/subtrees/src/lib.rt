@@ -78,8 +78,8 @@ fn same_node(subtrees: &Subtrees, j: usize, label: u16, arity: u8, numbers: [u8;
     same_children(&subtrees.children, j, wide(arity), numbers)
 }
 
-// The index of the subtree with this label and these children; as many as there are if there is none.
-pub fn search(subtrees: &Subtrees, label: u16, arity: u8, numbers: [u8; MAX_ARITY]) -> usize
+// The index of the subtree with this label and these children.
+pub fn search(subtrees: &Subtrees, label: u16, arity: u8, numbers: [u8; MAX_ARITY]) -> Option<usize>
     requires found_le_max_nodes { subtrees.now.count ≤ max_nodes }
     requires arity_le_max_arity { arity ≤ max_arity }
     ensures { First (same_node subtrees.now.labels subtrees.now.arities subtrees.now.children label arity
@@ -87,10 +87,10 @@ pub fn search(subtrees: &Subtrees, label: u16, arity: u8, numbers: [u8; MAX_ARIT
 {
     for j in 0..subtrees.count {
         if same_node(subtrees, j, label, arity, numbers) {
-            return j;
+            return Some(j);
         }
     }
-    subtrees.count
+    None
 }
 
 fn store_children(children: &mut [u8; CHILD_NUMBERS], j: usize, numbers: [u8; MAX_ARITY])
@@ -117,11 +117,10 @@ fn enter(subtrees: &mut Subtrees, label: u16, arity: u8, numbers: [u8; MAX_ARITY
         Entered A ts (node label (trees_numbered ts (take arity numbers))) subtrees.new.count result
         subtrees.new.labels subtrees.new.arities subtrees.new.children subtrees.new.states }
 {
-    let found = subtrees.count;
-    let j = search(subtrees, label, arity, numbers);
-    if j < found {
+    if let Some(j) = search(subtrees, label, arity, numbers) {
         return (j + 1) as u8;
     }
+    let found = subtrees.count;
     subtrees.labels[found] = label;
     subtrees.arities[found] = arity;
     store_children(&mut subtrees.children, found, numbers);

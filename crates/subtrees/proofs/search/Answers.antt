@@ -9,9 +9,9 @@ loop-j-init c = (omega arith, λ i h. absurd (omega arith))
 pub returns-then-same_node : goal.returns-then-same_node
 returns-then-same_node c =
     record {
-      within = c.loop-j.invariant.0;
+      within = c.loop-j-test.true;
       before = c.loop-j.invariant.1;
-      there = λ h. sym c.same_node.ensures ∙ c.if-same_node.true;
+      there = sym c.same_node.ensures ∙ c.if-same_node.true;
     }
 
 pub loop-j-preserved : goal.loop-j-preserved
@@ -20,9 +20,4 @@ loop-j-preserved c =
     (omega arith, below_more _ _ passed (sym c.same_node.ensures ∙ c.if-same_node.false))
 
 pub returns : goal.returns
-returns c =
-    record {
-      within = omega arith;
-      before = λ i h. c.loop-j.invariant.1 i (omega arith);
-      there = λ h. absurd (omega arith);
-    }
+returns c = λ i h. c.loop-j.invariant.1 i (omega arith)

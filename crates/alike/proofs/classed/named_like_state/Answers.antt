@@ -1,6 +1,5 @@
 -- `alike::classed::named_like_state` meets its contract: the class, then the frames.
 use native.Mathlib.Omega.{arith}
-use mathlib.Core.Bool.{true≢false}
 use lib.ListN.{get_or}
 use Rattle.subtrees.specs.Store.{tree_numbered}
 use Prim.Native.Nat.{◌-◌}
@@ -17,13 +16,13 @@ returns-then-not-same_class c =
 pub frames_agree-requires : goal.frames_agree-requires
 frames_agree-requires c = record {
   parents_within = numbered-parents c.wide-number.ensures c.requires.parents_within;
-  candidate = record { some = λ z. absurd (true≢false z); known = λ z. absurd (true≢false z) };
+  numbered = tt;
 }
 
 pub returns : goal.returns
 returns c =
     λ A t ts S N e holds known mine other.
-    let r = c.frames_agree.ensures A t ts N c.args.j e holds known (omega arith) (λ z. absurd (true≢false z)) in
+    let r = c.frames_agree.ensures A t ts N c.args.j e holds known (omega arith) tt in
     state-named A t S N (tree_numbered ts c.args.j) c.args.q (get_or c.args.setting.now.classes.now (c.wide-number.result - 1) 0) c.args.class
     (numbered-class c.args.setting.now.classes.now c.wide-number.ensures mine) other c.same_class.ensures c.if-not-same_class.false
     (state-names holds N c.args.j c.requires.le_j c.requires.j_le_m c.args.q c.wide-number.ensures r)

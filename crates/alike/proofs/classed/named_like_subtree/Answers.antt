@@ -20,7 +20,7 @@ returns-then-not-same_class c =
 pub frames_agree-requires : goal.frames_agree-requires
 frames_agree-requires c = record {
   parents_within = numbered-parents c.wide-first.ensures c.requires.parents_within;
-  candidate = record { some = λ z. omega arith; known = λ z. c.requires.v_le_m };
+  numbered = (omega arith, c.requires.v_le_m);
 }
 
 pub returns-then-not-frames_agree : goal.returns-then-not-frames_agree
@@ -29,7 +29,7 @@ returns-then-not-frames_agree c =
     let w = c.wide-first in
     let w2 = c.wide-second in
     λ A t ts S N e holds known mine other.
-    let r = c.frames_agree.ensures A t ts N c.args.j e holds known (omega (arith, w.ensures)) (λ z. omega arith) in
+    let r = c.frames_agree.ensures A t ts N c.args.j e holds known (omega (arith, w.ensures)) (omega arith) in
     subtree-first t S N (tree_numbered ts c.args.j) (tree_numbered ts c.args.v) (get_or cl (w.result - 1) 0)
     (get_or cl (w2.result - 1) 0) (numbered-class cl w.ensures mine) (numbered-class cl w2.ensures other)
     c.same_class.ensures c.if-not-same_class.false
@@ -38,7 +38,7 @@ returns-then-not-frames_agree c =
 pub frames_agree-requires-2 : goal.frames_agree-requires-2
 frames_agree-requires-2 c = record {
   parents_within = numbered-parents c.wide-second.ensures c.requires.parents_within_2;
-  candidate = record { some = λ z. c.requires.le_j; known = λ z. omega arith };
+  numbered = (c.requires.le_j, omega arith);
 }
 
 pub returns : goal.returns
@@ -47,8 +47,8 @@ returns c =
     let w = c.wide-first in
     let w2 = c.wide-second in
     λ A t ts S N e holds known mine other.
-    let r = c.frames_agree.ensures A t ts N c.args.j e holds known (omega (arith, w.ensures)) (λ z. omega arith) in
-    let r2 = c.frames_agree-2.ensures A t ts N c.args.j e holds known (omega (arith, w2.ensures)) (λ z. omega arith) in
+    let r = c.frames_agree.ensures A t ts N c.args.j e holds known (omega (arith, w.ensures)) (omega arith) in
+    let r2 = c.frames_agree-2.ensures A t ts N c.args.j e holds known (omega (arith, w2.ensures)) (omega arith) in
     subtree-named t S N (tree_numbered ts c.args.j) (tree_numbered ts c.args.v) (get_or cl (w.result - 1) 0)
     (get_or cl (w2.result - 1) 0) (numbered-class cl w.ensures mine) (numbered-class cl w2.ensures other)
     c.same_class.ensures c.if-not-same_class.false

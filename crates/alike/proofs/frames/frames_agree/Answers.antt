@@ -8,13 +8,13 @@ pub loop-i-init : goal.loop-i-init
 loop-i-init c = (
   omega arith,
   λ A t ts N j e holds known above sub. parents-within A N ts c.args.setting.now.subtrees.now.labels c.args.setting.now.subtrees.now.arities c.args.setting.now.subtrees.now.children
-      c.args.a c.args.state c.args.x c.requires.parents_within,
+      c.args.a c.args.x c.requires.parents_within,
 )
 
 pub parent_agrees-requires : goal.parent_agrees-requires
 parent_agrees-requires c = record {
   i_lt_m = omega (arith, c.requires.parents_within.known);
-  candidate = c.requires.candidate;
+  numbered = c.requires.numbered;
 }
 
 pub returns-then-not-parent_agrees : goal.returns-then-not-parent_agrees

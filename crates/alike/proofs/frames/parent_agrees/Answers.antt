@@ -12,7 +12,7 @@ pub place_agrees-requires : goal.place_agrees-requires
 place_agrees-requires c = record {
   i_lt_m = c.requires.i_lt_m;
   k_bound = omega (arith, c.loop-k.invariant.0);
-  candidate = c.requires.candidate;
+  numbered = c.requires.numbered;
 }
 
 pub returns-then-not-place_agrees : goal.returns-then-not-place_agrees

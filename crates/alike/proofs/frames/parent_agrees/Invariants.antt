@@ -7,5 +7,5 @@ use Rattle.alike.proofs.FrameNames.{Given}
 use Rattle.alike.proofs.frames.parent_agrees.Given as goal
 
 abbrev pub invariant-loop-k : goal.invariant-loop-k
-invariant-loop-k l = (l.arity ≡ get_or l.setting.subtrees.now.arities l.i 0) × Given l.setting.transitions.now l.setting.count l.setting.subtrees.now.count l.setting.subtrees.now.labels l.setting.subtrees.now.arities l.setting.subtrees.now.children l.setting.subtrees.now.states l.names l.a l.state l.x
-    (λ A N ts. EveryFrom (parent_agrees A N ts l.setting.subtrees.now.labels l.setting.subtrees.now.arities l.setting.subtrees.now.children l.a l.state l.x l.i) (place_agrees A N ts l.setting.subtrees.now.labels l.setting.subtrees.now.arities l.setting.subtrees.now.children l.a l.state l.x l.i) (get_or l.setting.subtrees.now.arities l.i 0) l.k)
+invariant-loop-k l = (l.arity ≡ get_or l.setting.subtrees.now.arities l.i 0) × Given l.setting.transitions.now l.setting.count l.setting.subtrees.now.count l.setting.subtrees.now.labels l.setting.subtrees.now.arities l.setting.subtrees.now.children l.setting.subtrees.now.states l.names l.a l.x
+    (λ A N ts. EveryFrom (parent_agrees A N ts l.setting.subtrees.now.labels l.setting.subtrees.now.arities l.setting.subtrees.now.children l.a l.x l.i) (place_agrees A N ts l.setting.subtrees.now.labels l.setting.subtrees.now.arities l.setting.subtrees.now.children l.a l.x l.i) (get_or l.setting.subtrees.now.arities l.i 0) l.k)

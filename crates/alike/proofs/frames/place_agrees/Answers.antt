@@ -15,16 +15,16 @@ bounds-setting-i c =
 
 pub returns-then-wide-a : goal.returns-then-wide-a
 returns-then-wide-a c =
-    λ A t ts N j e holds known above sub. place_other A N ts c.args.setting.now.subtrees.now.labels c.args.setting.now.subtrees.now.arities c.args.setting.now.subtrees.now.children c.args.a c.args.state c.args.x c.args.i c.args.k (λ z. c.if-wide-a.true (c.wide.ensures ∙ z))
+    λ A t ts N j e holds known above sub. place_other A N ts c.args.setting.now.subtrees.now.labels c.args.setting.now.subtrees.now.arities c.args.setting.now.subtrees.now.children c.args.a c.args.x c.args.i c.args.k (λ z. c.if-wide-a.true (c.wide.ensures ∙ z))
 
 pub frame_name-name-requires : goal.frame_name-name-requires
 frame_name-name-requires c = record {
   i_lt_m = c.requires.i_lt_m;
   k_bound = c.requires.k_bound;
-  candidate = c.requires.candidate;
+  numbered = c.requires.numbered;
 }
 
 pub returns : goal.returns
 returns c =
-    λ A t ts N j e holds known above sub. place-own A N ts c.args.setting.now.subtrees.now.labels c.args.setting.now.subtrees.now.arities c.args.setting.now.subtrees.now.children c.args.a c.args.state c.args.x c.args.i c.args.k
+    λ A t ts N j e holds known above sub. place-own A N ts c.args.setting.now.subtrees.now.labels c.args.setting.now.subtrees.now.arities c.args.setting.now.subtrees.now.children c.args.a c.args.x c.args.i c.args.k
     c.args.setting.now.shaped c.requires.i_lt_m c.requires.k_bound known above (sym c.wide.ensures ∙ c.if-wide-a.false) refl (c.frame_name-name.ensures A t ts N j e holds known sub)

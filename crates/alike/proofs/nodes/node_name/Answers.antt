@@ -6,10 +6,10 @@ use Rattle.format.specs.Format.{max_arity}
 use Rattle.alike.proofs.NodeNames.{children-more, filled-places, name-found, name-missing, states-run, widened-children, widened-step}
 use Rattle.alike.proofs.nodes.node_name.Goals as goal
 
-pub returns-then-i-setting : goal.returns-then-i-setting
-returns-then-i-setting c =
+pub returns-in-Some : goal.returns-in-Some
+returns-in-Some c =
     let eight : length c.args.numbers ≡ max_arity = omega (arith, c.well_formed) in
-    λ A t ts N j k e holds known h l. name-found holds known eight c.requires.children c.search-i.ensures k h l c.if-i-setting.true
+    λ A t ts N j k e holds known h l. name-found holds known eight c.requires.children c.in-Some.i k h l c.in-Some.ensures.within c.in-Some.ensures.there
 
 pub states_of-qs-requires : goal.states_of-qs-requires
 states_of-qs-requires c =
@@ -24,6 +24,6 @@ pub returns : goal.returns
 returns c =
     let eight : length c.args.numbers ≡ max_arity = omega (arith, c.well_formed) in
     λ A t ts N j k e holds known h l.
-    name-missing holds known eight c.requires.children c.search-i.ensures c.if-i-setting.false
+    name-missing holds known eight c.requires.children c.in_default.ensures
     (widened-step A ts c.args.label c.args.numbers c.states_of-qs.result c.wide-width.ensures (c.step_node.ensures A e)
     (states-run holds.stored eight (widened-children c.wide-width.ensures c.requires.children) c.states_of-qs.ensures))
