@@ -3,3 +3,4 @@ pub mod Parents
 pub mod Known
 pub mod Choice
 pub mod Settings
+pub mod Search

@@ -7,6 +7,7 @@ mod classes; // the class of each subtree after the change
 mod models; // subtrees that a subtree can stand for
 mod parents; // parents of subtrees, and what their names imply
 mod seeking; // the state that a subtree can stand for
+mod sought; // a subtree for which a state is sought
 mod slots; // slots that hold every state that a subtree is like
 mod states; // states that a subtree is compared with
 
@@ -28,6 +29,7 @@ use format::{BYTE_VALUES, MAX_NODES, wide};
 use models::find_subtree;
 use parents::{Parents, anchored, note_parents};
 use seeking::find_state;
+use sought::Sought;
 use uses::Setting;
 
 // The name of subtree j, from the names of the subtrees with greater numbers.
@@ -52,10 +54,19 @@ fn name_subtree(
 {
     let from = wide(parents.froms[j - 1]);
     let to = wide(parents.tos[j - 1]);
-    if anchored(setting, names, shared, j, from, to) {
+    let sought = Sought {
+        table: table,
+        setting: setting,
+        marks: marks,
+        names: names,
+        j: j,
+        from: from,
+        to: to,
+    };
+    if anchored(&sought, shared) {
         return (setting.n + j) as u8;
     }
-    if let Some(q) = find_state(table, setting, marks, names, j, from, to) {
+    if let Some(q) = find_state(&sought) {
         return q as u8;
     }
     if let Some(v) = find_subtree(setting, names, parents, j) {

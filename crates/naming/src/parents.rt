@@ -6,9 +6,10 @@ ghost use Rattle.format.specs.Format.{max_arity, max_nodes};
 ghost use Rattle.lists.specs.Positions.{up_from};
 ghost use Rattle.lists.specs.Tests.{any};
 ghost use Rattle.naming.specs.Parents.{ChildNoted, is_child};
-ghost use Rattle.uses.specs.Settings.{ParentsFrom};
 ghost use Rattle.naming.specs.Settings.{NotedIn, SpansIn, anchors_in, raises_in};
+ghost use Rattle.naming.specs.Search.{anchors_for, raises_for};
 
+use crate::sought::Sought;
 use format::{MAX_ARITY, MAX_NODES, wide};
 use uses::Setting;
 
@@ -102,19 +103,12 @@ fn anchors_child(
 
 // Whether some parent of subtree j has its own name and shares it with no other subtree. `shared` marks the subtrees
 // whose own names others have too. The parents of j have indices from `from` on and below `to`.
-pub fn anchored(
-    setting: &Setting<'_>,
-    names: &[u8; MAX_NODES],
-    shared: &[u8; MAX_NODES],
-    j: usize,
-    from: usize,
-    to: usize,
-) -> bool
-    requires parents_within { ParentsFrom setting.now.subtrees.now j from to }
-    ensures { result ≡ any (anchors_in setting.now names.now shared.now j) (up_from (j + 1) (setting.now.subtrees.now.count - j)) }
+pub fn anchored(sought: &Sought<'_, '_>, shared: &[u8; MAX_NODES]) -> bool
+    ensures { result ≡ any (anchors_for sought.now shared.now)
+        (up_from (sought.now.j + 1) (sought.now.setting.now.subtrees.now.count - sought.now.j)) }
 {
-    for i in from..to {
-        if anchors_child(setting, names, shared, i + 1, j) {
+    for i in sought.from..sought.to {
+        if anchors_child(sought.setting, sought.names, shared, i + 1, sought.j) {
             return true;
         }
     }
@@ -134,19 +128,12 @@ fn raises_child(setting: &Setting<'_>, names: &[u8; MAX_NODES], i: usize, j: usi
 }
 
 // Whether the name of some parent of subtree j is some subtree's own name.
-pub fn raised(
-    setting: &Setting<'_>,
-    names: &[u8; MAX_NODES],
-    j: usize,
-    from: usize,
-    to: usize,
-) -> bool
-    requires parents_within { ParentsFrom setting.now.subtrees.now j from to }
-    ensures { result ≡ any (raises_in setting.now names.now j)
-        (up_from (j + 1) (setting.now.subtrees.now.count - j)) }
+pub fn raised(sought: &Sought<'_, '_>) -> bool
+    ensures { result ≡ any (raises_for sought.now)
+        (up_from (sought.now.j + 1) (sought.now.setting.now.subtrees.now.count - sought.now.j)) }
 {
-    for i in from..to {
-        if raises_child(setting, names, i + 1, j) {
+    for i in sought.from..sought.to {
+        if raises_child(sought.setting, sought.names, i + 1, sought.j) {
             return true;
         }
     }

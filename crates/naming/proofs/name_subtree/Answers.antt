@@ -9,8 +9,11 @@ use Rattle.naming.proofs.Spans.{spanned}
 use Rattle.alike.proofs.Carried.{holds-subtrees}
 use Rattle.naming.proofs.name_subtree.Goals as goal
 
-pub anchored-requires : goal.anchored-requires
-anchored-requires c = record {
+pub invariant_of-sought : goal.invariant_of-sought
+invariant_of-sought c = record {
+  table_len = c.requires.table_len;
+  le_j = c.requires.le_j;
+  j_le_m = c.requires.j_le_m;
   parents_within = spanned c.requires.spans_of c.requires.le_j c.requires.j_le_m c.wide-from.ensures c.wide-to.ensures;
 }
 
@@ -20,16 +23,6 @@ returns-then-anchored c = record {
   chosen = λ A t ts S N K O X. inr (inr (anchored-own S (holds-subtrees K.holds) K.classes.fits K.size X c.requires.shared
       (sym c.anchored.ensures ∙ c.if-anchored.true) c.requires.le_j));
 }
-
-pub find_state-requires : goal.find_state-requires
-find_state-requires c =
-    let within = spanned c.requires.spans_of c.requires.le_j c.requires.j_le_m c.wide-from.ensures c.wide-to.ensures in
-    record {
-      table_len = c.requires.table_len;
-      le_j = c.requires.le_j;
-      j_le_m = c.requires.j_le_m;
-      parents_within = within;
-    }
 
 pub returns-in-Some : goal.returns-in-Some
 returns-in-Some c = record {

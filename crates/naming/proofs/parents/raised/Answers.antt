@@ -7,14 +7,14 @@ use Rattle.naming.proofs.parents.raised.Goals as goal
 pub loop-i-init : goal.loop-i-init
 loop-i-init c = (
   omega arith,
-  parents-tested c.args.setting.now.shaped c.requires.parents_within
-      (raiser-child c.args.setting.now.n c.args.setting.now.subtrees.now.arities c.args.setting.now.subtrees.now.children c.args.names.now c.args.j),
+  parents-tested c.args.sought.now.setting.now.shaped c.args.sought.now.parents_within
+      (raiser-child c.args.sought.now.setting.now.n c.args.sought.now.setting.now.subtrees.now.arities c.args.sought.now.setting.now.subtrees.now.children c.args.sought.now.names.now c.args.sought.now.j),
 )
 
 pub raises_child-requires : goal.raises_child-requires
 raises_child-requires c = record {
   le_i = omega arith;
-  i_le_m = omega (arith, c.requires.parents_within.known);
+  i_le_m = omega (arith, c.args.sought.now.parents_within.known);
 }
 
 pub returns-then-raises_child : goal.returns-then-raises_child

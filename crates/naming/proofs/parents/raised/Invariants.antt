@@ -7,5 +7,5 @@ use Rattle.lists.proofs.Loops.{AnyFrom}
 use Rattle.naming.proofs.parents.raised.Given as goal
 
 abbrev pub invariant-loop-i : goal.invariant-loop-i
-invariant-loop-i l = (l.from ≤ l.i) × AnyFrom (any (raises l.setting.n l.setting.subtrees.now.arities l.setting.subtrees.now.children l.names l.j) (up_from (l.j + 1) (l.setting.subtrees.now.count - l.j)))
-    (raises l.setting.n l.setting.subtrees.now.arities l.setting.subtrees.now.children l.names l.j) (l.from + 1 + (l.to - l.from)) (l.i + 1)
+invariant-loop-i l = (l.sought.from ≤ l.i) × AnyFrom (any (raises l.sought.setting.now.n l.sought.setting.now.subtrees.now.arities l.sought.setting.now.subtrees.now.children l.sought.names.now l.sought.j) (up_from (l.sought.j + 1) (l.sought.setting.now.subtrees.now.count - l.sought.j)))
+    (raises l.sought.setting.now.n l.sought.setting.now.subtrees.now.arities l.sought.setting.now.subtrees.now.children l.sought.names.now l.sought.j) (l.sought.from + 1 + (l.sought.to - l.sought.from)) (l.i + 1)

@@ -6,9 +6,6 @@ use Rattle.naming.proofs.Apart.{raised-no-state}
 use Rattle.alike.proofs.Carried.{holds-subtrees}
 use Rattle.naming.proofs.seeking.find_state.Goals as goal
 
-pub raised-requires : goal.raised-requires
-raised-requires c = record { parents_within = c.requires.parents_within }
-
 pub returns-then-raised : goal.returns-then-raised
 returns-then-raised c = record {
   upper_bound = tt;
@@ -18,24 +15,11 @@ returns-then-raised c = record {
   };
 }
 
-pub own_state-requires : goal.own_state-requires
-own_state-requires c =
-    record {
-      table_len = c.requires.table_len;
-      le_j = c.requires.le_j;
-      j_le_m = c.requires.j_le_m;
-      parents_within = c.requires.parents_within;
-    }
-
 pub returns-in-Some : goal.returns-in-Some
 returns-in-Some c = record { upper_bound = c.in-Some.ensures.upper_bound; state_sought = λ A t ts S N K O X. c.in-Some.ensures.chosen A t ts S N K O X }
 
 pub fits_state-requires : goal.fits_state-requires
 fits_state-requires c = record {
-  table_len = c.requires.table_len;
-  le_j = c.requires.le_j;
-  j_le_m = c.requires.j_le_m;
-  parents_within = c.requires.parents_within;
   q_le_n = omega arith;
 }
 
@@ -44,12 +28,3 @@ returns-then-fits_state c = record {
   upper_bound = omega arith;
   state_sought = λ A t ts S N K O X. (c.fits_state.ensures A t ts S N K O X).yes c.if-fits_state.true;
 }
-
-pub other_state-requires : goal.other_state-requires
-other_state-requires c =
-    record {
-      table_len = c.requires.table_len;
-      le_j = c.requires.le_j;
-      j_le_m = c.requires.j_le_m;
-      parents_within = c.requires.parents_within;
-    }

@@ -4,10 +4,6 @@ use Rattle.naming.proofs.seeking.other_state.Goals as goal
 
 pub state_in_slot-requires : goal.state_in_slot-requires
 state_in_slot-requires c = record {
-  table_len = c.requires.table_len;
-  le_j = c.requires.le_j;
-  j_le_m = c.requires.j_le_m;
-  parents_within = c.requires.parents_within;
   place_lt_max_arity = c.in-Some.ensures.place_lt_max_arity;
 }
 

@@ -4,20 +4,20 @@ use Rattle.naming.proofs.Slotting.{frame-slotted, use-slotted}
 use Rattle.naming.proofs.slots.slot_of.Goals as goal
 
 pub frame_slot_of-requires : goal.frame_slot_of-requires
-frame_slot_of-requires c = record { to_le_m = c.requires.parents_within.known }
+frame_slot_of-requires c = record { to_le_m = c.args.sought.now.parents_within.known }
 
 pub returns-in-Some : goal.returns-in-Some
 returns-in-Some c = record {
   place_lt_max_arity = c.in-Some.ensures.place;
-  states_slotted = λ A t ts S N holds X. frame-slotted holds c.args.setting.now.searchable X c.in-Some.ensures;
+  states_slotted = λ A t ts S N holds X. frame-slotted holds c.args.sought.now.setting.now.searchable X c.in-Some.ensures;
 }
 
 pub use_slot-requires : goal.use_slot-requires
 use_slot-requires c =
     record {
-      le_j = c.requires.le_j;
-      j_le_m = c.requires.j_le_m;
-      parents_within = c.requires.parents_within;
+      le_j = c.args.sought.now.le_j;
+      j_le_m = c.args.sought.now.j_le_m;
+      parents_within = c.args.sought.now.parents_within;
     }
 
 pub returns : goal.returns

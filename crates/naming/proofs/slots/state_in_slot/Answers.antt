@@ -8,7 +8,7 @@ use Rattle.naming.proofs.slots.state_in_slot.Goals as goal
 
 pub first_in_slot-next-requires : goal.first_in_slot-next-requires
 first_in_slot-next-requires c = record {
-  searchable = c.args.setting.now.searchable;
+  searchable = c.args.sought.now.setting.now.searchable;
   place_lt_max_arity = c.requires.place_lt_max_arity;
 }
 
@@ -20,13 +20,13 @@ loop-next-init c = record {
 
 pub overflow_mul-i : goal.overflow_mul-i
 overflow_mul-i c =
-    omega (arith, c.args.setting.now.over.runs.few, c.loop-next.invariant.here _ c.in-Some.is)
+    omega (arith, c.args.sought.now.setting.now.over.runs.few, c.loop-next.invariant.here _ c.in-Some.is)
 
 pub arg_of-q-requires : goal.arg_of-q-requires
 arg_of-q-requires c = record {
   transition_bytes_in_bounds = omega (
     arith,
-    c.args.setting.now.over.runs.inside,
+    c.args.sought.now.setting.now.over.runs.inside,
     c.loop-next.invariant.here _ c.in-Some.is,
   );
   k_lt_max_arity = c.requires.place_lt_max_arity;
@@ -36,14 +36,10 @@ pub fits_state-requires : goal.fits_state-requires
 fits_state-requires c =
     let here = c.in-Some.i in
     record {
-      table_len = c.requires.table_len;
-      le_j = c.requires.le_j;
-      j_le_m = c.requires.j_le_m;
-      parents_within = c.requires.parents_within;
       q_le_n = omega (
         arith,
         c.arg_of-q.ensures.value,
-        place-state c.args.setting.now.searchable c.args.setting.now.over here c.args.z.place
+        place-state c.args.sought.now.setting.now.searchable c.args.sought.now.setting.now.over here c.args.z.place
             (c.loop-next.invariant.here _ c.in-Some.is) c.requires.place_lt_max_arity,
       );
     }
@@ -53,7 +49,7 @@ returns-then-fits_state c = record {
   upper_bound = omega (
     arith,
     c.arg_of-q.ensures.value,
-    place-state c.args.setting.now.searchable c.args.setting.now.over c.in-Some.i c.args.z.place
+    place-state c.args.sought.now.setting.now.searchable c.args.sought.now.setting.now.over c.in-Some.i c.args.z.place
         (c.loop-next.invariant.here _ c.in-Some.is) c.requires.place_lt_max_arity,
   );
   state_sought = λ A t ts S N K O X Z. (c.fits_state.ensures A t ts S N K O X).yes c.if-fits_state.true;
@@ -61,11 +57,11 @@ returns-then-fits_state c = record {
 
 pub overflow_add-i : goal.overflow_add-i
 overflow_add-i c =
-    omega (arith, c.args.setting.now.over.runs.few, c.loop-next.invariant.here _ c.in-Some.is)
+    omega (arith, c.args.sought.now.setting.now.over.runs.few, c.loop-next.invariant.here _ c.in-Some.is)
 
 pub next_in_slot-next-requires : goal.next_in_slot-next-requires
 next_in_slot-next-requires c = record {
-  searchable = c.args.setting.now.searchable;
+  searchable = c.args.sought.now.setting.now.searchable;
   place_lt_max_arity = c.requires.place_lt_max_arity;
 }
 
@@ -77,18 +73,18 @@ loop-next-smaller c =
 pub loop-next-preserved : goal.loop-next-preserved
 loop-next-preserved c =
     let now = c.loop-next in
-    let here = ap (λ o. unwrap_or o c.args.setting.now.count) c.in-Some.is in
+    let here = ap (λ o. unwrap_or o c.args.sought.now.setting.now.count) c.in-Some.is in
     record {
       here = λ i e. (c.next_in_slot-next.ensures.here i e).1;
       each = λ A t ts S N K O X. none-next
-          (subst (λ (i : ℕ). NoneSlotted A t S ts c.args.setting.now.transitions.now N c.args.j c.args.z i) here
+          (subst (λ (i : ℕ). NoneSlotted A t S ts c.args.sought.now.setting.now.transitions.now N c.args.sought.now.j c.args.z i) here
           (now.invariant.each A t ts S N K O X)) c.arg_of-q.ensures.value
-          (subst (StateTried A t S ts N c.args.j c.arg_of-q.result) c.if-fits_state.false
+          (subst (StateTried A t S ts N c.args.sought.now.j c.arg_of-q.result) c.if-fits_state.false
           (c.fits_state.ensures A t ts S N K O X)) c.next_in_slot-next.ensures.others;
     }
 
 pub returns : goal.returns
-returns c = let end = ap (λ o. unwrap_or o c.args.setting.now.count) c.in_default.is in
+returns c = let end = ap (λ o. unwrap_or o c.args.sought.now.setting.now.count) c.in_default.is in
     record {
       upper_bound = tt;
       state_sought = λ A t ts S N K O X Z. none_left Z (c.loop-next.invariant.each A t ts S N K O X) (omega (arith, end));

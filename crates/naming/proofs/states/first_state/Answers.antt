@@ -9,10 +9,6 @@ loop-q-init c = record { each = λ A t ts S N K O X. no-state-first }
 
 pub fits_state-requires : goal.fits_state-requires
 fits_state-requires c = record {
-  table_len = c.requires.table_len;
-  le_j = c.requires.le_j;
-  j_le_m = c.requires.j_le_m;
-  parents_within = c.requires.parents_within;
   q_le_n = omega arith;
 }
 
@@ -27,7 +23,7 @@ loop-q-preserved c =
     let now = c.loop-q in
     record {
       each = λ A t ts S N K O X. no-state-next (now.invariant.each A t ts S N K O X) (subst
-          (StateTried A t S ts N c.args.j now.q) c.if-fits_state.false (c.fits_state.ensures A t ts S N K O
+          (StateTried A t S ts N c.args.sought.now.j now.q) c.if-fits_state.false (c.fits_state.ensures A t ts S N K O
           X));
     }
 

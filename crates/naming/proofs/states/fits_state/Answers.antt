@@ -7,7 +7,7 @@ use Rattle.naming.proofs.states.fits_state.Goals as goal
 
 pub is_free-requires : goal.is_free-requires
 is_free-requires c =
-    omega (arith, c.args.setting.now.states, c.requires.q_le_n)
+    omega (arith, c.args.sought.now.setting.now.states, c.requires.q_le_n)
 
 pub returns-then-not-is_free : goal.returns-then-not-is_free
 returns-then-not-is_free c =
@@ -15,18 +15,18 @@ returns-then-not-is_free c =
 
 pub class_in-class-requires : goal.class_in-class-requires
 class_in-class-requires c = record {
-  table_len = c.requires.table_len;
-  q_lt_byte_values = omega (arith, c.args.setting.now.states, c.requires.q_le_n);
+  table_len = c.args.sought.now.table_len;
+  q_lt_byte_values = omega (arith, c.args.sought.now.setting.now.states, c.requires.q_le_n);
 }
 
 pub like_state-requires : goal.like_state-requires
 like_state-requires c = record {
-  le_j = c.requires.le_j;
-  j_le_m = c.requires.j_le_m;
-  parents_within = c.requires.parents_within;
+  le_j = c.args.sought.now.le_j;
+  j_le_m = c.args.sought.now.j_le_m;
+  parents_within = c.args.sought.now.parents_within;
 }
 
 pub returns : goal.returns
 returns c =
-    λ A t ts S N K O X. free-tried K.size O c.requires.q_le_n (sym c.is_free.ensures ∙ c.if-not-is_free.false) (c.like_state.ensures A t ts S N K.holds X (K.classed.each c.args.j c.requires.le_j c.requires.j_le_m) (c.class_in-class.ensures ∙
+    λ A t ts S N K O X. free-tried K.size O c.requires.q_le_n (sym c.is_free.ensures ∙ c.if-not-is_free.false) (c.like_state.ensures A t ts S N K.holds X (K.classed.each c.args.sought.now.j c.args.sought.now.le_j c.args.sought.now.j_le_m) (c.class_in-class.ensures ∙
     state-class K.classes c.args.q (omega (arith, c.requires.q_le_n, K.size))))

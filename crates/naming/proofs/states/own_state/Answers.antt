@@ -4,15 +4,11 @@ use Rattle.naming.proofs.states.own_state.Goals as goal
 
 pub fits_state-requires : goal.fits_state-requires
 fits_state-requires c = record {
-  table_len = c.requires.table_len;
-  le_j = c.requires.le_j;
-  j_le_m = c.requires.j_le_m;
-  parents_within = c.requires.parents_within;
-  q_le_n = omega (arith, c.if-q-setting.false);
+  q_le_n = omega (arith, c.if-q-sought.false);
 }
 
 pub returns : goal.returns
 returns c = record {
-  upper_bound = omega (arith, c.if-q-setting.false);
+  upper_bound = omega (arith, c.if-q-sought.false);
   chosen = λ A t ts S N K O X. (c.fits_state.ensures A t ts S N K O X).yes c.if-not-fits_state.false;
 }
