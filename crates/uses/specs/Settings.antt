@@ -1,5 +1,5 @@
 -- The facts about a setting that the contracts of this crate and of those above it speak of.
-use Rattle.std.specs.Prelude.{List, ℕ}
+use Rattle.std.specs.Prelude.{Bool, ◌&&◌, List, ℕ}
 use Rattle.automata.specs.Automaton.{Automaton}
 use Rattle.fields.specs.Fields.{HoldsTransitionsOver}
 use Rattle.packed.specs.Packed.{Searchable}
@@ -8,9 +8,11 @@ use Rattle.subtrees.specs.declared.Subtrees.{Subtrees}
 use Rattle.trees.specs.Tree.{Tree}
 use Rattle.uses.specs.declared.setting.Frames.{Frames}
 use Rattle.uses.specs.declared.setting.Setting.{Setting}
-use Rattle.uses.specs.Frames.{Nodes}
+use Rattle.uses.specs.Frames.{Nodes, frame_count, frame_of, in_slot}
 use Rattle.uses.specs.Spans.{UsesWithin}
-use Rattle.uses.specs.Uses.{Arrays, Holds, Scannable, arrays}
+use Rattle.uses.specs.Uses.{Arrays, Holds, Scannable, arrays, covered_at, place_agrees, swap_agrees, transition_agrees}
+use Rattle.uses.specs.Uses.{transitions_agree}
+use Rattle.uses.specs.Walks.{Walked}
 
 -- the subtrees are nodes with at most eight children each
 abbrev pub AreNodes : Subtrees → Type 0
@@ -47,6 +49,43 @@ abbrev pub ScannableIn : Setting → Frames → Type 0
 ScannableIn g f =
     Scannable g.transitions.now g.count g.n g.subtrees.now.count g.subtrees.now.arities g.subtrees.now.children
     f.first f.second f.start f.end
+
+-- the definitions of Frames, Uses and Walks for a setting and frames
+abbrev pub in_slot_in : Setting → ℕ → ℕ → ℕ → Bool
+in_slot_in g at k i =
+    in_slot g.transitions.now at k g.subtrees.now.labels g.subtrees.now.arities g.subtrees.now.children
+    g.subtrees.now.states i
+
+abbrev pub frame_of_in : Setting → Frames → ℕ → ℕ → Bool
+frame_of_in g f k i =
+    frame_of g.subtrees.now.labels g.subtrees.now.arities g.subtrees.now.children g.subtrees.now.count f.first f.second
+    k i
+
+abbrev pub framed_in : Setting → Frames → ℕ → ℕ → ℕ → Bool
+framed_in g f at k i = frame_of_in g f k i && in_slot_in g at k i
+
+abbrev pub frame_count_in : Setting → Frames → ℕ → ℕ → ℕ
+frame_count_in g f at k =
+    frame_count g.transitions.now at k g.subtrees.now.labels g.subtrees.now.arities g.subtrees.now.children
+    g.subtrees.now.states g.subtrees.now.count f.first f.second
+
+abbrev pub covered_in : Setting → Frames → ℕ → ℕ → Bool
+covered_in g f at k = covered_at (arrays_in g f) g.transitions.now at k
+
+abbrev pub swap_agrees_in : Setting → Frames → ℕ → ℕ → ℕ → Bool
+swap_agrees_in g f at k q = swap_agrees (arrays_in g f) g.transitions.now g.count at k q
+
+abbrev pub place_agrees_in : Setting → Frames → ℕ → ℕ → ℕ → ℕ → Bool
+place_agrees_in g f at p q k = place_agrees (arrays_in g f) g.transitions.now g.count at p q k
+
+abbrev pub transition_agrees_in : Setting → Frames → ℕ → ℕ → ℕ → Bool
+transition_agrees_in g f p q i = transition_agrees (arrays_in g f) g.transitions.now g.count p q i
+
+abbrev pub transitions_agree_in : Setting → Frames → ℕ → ℕ → Bool
+transitions_agree_in g f p q = transitions_agree (arrays_in g f) g.transitions.now g.count p q
+
+abbrev pub WalkedIn : Setting → Frames → ℕ → ℕ → ℕ → ℕ → ℕ → Type 0
+WalkedIn g f k p q i x = Walked (arrays_in g f) g.transitions.now g.count k p q i x
 
 -- the setting has the transitions of A and the subtrees of t
 abbrev pub HoldsIn : Automaton → Tree → List Tree → Setting → Type 0

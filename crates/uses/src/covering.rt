@@ -3,18 +3,15 @@
 ghost use Rattle.std.specs.Prelude.{◌≡◌, ◌*◌, ◌<◌, ◌≤◌, min};
 ghost use Rattle.fields.specs.Fields.{Readable};
 ghost use Rattle.format.specs.Format.{max_arity};
-ghost use Rattle.subtrees.specs.Parents.{ParentsWithin};
 ghost use Rattle.table.specs.Layout.{arity_of};
-ghost use Rattle.uses.specs.Frames.{Nodes};
-ghost use Rattle.uses.specs.Uses.{arrays, covered_at, factor_at, product_at, product_cap};
-ghost use Rattle.uses.specs.Settings.{AreNodes, ParentsFrom, arrays_of};
+ghost use Rattle.uses.specs.Uses.{factor_at, product_at, product_cap};
+ghost use Rattle.uses.specs.Settings.{covered_in, ParentsFrom};
 
 use crate::frames::frame_count;
-use crate::setting::Frames;
+use crate::setting::{Frames, Setting};
 use fields::{arg_of, arity_of};
-use format::{BYTE_VALUES, MAX_ARITY, MAX_NODES};
+use format::{BYTE_VALUES, MAX_NODES};
 use pairs::index;
-use subtrees::Subtrees;
 
 // The number of pairs of argument x; 1 if it is left out.
 fn factor(transitions: &[u8], at: usize, k: usize, weights: &[u8; BYTE_VALUES], x: usize) -> usize
@@ -53,22 +50,14 @@ fn choices(transitions: &[u8], at: usize, k: usize, weights: &[u8; BYTE_VALUES])
     product
 }
 
-// Whether the slot of the transition with argument k left out is covered by the frames of subtrees j and v.
-pub fn is_covered(
-    transitions: &[u8],
-    at: usize,
-    k: usize,
-    subtrees: &Subtrees,
-    weights: &[u8; BYTE_VALUES],
-    frames: Frames,
-) -> bool
-    requires readable { Readable transitions.now at }
-    requires nodes { AreNodes subtrees.now }
-    requires k_bound { k < arity_of transitions.now at }
-    requires parents_within { ParentsFrom subtrees.now frames.first frames.start frames.end }
-    requires parents_within_2 { ParentsFrom subtrees.now frames.second frames.start frames.end }
-    ensures { result ≡ covered_at (arrays_of subtrees.now weights.now frames.first frames.second) transitions.now at k }
+// Whether the slot of the transition with argument k left out is covered by the frames.
+pub fn is_covered(setting: &Setting<'_>, at: usize, k: usize, frames: Frames) -> bool
+    requires readable { Readable setting.now.transitions.now at }
+    requires k_bound { k < arity_of setting.now.transitions.now at }
+    requires parents_within { ParentsFrom setting.now.subtrees.now frames.first frames.start frames.end }
+    requires parents_within_2 { ParentsFrom setting.now.subtrees.now frames.second frames.start frames.end }
+    ensures { result ≡ covered_in setting.now frames at k }
 {
-    let found = frame_count(transitions, at, k, subtrees, frames);
-    choices(transitions, at, k, weights) == found
+    let found = frame_count(setting, at, k, frames);
+    choices(setting.transitions, at, k, setting.weights) == found
 }

@@ -4,13 +4,12 @@ ghost use Rattle.fields.specs.Fields.{Readable};
 ghost use Rattle.format.specs.Format.{max_arity, max_nodes};
 ghost use Rattle.lists.specs.Positions.{up_from};
 ghost use Rattle.lists.specs.Tests.{any, bit, every};
-ghost use Rattle.subtrees.specs.Parents.{ParentsWithin};
 ghost use Rattle.subtrees.specs.Store.{child_at};
 ghost use Rattle.table.specs.Layout.{arity_of};
-ghost use Rattle.uses.specs.Frames.{Nodes, frame_count, frame_of, framed, in_slot, same_child, same_sibling, twin};
-ghost use Rattle.uses.specs.Settings.{AreNodes, ParentsFrom};
+ghost use Rattle.uses.specs.Frames.{same_child, same_sibling, twin};
+ghost use Rattle.uses.specs.Settings.{in_slot_in, frame_of_in, framed_in, frame_count_in, ParentsFrom};
 
-use crate::setting::Frames;
+use crate::setting::{Frames, Setting};
 use fields::{arg_of, arity_of, label_of};
 use format::{MAX_ARITY, MAX_NODES, wide};
 use subtrees::Subtrees;
@@ -42,21 +41,21 @@ fn same_sibling(
 }
 
 // Whether each child of node i other than child k runs to the transition's argument at its place.
-fn same_siblings(transitions: &[u8], at: usize, k: usize, subtrees: &Subtrees, i: usize) -> bool
-    requires readable { Readable transitions.now at }
-    requires nodes { AreNodes subtrees.now }
-    requires i_lt_m { i < subtrees.now.count }
-    requires i_value { get_or subtrees.now.arities i 0 ≡ arity_of transitions.now at }
-    ensures { result ≡ every (same_sibling transitions.now at k subtrees.now.children subtrees.now.states i) (up_from 0 (arity_of transitions.now at)) }
+fn same_siblings(setting: &Setting<'_>, at: usize, k: usize, i: usize) -> bool
+    requires readable { Readable setting.now.transitions.now at }
+    requires i_lt_m { i < setting.now.subtrees.now.count }
+    requires i_value { get_or setting.now.subtrees.now.arities i 0 ≡ arity_of setting.now.transitions.now at }
+    ensures { result ≡ every (same_sibling setting.now.transitions.now at k setting.now.subtrees.now.children setting.now.subtrees.now.states i)
+        (up_from 0 (arity_of setting.now.transitions.now at)) }
 {
-    let arity = arity_of(transitions, at);
+    let arity = arity_of(setting.transitions, at);
     for x in 0..arity {
         if !same_sibling(
-            transitions,
+            setting.transitions,
             at,
             k,
-            &subtrees.children,
-            &subtrees.states,
+            &setting.subtrees.children,
+            &setting.subtrees.states,
             i,
             x,
         ) {
@@ -67,19 +66,18 @@ fn same_siblings(transitions: &[u8], at: usize, k: usize, subtrees: &Subtrees, i
 }
 
 // Whether node i with child k left out runs to the slot of the transition with argument k left out.
-fn in_slot(transitions: &[u8], at: usize, k: usize, subtrees: &Subtrees, i: usize) -> bool
-    requires readable { Readable transitions.now at }
-    requires nodes { AreNodes subtrees.now }
-    requires i_lt_m { i < subtrees.now.count }
-    ensures { result ≡ in_slot transitions.now at k subtrees.now.labels subtrees.now.arities subtrees.now.children subtrees.now.states i }
+fn in_slot(setting: &Setting<'_>, at: usize, k: usize, i: usize) -> bool
+    requires readable { Readable setting.now.transitions.now at }
+    requires i_lt_m { i < setting.now.subtrees.now.count }
+    ensures { result ≡ in_slot_in setting.now at k i }
 {
-    if subtrees.labels[i] != label_of(transitions, at) {
+    if setting.subtrees.labels[i] != label_of(setting.transitions, at) {
         return false;
     }
-    if wide(subtrees.arities[i]) != arity_of(transitions, at) {
+    if wide(setting.subtrees.arities[i]) != arity_of(setting.transitions, at) {
         return false;
     }
-    same_siblings(transitions, at, k, subtrees, i)
+    same_siblings(setting, at, k, i)
 }
 
 // Whether child x is left out or is the same in nodes i and h.
@@ -148,68 +146,51 @@ fn has_twin(subtrees: &Subtrees, j: u8, k: usize, i: usize) -> bool
     false
 }
 
-// Whether the frame at place k of node i counts: it is one of subtree j, or one of subtree v and not of j.
-fn frame_of(subtrees: &Subtrees, j: u8, v: u8, k: usize, i: usize) -> bool
-    requires nodes { AreNodes subtrees.now }
+// Whether the frame at place k of node i counts: it is one of the first subtree, or one of the second
+// and not of the first.
+fn frame_of(setting: &Setting<'_>, frames: Frames, k: usize, i: usize) -> bool
     requires k_lt_max_arity { k < max_arity }
-    requires i_lt_m { i < subtrees.now.count }
-    ensures { result ≡ frame_of subtrees.now.labels subtrees.now.arities subtrees.now.children subtrees.now.count j v k i }
+    requires i_lt_m { i < setting.now.subtrees.now.count }
+    ensures { result ≡ frame_of_in setting.now frames k i }
 {
-    let child = subtrees.children[MAX_ARITY * i + k];
-    if child == j {
+    let child = setting.subtrees.children[MAX_ARITY * i + k];
+    if child == frames.first {
         return true;
     }
-    if child != v {
+    if child != frames.second {
         return false;
     }
-    !has_twin(subtrees, j, k, i)
+    !has_twin(setting.subtrees, frames.first, k, i)
 }
 
 // 1 if the frame at place k of node i counts and runs to the transition's slot, else 0.
-fn framed_at(
-    transitions: &[u8],
-    at: usize,
-    k: usize,
-    subtrees: &Subtrees,
-    j: u8,
-    v: u8,
-    i: usize,
-) -> usize
-    requires readable { Readable transitions.now at }
-    requires nodes { AreNodes subtrees.now }
+fn framed_at(setting: &Setting<'_>, at: usize, k: usize, frames: Frames, i: usize) -> usize
+    requires readable { Readable setting.now.transitions.now at }
     requires k_lt_max_arity { k < max_arity }
-    requires i_lt_m { i < subtrees.now.count }
-    ensures { result ≡ bit (framed transitions.now at k subtrees.now.labels subtrees.now.arities subtrees.now.children subtrees.now.states subtrees.now.count j v i) }
+    requires i_lt_m { i < setting.now.subtrees.now.count }
+    ensures { result ≡ bit (framed_in setting.now frames at k i) }
 {
-    if !frame_of(subtrees, j, v, k, i) {
+    if !frame_of(setting, frames, k, i) {
         return 0;
     }
-    if !in_slot(transitions, at, k, subtrees, i) {
+    if !in_slot(setting, at, k, i) {
         return 0;
     }
     1
 }
 
-// The number of frames of subtrees j and v at the slot of the transition with argument k left out. The parents of j
-// and v have indices from `start` on and below `end`.
-pub fn frame_count(
-    transitions: &[u8],
-    at: usize,
-    k: usize,
-    subtrees: &Subtrees,
-    frames: Frames,
-) -> usize
-    requires readable { Readable transitions.now at }
-    requires nodes { AreNodes subtrees.now }
-    requires k_bound { k < arity_of transitions.now at }
-    requires parents_within { ParentsFrom subtrees.now frames.first frames.start frames.end }
-    requires parents_within_2 { ParentsFrom subtrees.now frames.second frames.start frames.end }
-    ensures value { result ≡ frame_count transitions.now at k subtrees.now.labels subtrees.now.arities subtrees.now.children subtrees.now.states subtrees.now.count frames.first frames.second }
+// The number of the frames at the slot of the transition with argument k left out.
+pub fn frame_count(setting: &Setting<'_>, at: usize, k: usize, frames: Frames) -> usize
+    requires readable { Readable setting.now.transitions.now at }
+    requires k_bound { k < arity_of setting.now.transitions.now at }
+    requires parents_within { ParentsFrom setting.now.subtrees.now frames.first frames.start frames.end }
+    requires parents_within_2 { ParentsFrom setting.now.subtrees.now frames.second frames.start frames.end }
+    ensures value { result ≡ frame_count_in setting.now frames at k }
     ensures upper_bound { result ≤ max_nodes }
 {
     let mut found = 0;
     for i in frames.start..frames.end {
-        found = found + framed_at(transitions, at, k, subtrees, frames.first, frames.second, i);
+        found = found + framed_at(setting, at, k, frames, i);
     }
     found
 }

@@ -1,7 +1,5 @@
 // Whether two states are used alike: every slot of a transition takes both to the same state, unless the frames of
-// the given subtrees cover the slot. `transitions` has transition i at byte 12 i, sorted. The arrays of the m
-// subtrees are those of crate subtrees. `weights` has the number of pairs of each state. The uses of a state lie
-// between its entries of `lows` and `lasts`, the parents of the given subtrees between `start` and `end`.
+// the given subtrees cover the slot.
 #![tactic(auto)]
 
 mod setting; // what uses are compared in
@@ -16,18 +14,13 @@ mod using; // a use as a slot
 ghost use Rattle.std.specs.Prelude.{List, ◌++◌, ◌≡◌, ◌*◌, ◌≤◌};
 ghost use Rattle.automata.specs.Alike.{frames_of, uses_agree};
 ghost use Rattle.automata.specs.Automaton.{Automaton, run};
-ghost use Rattle.fields.specs.Fields.{HoldsTransitionsOver};
-ghost use Rattle.packed.specs.Packed.{Searchable};
-ghost use Rattle.subtrees.specs.Parents.{ParentsWithin};
 ghost use Rattle.subtrees.specs.Store.{tree_numbered};
 ghost use Rattle.trees.specs.Context.{Frame};
 ghost use Rattle.trees.specs.Tree.{Tree};
-ghost use Rattle.uses.specs.Frames.{Nodes};
-ghost use Rattle.uses.specs.Spans.{UsesWithin};
-ghost use Rattle.uses.specs.Uses.{FramesOf, Holds, Scannable};
-ghost use Rattle.uses.specs.Settings.{AreNodes, HoldsIn, OverStates, ParentsFrom, ScannableIn, SearchableIn, UsesBounded};
+ghost use Rattle.uses.specs.Uses.{FramesOf};
+ghost use Rattle.uses.specs.Settings.{ScannableIn, ParentsFrom, HoldsIn};
 
-use format::{BYTE_VALUES, MAX_ARITY, MAX_NODES, wide};
+use format::wide;
 use scanning::{hint_agrees, transitions_agree};
 pub use setting::{Frames, Setting};
 pub use spans::note_uses;

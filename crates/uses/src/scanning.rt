@@ -1,19 +1,17 @@
 // The uses of two states, one after another. A use agrees if the transition with the other state in its place has the
 // same output, or if the slot is covered.
-ghost use Rattle.std.specs.Prelude.{◌&&◌, not, ◌≡◌, ◌*◌, ◌+◌, ◌<◌, ◌≤◌, max, min, eqb, length};
+ghost use Rattle.std.specs.Prelude.{◌&&◌, not, ◌≡◌, ◌*◌, ◌+◌, ◌<◌, ◌≤◌, eqb, length};
 ghost use Rattle.format.specs.Format.{max_arity, transition_bytes};
 ghost use Rattle.lists.specs.Positions.{up_from};
 ghost use Rattle.lists.specs.Tests.{every};
-ghost use Rattle.uses.specs.Spans.{UsesWithin};
-ghost use Rattle.uses.specs.Uses.{Hinted, Scannable, arrays, neither_at};
-ghost use Rattle.uses.specs.Uses.{transition_agrees, transitions_agree};
-ghost use Rattle.uses.specs.Settings.{ScannableIn, UsesBounded, arrays_in};
+ghost use Rattle.uses.specs.Uses.{Hinted, neither_at};
+ghost use Rattle.uses.specs.Settings.{transition_agrees_in, transitions_agree_in, ScannableIn, arrays_in};
 
 use crate::setting::{Frames, Setting};
 use crate::spans::entry;
 use crate::swapping::place_agrees;
 use fields::arity_of;
-use format::{ARGS_AT, BYTE_VALUES, MAX_ARITY, MAX_NODES, TRANSITION_BYTES};
+use format::{ARGS_AT, MAX_ARITY, TRANSITION_BYTES};
 use packed::{args_at, meta_at};
 
 // Whether a byte is neither of two.
@@ -40,7 +38,7 @@ fn has_neither(transitions: &[u8], at: usize, p: u8, q: u8) -> bool
 fn transition_agrees(setting: &Setting<'_>, frames: Frames, p: u8, q: u8, i: usize) -> bool
     requires scannable { ScannableIn setting.now frames }
     requires i_lt_count { i < setting.now.count }
-    ensures { result ≡ transition_agrees (arrays_in setting.now frames) setting.now.transitions.now setting.now.count p q i }
+    ensures { result ≡ transition_agrees_in setting.now frames p q i }
 {
     let at = TRANSITION_BYTES * i;
     let meta = meta_at(setting.transitions, at);
@@ -59,7 +57,7 @@ fn transition_agrees(setting: &Setting<'_>, frames: Frames, p: u8, q: u8, i: usi
 fn unused_or_agrees(setting: &Setting<'_>, frames: Frames, p: u8, q: u8, i: usize) -> bool
     requires scannable { ScannableIn setting.now frames }
     requires i_lt_count { i < setting.now.count }
-    ensures { result ≡ transition_agrees (arrays_in setting.now frames) setting.now.transitions.now setting.now.count p q i }
+    ensures { result ≡ transition_agrees_in setting.now frames p q i }
 {
     if has_neither(setting.transitions, TRANSITION_BYTES * i, p, q) {
         return true;
@@ -70,7 +68,7 @@ fn unused_or_agrees(setting: &Setting<'_>, frames: Frames, p: u8, q: u8, i: usiz
 // Whether every transition agrees. Only those from the first use of p or q to the last are looked at.
 pub fn transitions_agree(setting: &Setting<'_>, frames: Frames, p: u8, q: u8) -> bool
     requires scannable { ScannableIn setting.now frames }
-    ensures { result ≡ transitions_agree (arrays_in setting.now frames) setting.now.transitions.now setting.now.count p q }
+    ensures { result ≡ transitions_agree_in setting.now frames p q }
 {
     let from = entry(setting.lows, p).min(entry(setting.lows, q));
     let to = entry(setting.lasts, p).max(entry(setting.lasts, q));

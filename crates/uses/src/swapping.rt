@@ -1,17 +1,15 @@
 // A transition with another state for one of its arguments: what its output is, and whether it is still the same.
 ghost use Rattle.std.specs.Prelude.{◌&&◌, cond, not, ◌≡◌, ◌*◌, ◌+◌, ◌-◌, ◌<◌, ◌^◌, ◌≤◌, eqb};
 ghost use Rattle.sorted.specs.Steps.{step_at};
-ghost use Rattle.fields.specs.Fields.{HoldsTransitionsOver};
 ghost use Rattle.format.specs.Format.{max_arity, transition_bytes};
-ghost use Rattle.packed.specs.Packed.{Searchable, meta_at, packed_at};
+ghost use Rattle.packed.specs.Packed.{meta_at, packed_at};
 ghost use Rattle.table.specs.Layout.{arg_of, arity_of};
-ghost use Rattle.uses.specs.Uses.{Scannable, arrays, place_agrees, swap_agrees};
-ghost use Rattle.uses.specs.Settings.{OverStates, ScannableIn, SearchableIn, arrays_in};
+ghost use Rattle.uses.specs.Settings.{swap_agrees_in, place_agrees_in, ScannableIn};
 
 use crate::covering::is_covered;
 use crate::setting::{Frames, Setting};
 use fields::{arg_of, out_of};
-use format::{BYTE_VALUES, MAX_ARITY, MAX_NODES, TRANSITION_BYTES, wide};
+use format::{TRANSITION_BYTES, wide};
 use packed::{at_place, seek};
 
 // Packed arguments with y for x at place k.
@@ -69,21 +67,14 @@ fn swap_agrees(
     requires meta_value { meta ≡ meta_at setting.now.transitions.now (transition_bytes * i) }
     requires args_value { args ≡ packed_at setting.now.transitions.now (transition_bytes * i) }
     requires x_value { x ≡ arg_of setting.now.transitions.now (transition_bytes * i) k }
-    ensures { result ≡ swap_agrees (arrays_in setting.now frames) setting.now.transitions.now setting.now.count (transition_bytes * i) k y }
+    ensures { result ≡ swap_agrees_in setting.now frames (transition_bytes * i) k y }
 {
     let out = swapped_out(setting, meta, args, i, k, x, y);
     let at = TRANSITION_BYTES * i;
     if out == out_of(setting.transitions, at) {
         return true;
     }
-    is_covered(
-        setting.transitions,
-        at,
-        k,
-        setting.subtrees,
-        setting.weights,
-        frames,
-    )
+    is_covered(setting, at, k, frames)
 }
 
 // Whether an argument is neither of two states.
@@ -120,7 +111,7 @@ pub fn place_agrees(
     requires k_bound { k < arity_of setting.now.transitions.now (transition_bytes * i) }
     requires meta_value { meta ≡ meta_at setting.now.transitions.now (transition_bytes * i) }
     requires args_value { args ≡ packed_at setting.now.transitions.now (transition_bytes * i) }
-    ensures { result ≡ place_agrees (arrays_in setting.now frames) setting.now.transitions.now setting.now.count (transition_bytes * i) p q k }
+    ensures { result ≡ place_agrees_in setting.now frames (transition_bytes * i) p q k }
 {
     let arg = arg_of(setting.transitions, TRANSITION_BYTES * i, k);
     if is_neither(arg, p, q) {

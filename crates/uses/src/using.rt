@@ -3,23 +3,20 @@
 ghost use Rattle.std.specs.Prelude.{IfSome, List, true, ◌≡◌, ◌*◌, ◌-◌, ◌<◌, ◌^◌, ◌≤◌, ℕ};
 ghost use Rattle.automata.specs.Alike.{frames_of, uses_agree};
 ghost use Rattle.automata.specs.Automaton.{Automaton, run};
-ghost use Rattle.fields.specs.Fields.{HoldsTransitionsOver};
 ghost use Rattle.format.specs.Format.{max_arity, transition_bytes};
 ghost use Rattle.packed.specs.Packed.{Searchable, meta_at, packed_at};
 ghost use Rattle.packed.specs.Slots.{SlotTakes};
-ghost use Rattle.subtrees.specs.Parents.{ParentsWithin};
 ghost use Rattle.subtrees.specs.Store.{tree_numbered};
 ghost use Rattle.table.specs.Layout.{arg_of, arity_of, out_of};
 ghost use Rattle.trees.specs.Tree.{Tree};
-ghost use Rattle.uses.specs.Frames.{Nodes};
-ghost use Rattle.uses.specs.Uses.{Holds, Scannable, SlotUsed, arrays};
-ghost use Rattle.uses.specs.Settings.{AreNodes, HoldsIn, OverStates, ParentsFrom, ScannableIn, arrays_of, frames_of_one};
+ghost use Rattle.uses.specs.Uses.{SlotUsed};
+ghost use Rattle.uses.specs.Settings.{ScannableIn, ParentsFrom, HoldsIn, arrays_of, frames_of_one};
 
 use crate::covering::is_covered;
 use crate::setting::{Frames, Setting};
 use crate::spans::entry;
 use fields::{arg_of, arity_of, out_of};
-use format::{BYTE_VALUES, MAX_ARITY, MAX_NODES, TRANSITION_BYTES, wide};
+use format::{TRANSITION_BYTES, wide};
 use packed::{Slot, args_at, at_place, meta_at};
 
 // The slot of transition i without its argument k, which is p.
@@ -66,11 +63,9 @@ fn place_slot(
         return None;
     }
     if is_covered(
-        setting.transitions,
+        setting,
         at,
         k,
-        setting.subtrees,
-        setting.weights,
         Frames {
             first: j,
             second: 0,

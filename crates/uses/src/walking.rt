@@ -3,18 +3,16 @@
 // nothing.
 ghost use Rattle.std.specs.Prelude.{IfSome, true, ◌≡◌, ◌*◌, ◌+◌, ◌-◌, ◌<◌, ◌^◌, ◌≤◌, ℕ, length};
 ghost use Rattle.format.specs.Format.{max_arity, transition_bytes};
-ghost use Rattle.packed.specs.Packed.{Searchable, packed_at};
+ghost use Rattle.packed.specs.Packed.{packed_at};
 ghost use Rattle.table.specs.Layout.{arity_of};
-ghost use Rattle.uses.specs.Spans.{UsesWithin};
-ghost use Rattle.uses.specs.Uses.{Scannable, arrays, covered_at, transitions_agree};
-ghost use Rattle.uses.specs.Walks.{AtUse, NextUse, Paired, Stepped, Walkable, Walked};
-ghost use Rattle.uses.specs.Settings.{ScannableIn, UsesBounded, arrays_in};
+ghost use Rattle.uses.specs.Walks.{AtUse, NextUse, Paired, Stepped, Walkable};
+ghost use Rattle.uses.specs.Settings.{covered_in, transitions_agree_in, WalkedIn, ScannableIn, arrays_in};
 
 use crate::covering::is_covered;
 use crate::setting::{Frames, Setting};
 use crate::spans::entry;
 use fields::{arity_of, out_of};
-use format::{ARGS_AT, BYTE_VALUES, MAX_ARITY, MAX_NODES, TRANSITION_BYTES, wide};
+use format::{ARGS_AT, TRANSITION_BYTES, wide};
 use packed::{args_at, at_place, meta_at};
 
 // The first transition from an index on that has p as argument k; `to` if there is none before it.
@@ -73,20 +71,13 @@ fn use_covered(setting: &Setting<'_>, frames: Frames, k: usize, to: usize, i: us
     requires to_le_count { to ≤ setting.now.count }
     requires k_bound { i < to → k < arity_of setting.now.transitions.now (transition_bytes * i) }
     ensures i_lt_to { result ≡ true → i < to }
-    ensures k_value { result ≡ true → covered_at (arrays_in setting.now frames) setting.now.transitions.now
+    ensures k_value { result ≡ true → covered_in setting.now frames
         (transition_bytes * i) k ≡ true }
 {
     if i >= to {
         return false;
     }
-    is_covered(
-        setting.transitions,
-        TRANSITION_BYTES * i,
-        k,
-        setting.subtrees,
-        setting.weights,
-        frames,
-    )
+    is_covered(setting, TRANSITION_BYTES * i, k, frames)
 }
 
 // One step of the walk: past two uses that are a pair, else past one whose slot is covered. None if it can pass
@@ -105,7 +96,8 @@ fn step(
     requires walkable { Walkable setting.now.transitions.now setting.now.count setting.now.n k p q to }
     requires at_use { AtUse setting.now.transitions.now k p to i }
     requires at_use_2 { AtUse setting.now.transitions.now k q to x }
-    ensures { IfSome result (Stepped (arrays_in setting.now frames) setting.now.transitions.now setting.now.count k p q to i x) }
+    ensures { IfSome result (Stepped (arrays_in setting.now frames)
+        setting.now.transitions.now setting.now.count k p q to i x) }
 {
     if pair_agrees(setting, k, p, q, to, i, x) {
         return Some((i + 1, x + 1));
@@ -132,8 +124,8 @@ fn place_agrees_in_step(
     requires scannable { ScannableIn setting.now frames }
     requires walkable { Walkable setting.now.transitions.now setting.now.count setting.now.n k p q to }
     requires from_le_to { from ≤ to }
-    requires walked { Walked (arrays_in setting.now frames) setting.now.transitions.now setting.now.count k p q from from }
-    ensures { result ≡ true → Walked (arrays_in setting.now frames) setting.now.transitions.now setting.now.count k p q to to }
+    requires walked { WalkedIn setting.now frames k p q from from }
+    ensures { result ≡ true → WalkedIn setting.now frames k p q to to }
 {
     let mut i = next_with(setting.transitions, k, p, from, to);
     let mut x = next_with(setting.transitions, k, q, from, to);
@@ -164,7 +156,7 @@ fn width(setting: &Setting<'_>, to: usize) -> usize
 // or q is 0, because 0 stands at each place beyond the arguments.
 pub fn walk_agrees(setting: &Setting<'_>, frames: Frames, p: u8, q: u8) -> bool
     requires scannable { ScannableIn setting.now frames }
-    ensures { result ≡ true → transitions_agree (arrays_in setting.now frames) setting.now.transitions.now setting.now.count p q ≡ true }
+    ensures { result ≡ true → transitions_agree_in setting.now frames p q ≡ true }
 {
     if p == 0 {
         return false;

@@ -19,7 +19,6 @@ pub is_covered-requires : goal.is_covered-requires
 is_covered-requires c = record {
   readable = readable c.requires.scannable.over.runs c.args.i
       c.requires.i_lt_count;
-  nodes = c.requires.scannable.nodes;
   k_bound = c.requires.k_bound;
   parents_within = c.requires.scannable.first;
   parents_within_2 = c.requires.scannable.second;

@@ -13,7 +13,6 @@ is_covered-requires c =
     let h = c.if-i-to.false in
     record {
       readable = readable c.requires.scannable.over.runs c.args.i (omega (arith, c.requires.to_le_count));
-      nodes = c.requires.scannable.nodes;
       k_bound = c.requires.k_bound (omega arith);
       parents_within = c.requires.scannable.first;
       parents_within_2 = c.requires.scannable.second;
