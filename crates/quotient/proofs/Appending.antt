@@ -8,7 +8,9 @@ use lib.ListN.{length, length-append, length-set, set, take}
 use lib.Seq.{take-suc-set}
 use Rattle.automata.specs.Product.{fst, snd}
 use Rattle.lists.specs.Positions.{Pair}
+use Rattle.quotient.specs.Entries.{AppendedTo, RoomFor, SameArrays}
 use Rattle.quotient.specs.Making.{Appended, Room}
+use Rattle.quotient.specs.declared.entries.Entries.{Entries}
 
 pub appended-none : {h a : List ℕ} {n : ℕ} → Appended h a n [] h a n
 appended-none {h} {a} {n} = record {
@@ -64,33 +66,33 @@ appended-room X R l = record {
 }
 
 -- all entries are those made and `rest`, those left
-pub record Making (h a : List ℕ) (n : ℕ) (all rest : List Pair) (h' a' : List ℕ) (n' : ℕ) : Type 0 where
+pub record Making (l : Entries) (all rest : List Pair) (l' : Entries) : Type 0 where
   pub done : List Pair
-  pub appended : Appended h a n done h' a' n'
+  pub appended : AppendedTo l done l'
+  pub same : SameArrays l l'
   pub left : done ++ rest ≡ all
 
-module _ {h a : List ℕ} {n : ℕ} {all : List Pair} where
-  pub making-start : {rest : List Pair} → rest ≡ all → Making h a n all rest h a n
-  making-start e = record { done = []; appended = appended-none; left = e }
+module _ {l : Entries} {all : List Pair} where
+  pub making-start : {rest : List Pair} → rest ≡ all → Making l all rest l
+  making-start e = record { done = []; appended = appended-none; same = (refl, refl); left = e }
 
-  pub making-next : {rest ps : List Pair} (rest' : List Pair) {h' a' h'' a'' : List ℕ} {n' n'' : ℕ} →
-      Making h a n all rest h' a' n' → rest ≡ ps ++ rest' → Appended h' a' n' ps h'' a'' n'' →
-      Making h a n all rest' h'' a'' n''
-  making-next {rest} {ps} rest' M e X = record {
+  pub making-next : {rest ps : List Pair} (rest' : List Pair) {l' l'' : Entries} → Making l all rest l' →
+      rest ≡ ps ++ rest' → AppendedTo l' ps l'' → SameArrays l' l'' → Making l all rest' l''
+  making-next {rest} {ps} rest' M e X s = record {
     done = M.done ++ ps;
     appended = appended_then M.appended X;
-    left = append_assoc M.done ps rest' ∙ ap (λ (l : List Pair). M.done ++ l) (sym e) ∙ M.left;
+    same = (s.0 ∙ M.same.0, s.1 ∙ M.same.1);
+    left = append_assoc M.done ps rest' ∙ ap (λ (ps : List Pair). M.done ++ ps) (sym e) ∙ M.left;
   }
 
-  pub making-end : {rest : List Pair} {h' a' : List ℕ} {n' : ℕ} → Making h a n all rest h' a' n' → rest ≡ [] →
-      Appended h a n all h' a' n'
-  making-end {rest} {h'} {a'} {n'} M e =
-      subst (λ (l : List Pair). Appended h a n l h' a' n')
-      (sym (append-nil M.done) ∙ ap (λ (l : List Pair). M.done ++ l) (sym e) ∙ M.left) M.appended
+  pub making-end : {rest : List Pair} {l' : Entries} → Making l all rest l' → rest ≡ [] → AppendedTo l all l'
+  making-end {rest} {l'} M e =
+      subst (λ (ps : List Pair). AppendedTo l ps l')
+      (sym (append-nil M.done) ∙ ap (λ (ps : List Pair). M.done ++ ps) (sym e) ∙ M.left) M.appended
 
   -- there is room for the next entries
-  pub making-room : {rest : List Pair} (ps rest' : List Pair) {h' a' : List ℕ} {n' : ℕ} →
-      Making h a n all rest h' a' n' → rest ≡ ps ++ rest' → Room h a (n + length all) → Room h' a' (n' + length ps)
+  pub making-room : {rest : List Pair} (ps rest' : List Pair) {l' : Entries} → Making l all rest l' →
+      rest ≡ ps ++ rest' → RoomFor l (length all) → RoomFor l' (length ps)
   making-room {rest} ps rest' M e R =
       appended-room M.appended R
       (omega (

@@ -6,7 +6,7 @@ use Prim.Native.Nat.{◌*◌, ◌+◌, ◌-◌, ◌<◌, ◌≤◌, ℕ}
 use native.Mathlib.Nat.{sub-zero}
 use native.Mathlib.Omega.{arith}
 use lib.Dec.{eqb, ltb}
-use lib.ListN.{get_or-eq_default, get_or, length, length-append, length-map}
+use lib.ListN.{get_or-eq_default, get_or, length, length-append, length-map, take}
 use borrow.Author.Tests.{ltb-false, ltb-true}
 use Rattle.automata.specs.Automaton.{Automaton, IsState, Transition}
 use Rattle.automata.specs.Product.{concat_map, fst, snd}
@@ -226,10 +226,10 @@ module _ {A : Automaton} {t : Tree} {ν : Tree → ℕ} {s : List ℕ} {count n 
       ∙ ap length (all-link R bytes) ∙ length-map (quotient_list A t (bottom_up t) ν) entry_for
 
 -- the arrays hold the transitions whose entries were put into them
-pub entries-held : {h a h' a' : List ℕ} {k : ℕ} {ps : List Pair} (W : List Transition) → ps ≡ map entry_for W →
-    Appended h a 0 ps h' a' k → HoldsEntries h' a' k W
-entries-held {h} {a} {h'} {a'} {k} {ps} W e X = record {
-  size = omega (arith, X.count, ap length e, length-map W entry_for);
-  heads = X.heads ∙ ap (map fst) e ∙ map-map fst entry_for W;
-  args = X.args ∙ ap (map snd) e ∙ map-map snd entry_for W;
+pub entries-held : {h a h' a' : List ℕ} {n k : ℕ} {ps : List Pair} (W : List Transition) → n ≡ 0 → ps ≡ map entry_for W →
+    Appended h a n ps h' a' k → HoldsEntries h' a' k W
+entries-held {h} {a} {h'} {a'} {n} {k} {ps} W z e X = record {
+  size = omega (arith, X.count, z, ap length e, length-map W entry_for);
+  heads = X.heads ∙ ap (λ (j : ℕ). take j h ++ map fst ps) z ∙ ap (map fst) e ∙ map-map fst entry_for W;
+  args = X.args ∙ ap (λ (j : ℕ). take j a ++ map snd ps) z ∙ ap (map snd) e ∙ map-map snd entry_for W;
 }

@@ -58,7 +58,8 @@ module _ (g : Names) (s : List ℕ) (at : ℕ) where
       x ≡ entry g.kept.now.firsts (arg_of s at k) → x ≡ 0 → choices_at g s at ≡ []
   unfolding chosen_from
   choose-none k x h e z =
-      walk_none (names_of g.kept.now.firsts g.kept.now.nexts) g.named.now.n (finished_in g s at) (args_from s at 0) (arg_of s at k)
+      walk_none (names_of g.kept.now.firsts g.kept.now.nexts) g.named.now.n (finished_in g s at) (args_from s at 0)
+      (arg_of s at k)
       (in-tabulated (arg_of s at) 0 (arity_of s at - 0) k (omega arith) (omega arith))
       (chain-end g.kept.now.nexts g.rises (entry g.kept.now.firsts (arg_of s at k)) (sym e ∙ z)) true 0
 
@@ -77,7 +78,8 @@ module _ (g : Names) (s : List ℕ) (at : ℕ) where
 
   pub firsts-next : {none only own : Bool} {prefix k : ℕ} (x : ℕ) → FirstNames none only own prefix k →
       k < arity_of s at → x ≡ entry g.kept.now.firsts (arg_of s at k) → x < byte_values →
-      FirstNames (none || eqb x 0) (only && eqb (entry g.kept.now.nexts x) 0) (own && ltb g.named.now.n x) (with_name prefix x) (k + 1)
+      FirstNames (none || eqb x 0) (only && eqb (entry g.kept.now.nexts x) 0) (own && ltb g.named.now.n x)
+      (with_name prefix x) (k + 1)
   firsts-next {none} {only} {own} {prefix} {k} x F h e l = record {
     within = omega arith;
     below = digit-below k prefix x F.below l;

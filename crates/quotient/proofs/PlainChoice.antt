@@ -34,7 +34,8 @@ module _ (g : Names) (s : List ℕ) (at : ℕ) where
       (subst (λ (x : ℕ). FirstNames g s at none only own x k') d
       (subst (λ (x : ℕ). FirstNames g s at none only own p x) e F))))
 
-  module _ (plain : (k : ℕ) → k < arity_of s at → Plain g.named.now.n g.kept.now.firsts g.kept.now.nexts (arg_of s at k))
+  module _ (plain : (k : ℕ) → k < arity_of s at →
+      Plain g.named.now.n g.kept.now.firsts g.kept.now.nexts (arg_of s at k))
       (bytes : (k : ℕ) → k < arity_of s at → arg_of s at k < byte_values) where
     plain-firsts : (k : ℕ) → k ≤ arity_of s at →
         FirstNames g s at false true (eqb k 0) (digits (arg_of s at) 0 k 0) k
@@ -44,7 +45,8 @@ module _ (g : Names) (s : List ℕ) (at : ℕ) where
         let p = plain k (omega arith) in
         same (ne_eqb q 0 (omega (arith, p.some))) (eq-eqb _ 0 p.last)
         (ap (λ (b : Bool). eqb k 0 && b) (le-ltb g.named.now.n q p.state) ∙ and-false (eqb k 0)
-        ∙ sym (ne_eqb (suc k) 0 (omega arith))) (digit-after (arg_of s at) k ∙ ap (λ (j : ℕ). digits (arg_of s at) 0 j 0) (add-one k)) (add-one k)
+        ∙ sym (ne_eqb (suc k) 0 (omega arith)))
+        (digit-after (arg_of s at) k ∙ ap (λ (j : ℕ). digits (arg_of s at) 0 j 0) (add-one k)) (add-one k)
         (firsts-next g s at q (plain-firsts k (omega arith)) (omega arith) (sym p.first)
         (bytes k (omega arith)))
 

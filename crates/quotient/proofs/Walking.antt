@@ -38,11 +38,13 @@ chain-less {nexts} x R h l = less-left x (entry nexts x) (R.above x) h l
 -- ---- all choices
 
 module _ (g : Names) (s : List ℕ) (at k : ℕ) where
+  -- the entries of all choices for a list of states
+  abbrev walk_in : List ℕ → Bool → ℕ → List Pair
+  walk_in = walk (names_of g.kept.now.firsts g.kept.now.nexts) g.named.now.n (finished_in g s at)
+
   -- the entries over a name at place k
   abbrev with_next : Bool → ℕ → ℕ → List Pair
-  with_next own prefix x =
-      walk (names_of g.kept.now.firsts g.kept.now.nexts) g.named.now.n (finished_in g s at) (args_from s at (k + 1)) (own && ltb g.named.now.n x)
-      (with_name prefix x)
+  with_next own prefix x = walk_in (args_from s at (k + 1)) (own && ltb g.named.now.n x) (with_name prefix x)
 
   -- the entries over the names from x on in the chain
   unfoldable pub chosen_left : Bool → ℕ → ℕ → List Pair
@@ -52,16 +54,14 @@ module _ (g : Names) (s : List ℕ) (at k : ℕ) where
       choices_from g s at k own prefix ≡ finished_in g s at own prefix
   unfolding chosen_from
   chosen_last own prefix e =
-      ap (λ (ks : List ℕ). walk (names_of g.kept.now.firsts g.kept.now.nexts) g.named.now.n (finished_in g s at) (map (arg_of s at) ks) own
-      prefix) (up_from-none k (arity_of s at) (omega arith))
+      ap (λ (ks : List ℕ). walk_in (map (arg_of s at) ks) own prefix) (up_from-none k (arity_of s at) (omega arith))
 
   pub chosen-first : (own : Bool) (prefix x : ℕ) → k < arity_of s at → x ≡ entry g.kept.now.firsts (arg_of s at k) →
       chosen_left own prefix x ≡ choices_from g s at k own prefix
   unfolding chosen_from chosen_left
   chosen-first own prefix x h e =
       ap (chosen_left own prefix) e
-      ∙ sym (ap (λ (ks : List ℕ). walk (names_of g.kept.now.firsts g.kept.now.nexts) g.named.now.n (finished_in g s at) (map (arg_of s at) ks)
-      own prefix) (up_from-next k (arity_of s at) h))
+      ∙ sym (ap (λ (ks : List ℕ). walk_in (map (arg_of s at) ks) own prefix) (up_from-next k (arity_of s at) h))
 
   pub chosen-next : (own : Bool) (prefix x y : ℕ) → 1 ≤ x → y ≡ entry g.kept.now.nexts x →
       chosen_left own prefix x ≡

@@ -2,6 +2,7 @@ pub mod Kept
 pub mod Rising
 pub mod Nodes
 pub mod Making
+pub mod Entries
 pub mod Setting
 pub mod Named
 pub mod Choosing

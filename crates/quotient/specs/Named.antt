@@ -4,7 +4,7 @@ use Rattle.format.specs.Format.{transition_bytes}
 use Rattle.lists.specs.Positions.{Pair, up_from}
 use Rattle.quotient.specs.Kept.{OddMarked}
 use Rattle.quotient.specs.Making.{chosen_from, chosen_in, finished, new_entry, new_in}
-use Rattle.quotient.specs.Nodes.{gone_at, new_at, named_by}
+use Rattle.quotient.specs.Nodes.{children_own_at, gone_at, new_at, named_by}
 use Rattle.quotient.specs.Setting.{Changed, Chosen, FewChosen}
 use Rattle.quotient.specs.declared.named.KeptNames.{KeptNames}
 use Rattle.quotient.specs.declared.named.NamedSubtrees.{NamedSubtrees}
@@ -20,6 +20,10 @@ adds g = new_at g.n g.subtrees.now.arities g.subtrees.now.children g.subtrees.no
 
 abbrev pub takes_away : NamedSubtrees → ℕ → Bool
 takes_away g = gone_at g.n g.subtrees.now.arities g.subtrees.now.children g.subtrees.now.states g.names.now
+
+-- the children of the subtree at index j all have their own names
+abbrev pub has_own_children : NamedSubtrees → ℕ → Bool
+has_own_children g = children_own_at g.n g.subtrees.now.arities g.subtrees.now.children g.names.now
 
 -- the arrays hold the automaton A with the subtrees of t and their names by ν, and o marks the open states
 abbrev pub ChangedIn : Automaton → Tree → (Tree → ℕ) → List ℕ → ℕ → List ℕ → NamedSubtrees → Type 0

@@ -3,39 +3,38 @@ ghost use Rattle.std.specs.Prelude.{◌*◌, ◌+◌, ◌<◌, ◌^◌, ◌≤�
 ghost use Rattle.fields.specs.Fields.{Readable};
 ghost use Rattle.table.specs.Layout.{arity_of};
 ghost use Rattle.quotient.specs.Choosing.{ChoicesOf};
-ghost use Rattle.quotient.specs.Making.{Appended, Room};
+ghost use Rattle.quotient.specs.Entries.{AppendedTo, RoomFor, SameArrays};
 ghost use Rattle.quotient.specs.Named.{choices_at, choices_from};
 
+use crate::entries::Entries;
 use crate::finishing::{Choice, finish};
 use crate::named::Names;
 use fields::{arg_of, arity_of};
 use pairs::index;
 
-// Appends the entries of all choices for the places from k on, after the names chosen for those before it. Like all
-// functions here it returns how many entries there are then.
+// Appends the entries of all choices for the places from k on, after the names chosen for those before it.
 fn choose(
     transitions: &[u8],
     at: usize,
     k: usize,
     names: &Names<'_>,
     choice: Choice,
-    heads: &mut [u64],
-    args: &mut [u64],
-    count: usize,
-) -> usize
+    entries: &mut Entries<'_>,
+)
     requires readable { Readable transitions.now at }
     requires k_bound { k ≤ arity_of transitions.now at }
     requires prefix_bound { choice.prefix < 2 ^ (8 * k) }
-    requires room { Room heads.old args.old (count + length (choices_from names.now transitions.now at k choice.own
+    requires room { RoomFor entries.old (length (choices_from names.now transitions.now at k choice.own
         choice.prefix)) }
-    ensures { Appended heads.old args.old count (choices_from names.now transitions.now at k choice.own choice.prefix)
-        heads.new args.new result }
+    ensures same_arrays { SameArrays entries.old entries.new }
+    ensures appended { AppendedTo entries.old (choices_from names.now transitions.now at k choice.own choice.prefix)
+        entries.new }
 {
     let arity = arity_of(transitions, at);
     if k == arity {
-        return finish(transitions, at, names, choice, heads, args, count);
+        finish(transitions, at, names, choice, entries);
+        return;
     }
-    let mut made = count;
     let mut x = index(names.kept.firsts[arg_of(transitions, at, k)]);
     while x != 0 {
         let longer = Choice {
@@ -43,14 +42,13 @@ fn choose(
             prefix: 256 * choice.prefix + x as u64,
         };
         // the last place does without one more call for each name
-        made = if k + 1 == arity {
-            finish(transitions, at, names, longer, heads, args, made)
+        if k + 1 == arity {
+            finish(transitions, at, names, longer, entries);
         } else {
-            choose(transitions, at, k + 1, names, longer, heads, args, made)
-        };
+            choose(transitions, at, k + 1, names, longer, entries);
+        }
         x = index(names.kept.nexts[x]);
     }
-    made
 }
 
 // How many choices of names there are for the arguments of a transition. `None`: some argument has no name. `One`:
@@ -90,27 +88,21 @@ fn choices_of(transitions: &[u8], at: usize, names: &Names<'_>) -> Choices
 
 // Appends the entries of all choices. Most transitions have one choice or none, and these do without the recursion.
 // If an argument has no name, the recursion would go through all choices for the places before it.
-pub fn choose_names(
-    transitions: &[u8],
-    at: usize,
-    names: &Names<'_>,
-    heads: &mut [u64],
-    args: &mut [u64],
-    count: usize,
-) -> usize
+pub fn choose_names(transitions: &[u8], at: usize, names: &Names<'_>, entries: &mut Entries<'_>)
     requires readable { Readable transitions.now at }
-    requires room { Room heads.old args.old (count + length (choices_at names.now transitions.now at)) }
-    ensures { Appended heads.old args.old count (choices_at names.now transitions.now at) heads.new args.new result }
+    requires room { RoomFor entries.old (length (choices_at names.now transitions.now at)) }
+    ensures same_arrays { SameArrays entries.old entries.new }
+    ensures appended { AppendedTo entries.old (choices_at names.now transitions.now at) entries.new }
 {
     match choices_of(transitions, at, names) {
-        Choices::None => count,
-        Choices::One(choice) => finish(transitions, at, names, choice, heads, args, count),
+        Choices::None => {}
+        Choices::One(choice) => finish(transitions, at, names, choice, entries),
         Choices::Several => {
             let start = Choice {
                 own: true,
                 prefix: 0,
             };
-            choose(transitions, at, 0, names, start, heads, args, count)
+            choose(transitions, at, 0, names, start, entries)
         }
     }
 }

@@ -2,10 +2,10 @@
 ghost use Rattle.std.specs.Prelude.{◌*◌, ◌+◌, ◌<◌, ◌^◌, length};
 ghost use Rattle.fields.specs.Fields.{Readable};
 ghost use Rattle.table.specs.Layout.{arity_of};
-ghost use Rattle.quotient.specs.Making.{Appended, Room};
+ghost use Rattle.quotient.specs.Entries.{AppendedTo, RoomFor, SameArrays};
 ghost use Rattle.quotient.specs.Named.{finished_in};
 
-use crate::entries::emit;
+use crate::entries::Entries;
 use crate::named::Names;
 use crate::nodes::node_name;
 use fields::{arity_of, out_of};
@@ -26,16 +26,15 @@ pub fn finish(
     at: usize,
     names: &Names<'_>,
     choice: Choice,
-    heads: &mut [u64],
-    args: &mut [u64],
-    count: usize,
-) -> usize
+    entries: &mut Entries<'_>,
+)
     requires readable { Readable transitions.now at }
     requires prefix_bound { choice.prefix < 2 ^ (8 * arity_of transitions.now at) }
-    requires room { Room heads.old args.old (count + length (finished_in names.now transitions.now at choice.own
+    requires room { RoomFor entries.old (length (finished_in names.now transitions.now at choice.own
         choice.prefix)) }
-    ensures { Appended heads.old args.old count (finished_in names.now transitions.now at choice.own choice.prefix)
-        heads.new args.new result }
+    ensures same_arrays { SameArrays entries.old entries.new }
+    ensures appended { AppendedTo entries.old (finished_in names.now transitions.now at choice.own choice.prefix)
+        entries.new }
 {
     let meta = meta_at(transitions, at);
     let key = padded(choice.prefix, arity_of(transitions, at));
@@ -45,5 +44,5 @@ pub fn finish(
     } else {
         out
     };
-    emit(heads, args, count, meta, key, name)
+    entries.emit(meta, key, name);
 }

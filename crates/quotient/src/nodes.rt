@@ -3,8 +3,8 @@
 ghost use Rattle.std.specs.Prelude.{◌≡◌, ◌*◌, ◌+◌, ◌-◌, ◌<◌, ◌^◌, ◌≤◌, ℕ, eqb, get_or, length};
 ghost use Rattle.format.specs.Format.{byte_values, max_nodes};
 ghost use Rattle.pairs.specs.Counts.{entry};
-ghost use Rattle.quotient.specs.Named.{adds, named_in, takes_away};
-ghost use Rattle.quotient.specs.Nodes.{EachNode, children_own_at, digit_of, key_of, meta_of};
+ghost use Rattle.quotient.specs.Named.{adds, has_own_children, named_in, takes_away};
+ghost use Rattle.quotient.specs.Nodes.{EachNode, digit_of, key_of, meta_of};
 
 use crate::named::{NamedSubtrees, Names};
 use format::{MAX_ARITY, MAX_NODES, wide, widened};
@@ -84,8 +84,7 @@ fn has_own(named: &NamedSubtrees<'_>, child: u8) -> bool
 // Whether the children of the subtree at index j all have their own names.
 fn children_own(named: &NamedSubtrees<'_>, j: usize) -> bool
     requires { j < named.now.subtrees.now.count }
-    ensures { result ≡ children_own_at named.now.n named.now.subtrees.now.arities named.now.subtrees.now.children
-        named.now.names.now j }
+    ensures { result ≡ has_own_children named.now j }
 {
     let arity = wide(named.subtrees.arities[j]);
     for k in 0..arity {

@@ -7,11 +7,11 @@ ghost use Rattle.lists.specs.Tests.{any};
 ghost use Rattle.marking.specs.Marks.{marked};
 ghost use Rattle.packed.specs.Packed.{Padded};
 ghost use Rattle.table.specs.Layout.{arity_of, transition_at};
-ghost use Rattle.quotient.specs.Making.{Appended, Room};
+ghost use Rattle.quotient.specs.Entries.{AppendedTo, RoomFor, SameArrays};
 ghost use Rattle.quotient.specs.Named.{OddIn, choices_at};
 
 use crate::choosing::choose_names;
-use crate::entries::emit;
+use crate::entries::Entries;
 use crate::named::Names;
 use fields::{arity_of, out_of};
 use format::BYTE_VALUES;
@@ -66,26 +66,19 @@ pub fn choose_at(
     at: usize,
     names: &Names<'_>,
     odd: &[u8; BYTE_VALUES],
-    heads: &mut [u64],
-    args: &mut [u64],
-    count: usize,
-) -> usize
+    entries: &mut Entries<'_>,
+)
     requires readable { Readable transitions.now at }
     requires padded { Padded transitions.now at }
     requires odd_marked { OddIn names.now odd.now }
-    requires room { Room heads.old args.old (count + length (choices_at names.now transitions.now at)) }
-    ensures { Appended heads.old args.old count (choices_at names.now transitions.now at) heads.new args.new result }
+    requires room { RoomFor entries.old (length (choices_at names.now transitions.now at)) }
+    ensures same_arrays { SameArrays entries.old entries.new }
+    ensures appended { AppendedTo entries.old (choices_at names.now transitions.now at) entries.new }
 {
     if is_plain(transitions, at, odd) {
         let out = out_of(transitions, at) as u8;
-        return emit(
-            heads,
-            args,
-            count,
-            meta_at(transitions, at),
-            args_at(transitions, at),
-            out,
-        );
+        entries.emit(meta_at(transitions, at), args_at(transitions, at), out);
+        return;
     }
-    choose_names(transitions, at, names, heads, args, count)
+    choose_names(transitions, at, names, entries);
 }

@@ -16,15 +16,15 @@ use Rattle.quotient.proofs.choosing.+choose.Goals.{else-k-arity-2, then-k-arity-
 
 pub finish-requires-clause-room : goal.finish-requires-clause-room
 finish-requires-clause-room t c =
-    room-same c.args.count
+    room-same c.args.entries.now.count
     (chosen_last c.args.names.now c.args.transitions.now c.args.at c.args.k c.args.choice.own c.args.choice.prefix
     (c.if-k-arity.true ∙ c.arity_of-arity.ensures)) c.requires.room
 
-pub returns-then-k-arity : goal.returns-then-k-arity
-returns-then-k-arity t c =
+pub returns-then-k-arity-clause-appended : goal.returns-then-k-arity-clause-appended
+returns-then-k-arity-clause-appended t c =
     appended-same
     (sym (chosen_last c.args.names.now c.args.transitions.now c.args.at c.args.k c.args.choice.own c.args.choice.prefix
-    (c.if-k-arity.true ∙ c.arity_of-arity.ensures))) c.finish.ensures
+    (c.if-k-arity.true ∙ c.arity_of-arity.ensures))) c.finish.ensures.appended
 
 pub loop-x-init : goal.loop-x-init
 loop-x-init t c = (
@@ -63,14 +63,14 @@ overflow_add-longer t c =
           )) c.requires.prefix_bound c.loop-x.invariant.1,
     )
 
-pub finish-made-requires-clause-prefix_bound : goal.finish-made-requires-clause-prefix_bound
-finish-made-requires-clause-prefix_bound t c =
+pub finish-requires-then-k-arity-2-clause-prefix_bound : goal.finish-requires-then-k-arity-2-clause-prefix_bound
+finish-requires-then-k-arity-2-clause-prefix_bound t c =
     subst (λ (j : ℕ). with_name c.args.choice.prefix c.loop-x.x < 2 ^ (8 * j))
     (c.if-k-arity-2.true ∙ c.arity_of-arity.ensures)
     (digit-below c.args.k c.args.choice.prefix c.loop-x.x c.requires.prefix_bound c.loop-x.invariant.1)
 
-pub finish-made-requires-clause-room : goal.finish-made-requires-clause-room
-finish-made-requires-clause-room t c =
+pub finish-requires-then-k-arity-2-clause-room : goal.finish-requires-then-k-arity-2-clause-room
+finish-requires-then-k-arity-2-clause-room t c =
     let g = c.args.names.now in
     let s = c.args.transitions.now in
     let at = c.args.at in
@@ -83,8 +83,8 @@ finish-made-requires-clause-room t c =
     (last-next g s at c.args.k own prefix x next (c.if-k-arity-2.true ∙ c.arity_of-arity.ensures)
     (omega (arith, c.loop-x-test.true)) refl) c.requires.room
 
-pub choose-made-requires : goal.choose-made-requires
-choose-made-requires t c =
+pub choose-requires : goal.choose-requires
+choose-requires t c =
     let g = c.args.names.now in
     let s = c.args.transitions.now in
     let at = c.args.at in
@@ -132,21 +132,22 @@ loop-x-preserved t c =
     let rest = chosen_left g s at c.args.k own prefix next in
     elim c.if-k-arity-2.branch [
       | then-k-arity-2 w ↦ (
-        rw (w.heads-is, w.args-is, w.made-is) (making-next rest c.loop-x.invariant.0
+        rw w.entries-is (making-next rest c.loop-x.invariant.0
             (last-next g s at c.args.k own prefix x next (w.if-k-arity-2.true ∙ c.arity_of-arity.ensures)
-            (omega (arith, c.loop-x-test.true)) c.index-x-in-loop-x.ensures.value) w.finish-made.ensures),
+            (omega (arith, c.loop-x-test.true)) c.index-x-in-loop-x.ensures.value)
+            w.finish-then-k-arity-2.ensures.appended w.finish-then-k-arity-2.ensures.same_arrays),
         c.index-x-in-loop-x.ensures.upper_bound,
       )
       | else-k-arity-2 w ↦ (
-        rw (w.heads-is, w.args-is, w.made-is) (making-next rest c.loop-x.invariant.0
+        rw w.entries-is (making-next rest c.loop-x.invariant.0
             (chosen-next g s at c.args.k own prefix x next (omega (arith, c.loop-x-test.true))
-            c.index-x-in-loop-x.ensures.value) w.choose-made.ensures),
+            c.index-x-in-loop-x.ensures.value) w.choose.ensures.appended w.choose.ensures.same_arrays),
         c.index-x-in-loop-x.ensures.upper_bound,
       )
     ]
 
-pub returns : goal.returns
-returns t c =
+pub returns-clause-appended : goal.returns-clause-appended
+returns-clause-appended t c =
     making-end c.loop-x.invariant.0
     (chosen-end c.args.names.now c.args.transitions.now c.args.at c.args.k c.args.choice.own c.args.choice.prefix
     c.loop-x.x (omega (arith, c.loop-x-test.false)))

@@ -12,10 +12,8 @@ decreases-choose l = 8 - l.k
 
 abbrev pub invariant-loop-x : goal.invariant-loop-x
 invariant-loop-x l =
-    Making l.initial.heads l.initial.args l.count
-    (choices_from l.names l.transitions l.at l.k l.choice.own l.choice.prefix)
-    (chosen_left l.names l.transitions l.at l.k l.choice.own l.choice.prefix l.x) l.heads l.args l.made ×
-    (l.x < byte_values)
+    Making l.initial.entries (choices_from l.names l.transitions l.at l.k l.choice.own l.choice.prefix)
+    (chosen_left l.names l.transitions l.at l.k l.choice.own l.choice.prefix l.x) l.entries × (l.x < byte_values)
 
 abbrev pub decreases-loop-x : goal.decreases-loop-x
 decreases-loop-x l = chain_left l.x

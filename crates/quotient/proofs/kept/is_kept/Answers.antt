@@ -10,7 +10,8 @@ use Rattle.quotient.proofs.kept.is_kept.Goals as goal
 
 pub returns-then-x-candidates : goal.returns-then-x-candidates
 returns-then-x-candidates c =
-    rw (le-leb c.args.x c.args.candidates.now.n c.if-x-candidates.true) (unequal-nonzero (get_or c.args.candidates.now.opens.now c.args.x 0))
+    rw (le-leb c.args.x c.args.candidates.now.n c.if-x-candidates.true)
+    (unequal-nonzero (get_or c.args.candidates.now.opens.now c.args.x 0))
 
 pub returns : goal.returns
 returns c =

@@ -4,4 +4,5 @@ use Rattle.quotient.proofs.kept.put_first.Goals as goal
 
 pub returns : goal.returns
 returns c =
-    put-first-is c.requires.firsts_len c.requires.nexts_len c.requires.sizes_len c.requires.q_lt_byte_values c.requires.x_lt_byte_values
+    put-first-is c.requires.firsts_len c.requires.nexts_len c.requires.sizes_len
+    c.requires.q_lt_byte_values c.requires.x_lt_byte_values

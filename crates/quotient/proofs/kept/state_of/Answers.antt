@@ -4,7 +4,10 @@ use native.Mathlib.Omega.{arith}
 use Rattle.quotient.proofs.kept.state_of.Goals as goal
 
 pub returns-then-x-candidates : goal.returns-then-x-candidates
-returns-then-x-candidates c = record { value = rw (le-leb c.args.x c.args.candidates.now.n c.if-x-candidates.true); upper_bound = omega arith }
+returns-then-x-candidates c = record {
+  value = rw (le-leb c.args.x c.args.candidates.now.n c.if-x-candidates.true);
+  upper_bound = omega arith;
+}
 
 pub returns : goal.returns
 returns c = record {

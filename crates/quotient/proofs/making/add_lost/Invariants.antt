@@ -7,6 +7,6 @@ use Rattle.quotient.proofs.making.add_lost.Given as goal
 
 abbrev pub invariant-loop-j : goal.invariant-loop-j
 invariant-loop-j l =
-    Making l.initial.heads l.initial.args l.count (added_in l.names)
-    (left_from (added_at l.names) l.names.named.now.subtrees.now.count l.j) l.heads l.args l.made ×
+    Making l.initial.entries (added_in l.names)
+    (left_from (added_at l.names) l.names.named.now.subtrees.now.count l.j) l.entries ×
     (l.j ≤ l.names.named.now.subtrees.now.count)

@@ -8,8 +8,8 @@ use Rattle.quotient.proofs.Appending.{appended-none, appended-same, room-same}
 use Rattle.quotient.proofs.Walking.{entry_new, entry-none}
 use Rattle.quotient.proofs.making.add_new.Goals as goal
 
-pub returns-then-not-is_new : goal.returns-then-not-is_new
-returns-then-not-is_new c =
+pub returns-then-not-is_new-clause-appended : goal.returns-then-not-is_new-clause-appended
+returns-then-not-is_new-clause-appended c =
     appended-same (sym (entry-none c.args.names.now c.args.j (sym c.is_new.ensures ∙ c.if-not-is_new.true)))
     appended-none
 
@@ -24,10 +24,9 @@ overflow_mul-names c =
 
 pub overflow_add-names : goal.overflow_add-names
 overflow_add-names c =
-    let index-call = c.index-name in
     omega (
       arith,
-      index-call.ensures.upper_bound,
+      c.index-name.ensures.upper_bound,
       c.args.names.now.each_meta.each c.args.j c.requires.j_lt_m,
       c.args.names.now.named.now.nodes.label c.args.j c.requires.j_lt_m,
       c.args.names.now.named.now.nodes.narrow c.args.j c.requires.j_lt_m,
@@ -35,14 +34,13 @@ overflow_add-names c =
 
 pub push-requires : goal.push-requires
 push-requires c =
-    let is-new-call = c.is_new in
-    let if1 = c.if-not-is_new in
-    room-same c.args.count (entry_new c.args.names.now c.args.j (sym is-new-call.ensures ∙ if1.false)) c.requires.room
+    room-same c.args.entries.now.count
+    (entry_new c.args.names.now c.args.j (sym c.is_new.ensures ∙ c.if-not-is_new.false)) c.requires.room
 
-pub returns : goal.returns
-returns c =
-    let is-new-call = c.is_new in
-    let if1 = c.if-not-is_new in
-    let index-call = c.index-name in
-    appended-same (ap (λ (x : ℕ). (256 * get_or c.args.names.now.metas.now c.args.j 0 + x, get_or c.args.names.now.keys.now c.args.j 0) ∷ [])
-    index-call.ensures.value ∙ sym (entry_new c.args.names.now c.args.j (sym is-new-call.ensures ∙ if1.false))) c.push.ensures
+pub returns-clause-appended : goal.returns-clause-appended
+returns-clause-appended c =
+    let g = c.args.names.now in
+    let j = c.args.j in
+    appended-same
+    (ap (λ (x : ℕ). (256 * get_or g.metas.now j 0 + x, get_or g.keys.now j 0) ∷ []) c.index-name.ensures.value
+    ∙ sym (entry_new g j (sym c.is_new.ensures ∙ c.if-not-is_new.false))) c.push.ensures.appended

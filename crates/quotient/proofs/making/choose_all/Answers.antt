@@ -14,8 +14,8 @@ loop-i-init c = (
   refl,
 )
 
-pub choose_at-made-requires : goal.choose_at-made-requires
-choose_at-made-requires c =
+pub choose_at-requires : goal.choose_at-requires
+choose_at-requires c =
     let loop = c.loop-i in
     let nth = nth_choices c.args.names.now c.args.transitions.now in
     record {
@@ -33,15 +33,15 @@ note_end-requires c =
     let room = making-room (nth loop.i) (left_from nth c.args.count (loop.i + 1)) loop.invariant.0
     (left-next nth c.args.count loop.i (omega (arith, c.loop-i-test.true)))
     c.requires.room in
-    omega (arith, room.few, room.within, c.choose_at-made.ensures.count)
+    omega (arith, room.few, room.within, c.choose_at.ensures.appended.count)
 
 pub loop-i-preserved : goal.loop-i-preserved
 loop-i-preserved c =
     let loop = c.loop-i in
     let nth = nth_choices c.args.names.now c.args.transitions.now in (
       making-next (left_from nth c.args.count (loop.i + 1)) loop.invariant.0
-          (left-next nth c.args.count loop.i (omega (arith, c.loop-i-test.true)))
-          c.choose_at-made.ensures,
+          (left-next nth c.args.count loop.i (omega (arith, c.loop-i-test.true))) c.choose_at.ensures.appended
+          c.choose_at.ensures.same_arrays,
       omega (arith, c.loop-i-test.true),
       omega (arith, c.note_end.auto, loop.invariant.2),
     )
@@ -49,7 +49,7 @@ loop-i-preserved c =
 pub shape_of-ends : goal.shape_of-ends
 shape_of-ends c = c.loop-i.invariant.2
 
-pub returns : goal.returns
-returns c =
+pub returns-clause-appended : goal.returns-clause-appended
+returns-clause-appended c =
     let nth = nth_choices c.args.names.now c.args.transitions.now in
     making-end c.loop-i.invariant.0 (left_end nth c.args.count c.loop-i.i (omega arith))

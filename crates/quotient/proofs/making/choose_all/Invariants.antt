@@ -9,6 +9,6 @@ use Rattle.quotient.proofs.making.choose_all.Given as goal
 
 abbrev pub invariant-loop-i : goal.invariant-loop-i
 invariant-loop-i l =
-    Making l.initial.heads l.initial.args 0 (choices_in l.names l.transitions l.count)
-    (left_from (nth_choices l.names l.transitions) l.count l.i) l.heads l.args l.made × (l.i ≤ l.count) ×
+    Making l.initial.entries (choices_in l.names l.transitions l.count)
+    (left_from (nth_choices l.names l.transitions) l.count l.i) l.entries × (l.i ≤ l.count) ×
     (length l.ends ≡ length l.initial.ends)

@@ -9,11 +9,12 @@ use Rattle.quotient.proofs.PlainChoice.{odd-start}
 use Rattle.quotient.proofs.plain.mark_odd.Goals as goal
 
 pub loop-q-init : goal.loop-q-init
-loop-q-init c = (
-  omega arith,
-  subst (λ (l : List ℕ). length l ≡ byte_values) (sym c.requires) (length-replicate {A = ℕ} byte_values 1),
-  subst (OddIn c.args.names.now) (sym c.requires) (odd-start c.args.names.now.named.now.n c.args.names.now.kept.now.firsts c.args.names.now.kept.now.nexts),
-)
+loop-q-init c =
+    let g = c.args.names.now in (
+      omega arith,
+      subst (λ (l : List ℕ). length l ≡ byte_values) (sym c.requires) (length-replicate {A = ℕ} byte_values 1),
+      subst (OddIn g) (sym c.requires) (odd-start g.named.now.n g.kept.now.firsts g.kept.now.nexts),
+    )
 
 pub unmark-requires : goal.unmark-requires
 unmark-requires c =

@@ -1,14 +1,15 @@
--- `quotient::making::make` meets its contract: the entries are those of the transitions between names, and there is
+-- `quotient::making::add_all` meets its contract: the entries are those of the transitions between names, and there is
 -- room for them.
 use Rattle.std.proofs.Common.{rules}
 use native.Mathlib.Omega.{arith}
+use mathlib.Core.Path.{◌∙◌}
 use Rattle.automata.specs.Quotient.{quotient_list}
 use Rattle.subtrees.specs.Store.{bottom_up}
 use Rattle.quotient.proofs.Appending.{appended-room, appended_then}
 use Rattle.quotient.proofs.Linking.{all-length, all-link, entries-held}
 use Rattle.quotient.specs.Nodes.{EachNode, key_of, meta_of}
-use Rattle.quotient.proofs.making.make.Goals as goal
-use Rattle.quotient.proofs.making.make.Goals.{After-number_each-2}
+use Rattle.quotient.proofs.making.add_all.Goals as goal
+use Rattle.quotient.proofs.making.add_all.Goals.{After-number_each-2}
 
 -- the subtrees have their two numbers
 numbers-made : (c : After-number_each-2) →
@@ -31,9 +32,9 @@ invariant_of-names c =
       each_key = numbers.1;
     }
 
-pub choose_all-made-requires : goal.choose_all-made-requires
-choose_all-made-requires c =
-    let numbers = numbers-made (goal.at.choose_all-made-requires c).After-number_each-2 in
+pub choose_all-requires : goal.choose_all-requires
+choose_all-requires c =
+    let numbers = numbers-made (goal.at.choose_all-requires c).After-number_each-2 in
     record {
       holds_padded = c.requires.holds_padded;
       odd_marked = c.mark_odd.ensures;
@@ -52,7 +53,7 @@ choose_all-made-requires c =
 pub add_lost-requires : goal.add_lost-requires
 add_lost-requires c =
     let numbers = numbers-made (goal.at.add_lost-requires c).After-number_each-2 in
-    let made = c.choose_all-made.ensures in
+    let made = c.choose_all.ensures.appended in
     appended-room made c.requires.room (omega (
       arith,
       made.count,
@@ -64,16 +65,22 @@ add_lost-requires c =
 pub returns : goal.returns
 returns c =
     let numbers = numbers-made (goal.at.returns c).After-number_each-2 in
-    let choose-all-call = c.choose_all-made in
-    let all = appended_then choose-all-call.ensures c.add_lost.ensures in
+    let all = appended_then c.choose_all.ensures.appended c.add_lost.ensures.appended in
+    let chosen = c.choose_all.ensures.same_arrays in
+    let added = c.add_lost.ensures.same_arrays in
     record {
+      same_arrays = (added.0 ∙ chosen.0, added.1 ∙ chosen.1);
       room_2 = appended-room all c.requires.room (omega (
         arith,
-        choose-all-call.ensures.count,
-        c.add_lost.ensures.count,
+        c.requires.none,
+        c.choose_all.ensures.appended.count,
+        c.add_lost.ensures.appended.count,
         all-length c.requires.few_chosen.4 numbers.0 numbers.1 c.requires.holds_padded.runs
             (λ i. omega (arith, c.type_inv.transitions i)),
         c.requires.few_chosen.5,
       ));
-      holds_entries = λ A t ν o C. entries-held (quotient_list A t (bottom_up t) ν) (all-link C numbers.0 numbers.1 c.requires.holds_padded.runs (λ i. omega (arith, c.type_inv.transitions i))) all;
+      holds_entries = λ A t ν o C.
+          entries-held (quotient_list A t (bottom_up t) ν) c.requires.none
+          (all-link C numbers.0 numbers.1 c.requires.holds_padded.runs (λ i. omega (arith, c.type_inv.transitions i)))
+          all;
     }
