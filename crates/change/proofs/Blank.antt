@@ -1,5 +1,5 @@
 -- A table that passed intake is 0 after its transitions.
-use Rattle.subtrees.specs.Store.{Subtrees}
+use Rattle.subtrees.specs.declared.Subtrees.{Subtrees}
 use mathlib.Core.Bool.{Bool, false, true}
 use mathlib.Core.List.{List}
 use mathlib.Core.Path.{◌∙◌, ◌≡◌, ap, refl, sym}

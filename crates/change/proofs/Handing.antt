@@ -18,7 +18,8 @@ use Rattle.naming.specs.Choice.{name_in}
 use Rattle.quotient.specs.Kept.{KeptAbove}
 use Rattle.quotient.specs.Nodes.{Nodes}
 use Rattle.quotient.specs.Setting.{Changed, Chosen}
-use Rattle.subtrees.specs.Store.{Subtrees, bottom_up, child_at}
+use Rattle.subtrees.specs.Store.{bottom_up, child_at}
+use Rattle.subtrees.specs.declared.Subtrees.{Subtrees}
 use Rattle.table.specs.Intake.{fits_table}
 use Rattle.table.specs.Layout.{decode, encode}
 use Rattle.trees.specs.Tree.{Tree, eq_tree, no_tree}

@@ -14,7 +14,8 @@ use Rattle.fields.specs.Fields.{InTable, HoldsTransitionsOver}
 use Rattle.format.specs.Format.{AllBytes, head_bytes, max_states, table_bytes}
 use Rattle.lists.specs.Tests.{Exactly, ◌∈◌}
 use Rattle.pairs.specs.Counts.{Setting}
-use Rattle.subtrees.specs.Store.{Lists, Subtrees, bottom_up}
+use Rattle.subtrees.specs.Store.{Lists, bottom_up}
+use Rattle.subtrees.specs.declared.Subtrees.{Subtrees}
 use Rattle.table.specs.Intake.{table_refusal}
 use Rattle.table.specs.Layout.{body, decode, layout_fits, state_count, transition_count, transitions_in}
 use Rattle.trees.specs.Listing.{listing_conditions, listing_refusal, read_tree}

@@ -2,19 +2,21 @@
 use mathlib.Core.Bool.{Bool, cond, true}
 use mathlib.Core.List.{List}
 use mathlib.Core.Path.{◌∙◌, ◌≡◌, ap, subst, sym}
-use Prim.Native.Nat.{◌*◌, ◌<◌, ℕ}
+use Prim.Native.Nat.{◌*◌, ◌+◌, ◌<◌, ℕ}
 use native.Mathlib.Omega.{arith}
-use Rattle.alike.specs.Known.{Holds, Shaped}
+use Rattle.alike.specs.Known.{Holds}
+use Rattle.uses.specs.Frames.{Shaped}
 use Rattle.automata.specs.Automaton.{Automaton, Transition, accepts}
 use Rattle.automata.specs.NamedChange.{changed_set}
 use Rattle.automata.specs.Order.{rising}
 use Rattle.change.specs.Given.{Given}
-use Rattle.format.specs.Format.{head_bytes, transition_bytes}
+use Rattle.format.specs.Format.{AllBytes, head_bytes, transition_bytes}
 use Rattle.naming.specs.Classes.{Changed, Classed, ClassesIn, Rooted}
-use Rattle.naming.specs.Known.{Known, Sized}
+use Rattle.naming.specs.Known.{Known}
 use Rattle.packed.specs.Packed.{Padded, Searchable}
 use Rattle.pairs.specs.Counts.{PairsCounted}
-use Rattle.subtrees.specs.Store.{Subtrees, bottom_up}
+use Rattle.subtrees.specs.Store.{bottom_up}
+use Rattle.subtrees.specs.declared.Subtrees.{Subtrees}
 use Rattle.table.specs.Layout.{decode}
 use Rattle.trees.specs.Tree.{Tree}
 use Rattle.change.proofs.Inputs.{given-few, given-fits, given-layout, given-over, given-setting, given-size}
@@ -22,7 +24,8 @@ use Rattle.change.proofs.Inputs.{given-states}
 use Rattle.change.proofs.NameClasses.{chosen}
 use Rattle.automata.proofs.NamedChange.{changed-agree}
 use Rattle.fields.proofs.Transitions.{part_body}
-use Rattle.lists.proofs.Parts.{part}
+use Rattle.lists.proofs.Parts.{part, part-drop}
+use lib.Seq.{get_or-drop}
 use Rattle.table.proofs.Decoded.{decoded-class, decoded-states}
 use Rattle.table.proofs.Laid.{layout-laid}
 use Rattle.trees.proofs.Trees.{eq_tree-same}
@@ -41,23 +44,16 @@ module _ {t : Tree} {b : List ℕ} {k n : ℕ} {r : Subtrees} (g : Given t b k n
     rises = subst (λ (τs : List Transition). rising τs ≡ true) (given-setting g).transitions (given-setting g).rises;
   }
 
-  given-shaped : Shaped r.count r.arities r.children
+  -- the transitions are bytes of the table
+  pub given-bytes : AllBytes (part b head_bytes)
+  given-bytes i = rw (part-drop b head_bytes, get_or-drop head_bytes b i 0) (g.bytes (head_bytes + i))
+
+  pub given-shaped : Shaped r.count r.arities r.children
   given-shaped = record {
     few = g.lists.few;
     narrow = g.lists.stored.narrow;
     child-some = g.lists.stored.child-some;
     child-before = g.lists.stored.child-before;
-  }
-
-  pub given-sized : {lows lasts : List ℕ} → UsesWithin (part b head_bytes) k lows lasts →
-      Sized b (part b head_bytes) k n r.count r.arities r.children lows lasts
-  given-sized within = record {
-    table = given-size g;
-    searchable = given-searchable;
-    over = given-over g;
-    states = given-few g;
-    shaped = given-shaped;
-    uses = within;
   }
 
   pub given-held : Holds (decode b) t (bottom_up t) r.count r.labels r.arities r.children r.states

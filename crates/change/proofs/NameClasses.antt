@@ -12,7 +12,8 @@ use Rattle.automata.specs.NamedChange.{changed_set, name_class}
 use Rattle.change.specs.Classes.{class_of_name}
 use Rattle.change.specs.Given.{Given}
 use Rattle.naming.specs.Classes.{class_in}
-use Rattle.subtrees.specs.Store.{Subtrees, bottom_up, tree_numbered}
+use Rattle.subtrees.specs.Store.{bottom_up, tree_numbered}
+use Rattle.subtrees.specs.declared.Subtrees.{Subtrees}
 use Rattle.table.specs.Layout.{decode, state_count}
 use Rattle.trees.specs.Tree.{Tree, eq_tree}
 use Rattle.automata.proofs.Distinguishable.{run_fits}

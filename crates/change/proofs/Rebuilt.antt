@@ -1,5 +1,5 @@
 -- The new table, by guessed numbers or through the scratch.
-use Rattle.subtrees.specs.Store.{Subtrees}
+use Rattle.subtrees.specs.declared.Subtrees.{Subtrees}
 use mathlib.Core.Bool.{Bool, cond, false}
 use mathlib.Core.List.{List}
 use mathlib.Core.Path.{◌∙◌, ◌≡◌, ap, refl, subst, sym}

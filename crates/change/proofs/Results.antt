@@ -15,7 +15,8 @@ use Rattle.change.specs.Given.{Fitting, Named}
 use Rattle.lists.specs.Positions.{up_from}
 use Rattle.lists.specs.Tests.{◌∈◌, filter}
 use Rattle.naming.specs.Choice.{name_in}
-use Rattle.subtrees.specs.Store.{Subtrees, bottom_up}
+use Rattle.subtrees.specs.Store.{bottom_up}
+use Rattle.subtrees.specs.declared.Subtrees.{Subtrees}
 use Rattle.table.specs.Layout.{class_at, decode}
 use Rattle.trees.specs.Legal.{LegalNode}
 use Rattle.trees.specs.Tree.{Tree, eq_tree}

@@ -19,7 +19,8 @@ use Rattle.packed.specs.Heads.{HoldsPacked, head_arity, head_out, nth_packed, pa
 use Rattle.packed.specs.Heads.{place_of}
 use Rattle.naming.specs.Choice.{name_in}
 use Rattle.numbering.specs.Tables.{EntryAt, RunPut}
-use Rattle.subtrees.specs.Store.{Subtrees, bottom_up}
+use Rattle.subtrees.specs.Store.{bottom_up}
+use Rattle.subtrees.specs.declared.Subtrees.{Subtrees}
 use Rattle.table.specs.Layout.{arg_of, decode, nth_transition, transition_at, transitions_in}
 use Rattle.trees.specs.Tree.{Tree}
 use Rattle.change.proofs.Inputs.{given-few}

@@ -19,7 +19,8 @@ use Rattle.lists.specs.Positions.{up_from}
 use Rattle.lists.specs.Tests.{filter}
 use Rattle.naming.specs.Choice.{name_in}
 use Rattle.quotient.specs.Setting.{kept_count, kept_lengths}
-use Rattle.subtrees.specs.Store.{Subtrees, bottom_up}
+use Rattle.subtrees.specs.Store.{bottom_up}
+use Rattle.subtrees.specs.declared.Subtrees.{Subtrees}
 use Rattle.table.specs.Layout.{decode}
 use Rattle.trees.specs.Tree.{Tree}
 use Rattle.automata.proofs.NamedChange.{searched-states, searched-transitions}

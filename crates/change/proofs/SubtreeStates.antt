@@ -12,7 +12,8 @@ use Rattle.automata.specs.OpenStates.{at_state, subtrees_at}
 use Rattle.lists.specs.Positions.{up_from}
 use Rattle.lists.specs.Tests.{◌∈◌, bit, filter}
 use Rattle.pairs.specs.Counts.{entries_with, entry}
-use Rattle.subtrees.specs.Store.{Lists, Subtrees, bottom_up}
+use Rattle.subtrees.specs.Store.{Lists, bottom_up}
+use Rattle.subtrees.specs.declared.Subtrees.{Subtrees}
 use Rattle.trees.specs.Tree.{Tree, no_tree}
 use Rattle.automata.proofs.SubtreeNodes.{at-distinct, at_in, in-at}
 use borrow.Author.Tests.{eq-eqb, eqb-true}

@@ -8,8 +8,11 @@ use Rattle.automata.specs.Searched.{Searched}
 use Rattle.format.specs.Format.{AllBytes, max_states}
 use Rattle.naming.specs.Choice.{name_in}
 use Rattle.pairs.specs.Counts.{Open}
-use Rattle.quotient.specs.Kept.{Chained}
-use Rattle.subtrees.specs.Store.{Lists, Subtrees, bottom_up}
+use Rattle.quotient.specs.declared.named.KeptNames.{KeptNames}
+use Rattle.quotient.specs.declared.named.NamedSubtrees.{NamedSubtrees}
+use Rattle.quotient.specs.Kept.{Chained, KeptAbove}
+use Rattle.subtrees.specs.Store.{Lists, bottom_up}
+use Rattle.subtrees.specs.declared.Subtrees.{Subtrees}
 use Rattle.table.specs.Intake.{fits_table, table_refusal}
 use Rattle.table.specs.Layout.{decode, state_count, transition_count}
 use Rattle.trees.specs.Legal.{Legal}
@@ -63,3 +66,28 @@ abbrev pub SomeFitting : List ℕ → ℕ → ℕ → Subtrees → List ℕ → 
 SomeFitting b k n r names firsts nexts limit =
     (inserting : Bool) × (t : Tree) × (o : List ℕ) × (cl : List ℕ) ×
     Fitting inserting t b k n r o names firsts nexts cl × (length (between_names t b names) ≤ limit)
+
+-- ---- the same, said of what is lent
+
+-- the table passed intake and has k transitions, and the subtrees of t have names
+abbrev pub GivenIn : Tree → List ℕ → ℕ → NamedSubtrees → Type 0
+GivenIn t b k g = Given t b k g.n g.subtrees.now
+
+abbrev pub SomeGivenIn : List ℕ → ℕ → NamedSubtrees → Type 0
+SomeGivenIn b k g = SomeGiven b k g.n g.subtrees.now
+
+abbrev pub NamedIn : Bool → Tree → List ℕ → ℕ → List ℕ → NamedSubtrees → Type 0
+NamedIn inserting t b k o g = Named inserting t b k g.n g.subtrees.now o g.names.now
+
+-- `sizes` has how many names of each state are kept
+abbrev pub KeptOf : List ℕ → List ℕ → List ℕ → List ℕ → NamedSubtrees → Type 0
+KeptOf o firsts nexts sizes g =
+    KeptAbove g.n g.subtrees.now.count o g.subtrees.now.states g.names.now 0 firsts nexts sizes
+
+abbrev pub FittingIn : Bool → Tree → List ℕ → ℕ → List ℕ → List ℕ → NamedSubtrees → KeptNames → Type 0
+FittingIn inserting t b k o cl g kept =
+    Fitting inserting t b k g.n g.subtrees.now o g.names.now kept.firsts kept.nexts cl
+
+abbrev pub SomeFittingIn : List ℕ → ℕ → NamedSubtrees → KeptNames → ℕ → Type 0
+SomeFittingIn b k g kept limit =
+    SomeFitting b k g.n g.subtrees.now g.names.now kept.firsts kept.nexts limit

@@ -2,3 +2,4 @@ pub mod Classes
 pub mod Changing
 pub mod Given
 pub mod Between
+pub mod Sizes

@@ -1,25 +1,33 @@
-// The arrays that a change works in. Each is made by a function of its own, so that no other proof computes with so
-// many numbers.
+// The arrays that a change works in.
 use format::MAX_TRANSITIONS;
 
 // The length of small arrays. Most changes need no more, and clearing a longer array takes time.
 pub const SMALL: usize = 64;
 
-// An array for entries, all 0.
-pub fn no_entries() -> [u64; MAX_TRANSITIONS] {
-    [0u64; MAX_TRANSITIONS]
+// The length of large arrays, enough for every table.
+pub const LARGE: usize = MAX_TRANSITIONS;
+
+// The transitions between names as two numbers each, room for sorting them and for a heap, links between them, and how
+// many are made after each transition of the table.
+#[derive(Drop)]
+pub struct Arrays<const N: usize> {
+    pub heads: [u64; N],
+    pub args: [u64; N],
+    pub room: [u64; N],
+    pub spare: [u64; N],
+    pub next: [u16; N],
+    pub ends: [u16; N],
 }
 
-// An array for links, all 0.
-pub fn no_links() -> [u16; MAX_TRANSITIONS] {
-    [0u16; MAX_TRANSITIONS]
-}
-
-// The same two of length `SMALL`.
-pub fn few_entries() -> [u64; SMALL] {
-    [0u64; SMALL]
-}
-
-pub fn few_links() -> [u16; SMALL] {
-    [0u16; SMALL]
+impl<const N: usize> Arrays<N> {
+    pub fn new() -> Self {
+        Arrays {
+            heads: [0; N],
+            args: [0; N],
+            room: [0; N],
+            spare: [0; N],
+            next: [0; N],
+            ends: [0; N],
+        }
+    }
 }

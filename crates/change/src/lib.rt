@@ -9,12 +9,11 @@ mod fallback; // the new table by a plain search, as a last resort
 mod fitting; // whether a table has room
 mod rebuilding; // the new table
 
-ghost use Rattle.std.specs.Prelude.{true, ◌≡◌, length, replicate};
+ghost use Rattle.std.specs.Prelude.{true, ◌≡◌, length};
 ghost use Rattle.calls.specs.declared.Answer.TheVariants.{Done};
 ghost use Rattle.format.specs.Format.{scratch_bytes, table_bytes};
 ghost use Rattle.pairs.specs.Counts.{PairsCounted};
 ghost use Rattle.running.specs.Running.{HoldsStates};
-ghost use Rattle.subtrees.specs.Store.{arrays};
 ghost use Rattle.table.specs.Intake.{table_refusal};
 ghost use Rattle.table.specs.Layout.{decode, state_count, transition_count};
 ghost use Rattle.trees.specs.Listing.{listing_refusal, read_tree};
@@ -25,68 +24,48 @@ ghost use Rattle.change.specs.Given.{Given, Named, SomeGiven};
 use calls::Answer;
 use classes::classify_names;
 use fields::transition_count;
-use fitting::fit_of;
-use format::{BYTE_VALUES, HEAD_BYTES, MAX_NODES, wide};
+use fitting::size_of;
+use format::{BYTE_VALUES, HEAD_BYTES, MAX_NODES, Refusal};
 use naming::{classify, name_all};
 use pairs::count_pairs;
-use quotient::keep;
+use quotient::{Candidates, KeptNames, NamedSubtrees, keep};
 use rebuilding::replace;
-use subtrees::{CHILD_NUMBERS, collect};
-use uses::note_uses;
-
-// Zeroes every byte.
-fn clear(scratch: &mut [u8])
-    ensures { scratch.new ≡ replicate (length scratch.old) 0 }
-{
-    for i in 0..scratch.len() {
-        scratch[i] = 0;
-    }
-}
+use subtrees::{CHILD_NUMBERS, Subtrees, collect};
+use uses::{Setting, note_uses};
 
 // Fills in the names of the subtrees after the change.
 fn name(
     table: &[u8],
     count: usize,
     n: usize,
-    m: usize,
-    labels: &[u16; MAX_NODES],
-    arities: &[u8; MAX_NODES],
-    children: &[u8; CHILD_NUMBERS],
-    states: &[u8; MAX_NODES],
+    subtrees: &Subtrees,
     opens: &[u8; BYTE_VALUES],
     weights: &[u8; BYTE_VALUES],
     inserting: bool,
     names: &mut [u8; MAX_NODES],
 )
-    requires { SomeGiven table.now count n (arrays m labels.now arities.now children.now states.now) }
-    ensures { (t : Tree) → Given t table.now count n (arrays m labels.now
-        arities.now children.now states.now) →
+    requires { SomeGiven table.now count n subtrees.now }
+    ensures { (t : Tree) → Given t table.now count n subtrees.now →
         PairsCounted (decode table.now) t true opens.now weights.now →
-        Named inserting t table.now count n (arrays m labels.now arities.now
-        children.now states.now) opens.now names.new }
+        Named inserting t table.now count n subtrees.now opens.now names.new }
 {
+    let m = subtrees.count;
     let mut classes = [0u8; MAX_NODES];
-    classify(table, m, states, m, inserting, &mut classes);
+    classify(table, m, &subtrees.states, m, inserting, &mut classes);
     let mut lows = [0u16; BYTE_VALUES];
     let mut lasts = [0u16; BYTE_VALUES];
     note_uses(&table[HEAD_BYTES..], count, &mut lows, &mut lasts);
-    name_all(
-        table,
-        &table[HEAD_BYTES..],
+    let setting = Setting {
+        transitions: &table[HEAD_BYTES..],
         count,
         n,
-        m,
-        labels,
-        arities,
-        children,
-        states,
+        subtrees,
+        classes: &classes,
         weights,
-        &classes,
-        &lows,
-        &lasts,
-        opens,
-        names,
-    );
+        lows: &lows,
+        lasts: &lasts,
+    };
+    name_all(table, &setting, opens, names);
 }
 
 // The answer of a change that was done, from the new table.
@@ -94,7 +73,7 @@ fn done(table: &[u8]) -> Answer
     requires { length table.now ≡ table_bytes }
     ensures { result ≡ Done (state_count table.now) (transition_count table.now) }
 {
-    let states = wide(table[0]) as u16;
+    let states = u16::from(table[0]);
     let transitions = transition_count(table) as u16;
     Answer::Done {
         states: states,
@@ -108,54 +87,47 @@ fn apply(
     scratch: &mut [u8],
     count: usize,
     n: usize,
-    m: usize,
-    labels: &[u16; MAX_NODES],
-    arities: &[u8; MAX_NODES],
-    children: &[u8; CHILD_NUMBERS],
-    states: &[u8; MAX_NODES],
+    subtrees: &Subtrees,
     opens: &[u8; BYTE_VALUES],
     weights: &[u8; BYTE_VALUES],
     inserting: bool,
 ) -> Answer
-    requires some_given { SomeGiven table.old count n (arrays m labels.now arities.now children.now states.now) }
+    requires some_given { SomeGiven table.old count n subtrees.now }
     requires scratch_len { length scratch.old ≡ scratch_bytes }
-    requires pairs_counted { (t : Tree) → Given t table.old count n (arrays m labels.now arities.now children.now
-        states.now) →
+    requires pairs_counted { (t : Tree) → Given t table.old count n subtrees.now →
         PairsCounted (decode table.old) t true opens.now weights.now }
-    ensures { (t : Tree) → Given t table.old count n (arrays m labels.now
-        arities.now children.now states.now) →
+    ensures { (t : Tree) → Given t table.old count n subtrees.now →
         Worked (change_of inserting t) table.old table.new result }
 {
+    let m = subtrees.count;
     let mut names = [0u8; MAX_NODES];
     name(
-        table, count, n, m, labels, arities, children, states, opens, weights, inserting,
-        &mut names,
+        table, count, n, subtrees, opens, weights, inserting, &mut names,
     );
-    let mut firsts = [0u8; BYTE_VALUES];
-    let mut nexts = [0u8; BYTE_VALUES];
-    let mut sizes = [0u8; BYTE_VALUES];
-    keep(
+    let named = NamedSubtrees {
+        n,
+        subtrees,
+        names: &names,
+    };
+    let mut kept = KeptNames {
+        firsts: [0u8; BYTE_VALUES],
+        nexts: [0u8; BYTE_VALUES],
+        sizes: [0u8; BYTE_VALUES],
+    };
+    let candidates = Candidates {
         n,
         m,
         opens,
-        states,
-        &names,
-        &mut firsts,
-        &mut nexts,
-        &mut sizes,
-    );
-    let fit = fit_of(
-        table, count, n, m, labels, arities, children, states, &names, opens, &sizes,
-    );
-    if !fit.fits {
-        return Answer::Refused { number: 17 };
-    }
+        states: &subtrees.states,
+        names: &names,
+    };
+    keep(&candidates, &mut kept);
+    let Some(size) = size_of(table, count, &named, opens, &kept.sizes) else {
+        return Answer::from(Refusal::TableFull);
+    };
     let mut classes = [0u8; BYTE_VALUES];
-    classify_names(table, n, m, states, inserting, &mut classes);
-    replace(
-        table, scratch, count, n, m, labels, arities, children, states, &names, &firsts, &nexts,
-        &classes, fit.small,
-    );
+    classify_names(table, n, m, &subtrees.states, inserting, &mut classes);
+    replace(table, scratch, count, &named, &kept, &classes, size);
     done(table)
 }
 
@@ -175,35 +147,30 @@ fn work(
     ensures { Worked (change_of inserting (read_tree tree.now)) table.old
         table.new result }
 {
-    let n = wide(table[0]);
+    let n = usize::from(table[0]);
     let count = transition_count(table);
-    let mut labels = [0u16; MAX_NODES];
-    let mut arities = [0u8; MAX_NODES];
-    let mut children = [0u8; CHILD_NUMBERS];
-    let mut states = [0u8; MAX_NODES];
-    let m = collect(
-        tree,
-        reached,
-        &mut labels,
-        &mut arities,
-        &mut children,
-        &mut states,
-    );
+    let mut subtrees = Subtrees {
+        count: 0,
+        labels: [0u16; MAX_NODES],
+        arities: [0u8; MAX_NODES],
+        children: [0u8; CHILD_NUMBERS],
+        states: [0u8; MAX_NODES],
+    };
+    collect(tree, reached, &mut subtrees);
     let mut opens = [0u8; BYTE_VALUES];
     let mut weights = [0u8; BYTE_VALUES];
     if !count_pairs(
         &table[HEAD_BYTES..],
         count,
-        m,
-        &states,
+        subtrees.count,
+        &subtrees.states,
         &mut opens,
         &mut weights,
     ) {
-        return Answer::Refused { number: 16 };
+        return Answer::from(Refusal::LargeProduct);
     }
     apply(
-        table, scratch, count, n, m, &labels, &arities, &children, &states, &opens, &weights,
-        inserting,
+        table, scratch, count, n, &subtrees, &opens, &weights, inserting,
     )
 }
 
@@ -224,6 +191,6 @@ pub fn change(
         changed_outcome (change_of inserting (read_tree tree.now)) table.old scratch.old }
 {
     let answer = work(tree, reached, table, scratch, inserting);
-    clear(scratch);
+    scratch.fill(0);
     answer
 }

@@ -20,8 +20,8 @@ pub transition_count-count-requires : goal.transition_count-count-requires
 transition_count-count-requires c =
     passed-size c.args.table.now c.requires.table_value
 
-pub collect-m-requires : goal.collect-m-requires
-collect-m-requires c = record {
+pub collect-requires : goal.collect-requires
+collect-requires c = record {
   tree_value = c.requires.tree_value;
   held = (decode c.args.table.now, c.requires.holds_states);
   sized = record { labels = refl; arities = refl; children = refl; states = refl };
@@ -38,8 +38,8 @@ slice_bounds-count_pairs-start c =
 pub count_pairs-requires : goal.count_pairs-requires
 count_pairs-requires c =
     let g = given c.args.tree.now c.args.table.now c.requires.tree_value c.requires.table_value (search rules) (search rules)
-    c.transition_count-count.result c.wide-n.result c.transition_count-count.ensures.value
-    c.wide-n.ensures _ (c.collect-m.ensures (decode c.args.table.now) c.requires.holds_states) in
+    c.transition_count-count.result c.from-n.result c.transition_count-count.ensures.value
+    c.from-n.ensures _ (c.collect.ensures (decode c.args.table.now) c.requires.holds_states) in
     record {
       holds_transitions = (given-over g).runs;
       m_le_max_nodes = g.lists.few;
@@ -50,17 +50,17 @@ count_pairs-requires c =
 pub returns-then-not-count_pairs : goal.returns-then-not-count_pairs
 returns-then-not-count_pairs c =
     let g = given c.args.tree.now c.args.table.now c.requires.tree_value c.requires.table_value (search rules) (search rules)
-    c.transition_count-count.result c.wide-n.result c.transition_count-count.ensures.value
-    c.wide-n.ensures _ (c.collect-m.ensures (decode c.args.table.now) c.requires.holds_states) in
-    worked-16 c.args.inserting (read_tree c.args.tree.now) c.args.table.now
+    c.transition_count-count.result c.from-n.result c.transition_count-count.ensures.value
+    c.from-n.ensures _ (c.collect.ensures (decode c.args.table.now) c.requires.holds_states) in
+    rw c.from.ensures (worked-16 c.args.inserting (read_tree c.args.tree.now) c.args.table.now
     (c.count_pairs.ensures.pairs_counted (decode c.args.table.now) (read_tree c.args.tree.now)
-    (given-setting g) (states-counted g.lists)) c.if-not-count_pairs.true
+    (given-setting g) (states-counted g.lists)) c.if-not-count_pairs.true)
 
 pub apply-requires : goal.apply-requires
 apply-requires c =
     let g = given c.args.tree.now c.args.table.now c.requires.tree_value c.requires.table_value (search rules) (search rules)
-    c.transition_count-count.result c.wide-n.result c.transition_count-count.ensures.value
-    c.wide-n.ensures _ (c.collect-m.ensures (decode c.args.table.now) c.requires.holds_states) in
+    c.transition_count-count.result c.from-n.result c.transition_count-count.ensures.value
+    c.from-n.ensures _ (c.collect.ensures (decode c.args.table.now) c.requires.holds_states) in
     record {
       some_given = (read_tree c.args.tree.now, g);
       scratch_len = c.requires.scratch_len;
@@ -72,6 +72,6 @@ apply-requires c =
 pub returns : goal.returns
 returns c =
     let g = given c.args.tree.now c.args.table.now c.requires.tree_value c.requires.table_value (search rules) (search rules)
-    c.transition_count-count.result c.wide-n.result c.transition_count-count.ensures.value
-    c.wide-n.ensures _ (c.collect-m.ensures (decode c.args.table.now) c.requires.holds_states) in
+    c.transition_count-count.result c.from-n.result c.transition_count-count.ensures.value
+    c.from-n.ensures _ (c.collect.ensures (decode c.args.table.now) c.requires.holds_states) in
     c.apply.ensures (read_tree c.args.tree.now) g

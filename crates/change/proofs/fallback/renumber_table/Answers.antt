@@ -8,8 +8,8 @@ use Rattle.change.proofs.Rebuilt.{written}
 use borrow.Author.Rules.{rules}
 use Rattle.change.proofs.fallback.renumber_table.Goals as goal
 
-pub overflow_add-n : goal.overflow_add-n
-overflow_add-n c =
+pub overflow_add-named : goal.overflow_add-named
+overflow_add-named c =
     omega (arith, given-few c.requires.some_fitting.4.named.given, c.requires.some_fitting.4.named.given.lists.few)
 
 pub write-requires : goal.write-requires

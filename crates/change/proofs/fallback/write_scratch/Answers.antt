@@ -18,8 +18,12 @@ write_run-requires c =
     record {
       start_le_head_bytes = omega arith;
       count_in_bounds = omega (arith, P.holds.few, P.holds.room.few, c.requires.scratch_len);
-      holds_packed = P.holds;
     }
+
+pub invariant_of-transitions : goal.invariant_of-transitions
+invariant_of-transitions c =
+    let P = c.make_all-made.ensures c.requires.some_fitting.0 c.requires.some_fitting.1 c.requires.some_fitting.2 c.requires.some_fitting.3 c.requires.some_fitting.4 in
+    record { holds = P.holds }
 
 pub returns : goal.returns
 returns c =

@@ -3,8 +3,8 @@ use native.Mathlib.Omega.{arith}
 use Rattle.naming.specs.Choice.{name_in}
 use Rattle.subtrees.specs.Store.{bottom_up}
 use Rattle.table.specs.Layout.{decode}
-use Rattle.change.proofs.Handing.{given-nodes, named-arrays}
-use Rattle.change.proofs.Inputs.{given-few, given-over, given-size}
+use Rattle.change.proofs.Handing.{named-arrays}
+use Rattle.change.proofs.Inputs.{given-over, given-size}
 use Rattle.change.proofs.Sizes.{counts-fit}
 use Rattle.change.proofs.fitting.fits.Goals as goal
 
@@ -17,8 +17,6 @@ slice_bounds-table_fits-start c = omega (arith, given-size c.requires.some_given
 pub table_fits-requires : goal.table_fits-requires
 table_fits-requires c = record {
   holds_transitions = (given-over c.requires.some_given.1).runs;
-  n_le_max_states = given-few c.requires.some_given.1;
-  nodes = given-nodes c.requires.some_given.1;
   max_nodes_le_limit = c.requires.max_nodes_le_limit;
   limit_le_max_transitions = c.requires.limit_le_max_transitions;
 }
@@ -26,5 +24,5 @@ table_fits-requires c = record {
 pub returns : goal.returns
 returns c =
     λ inserting t firsts nexts N K. counts-fit N c.args.limit (c.table_fits.ensures
-    (decode c.args.table.now) t (name_in (bottom_up t) c.args.names.now) firsts nexts (named-arrays N)
+    (decode c.args.table.now) t (name_in (bottom_up t) c.args.named.now.names.now) firsts nexts (named-arrays N)
     K)

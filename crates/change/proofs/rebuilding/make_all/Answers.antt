@@ -25,7 +25,7 @@ make-requires c = record {
   few_chosen = (
     decode c.args.table.now,
     c.requires.some_fitting.1,
-    name_in (bottom_up c.requires.some_fitting.1) c.args.names.now,
+    name_in (bottom_up c.requires.some_fitting.1) c.args.named.now.names.now,
     c.requires.some_fitting.2,
     fitting-chosen c.requires.some_fitting.4,
     c.requires.some_fitting.5,
@@ -37,7 +37,7 @@ returns c =
     let make-call = c.make in
     let room = make-call.ensures.room_2 in
     λ inserting t o cl F.
-    let H = make-call.ensures.holds_entries (decode c.args.table.now) t (name_in (bottom_up t) c.args.names.now)
+    let H = make-call.ensures.holds_entries (decode c.args.table.now) t (name_in (bottom_up t) c.args.named.now.names.now)
     o (fitting-chosen F) in
     record {
       holds = entries-packed H (between-fit F.named) record { args = room.args-size; few = room.few }

@@ -6,7 +6,6 @@ pub rebuild_table-requires : goal.rebuild_table-requires
 rebuild_table-requires c = record {
   some_fitting = c.requires.some_fitting;
   some_fitting_2 = c.requires.some_fitting_2;
-  classes_len = c.requires.classes_len;
 }
 
 pub returns-then-rebuild_table : goal.returns-then-rebuild_table
