@@ -3,9 +3,7 @@ use mathlib.Core.List.{List, [], ◌++◌, ◌∷◌, append_assoc, append-nil}
 use mathlib.Core.Path.{◌∙◌, ◌≡◌, ap, refl, subst, sym}
 use Prim.Native.Nat.{◌*◌, ◌+◌, ◌-◌, ◌<◌, ◌^◌, ◌≤◌, ℕ}
 use native.Mathlib.Omega.{arith}
-use lib.IntN.{ℤ}
 use lib.ListN.{length, length-take, take}
-use Rattle.io.specs.Counts.{clamp_len}
 use Rattle.console.specs.Buffers.{Buffered, empty_scratch, empty_table, out_bytes, console}
 use Rattle.console.specs.Console.{Console, fed, held_bytes, start, written}
 use Rattle.console.specs.declared.Progress.{Progress}
@@ -14,55 +12,43 @@ use Rattle.console.proofs.Parts.{fed-written}
 use Rattle.bench.specs.Output.{Idle, Took, begun}
 use Rattle.bench.specs.Turns.{Brings, EachBrings, Met, MetAll, Moved, Read, ReadTurn, Turned, brought, chunk_bytes}
 use Rattle.bench.specs.Turns.{input_of}
-use Rattle.bench.specs.declared.output.Turn.{Turn}
-use Rattle.bench.specs.declared.output.Turn.TheVariants.{Ended, Failed, More}
+use Rattle.std.specs.declared.ops.ControlFlow.{ControlFlow}
+use Rattle.std.specs.declared.ops.ControlFlow.TheVariants.{Break, Continue}
+use Rattle.std.specs.Prelude.{Err, Ok, Result}
 use Rattle.bench.specs.declared.output.Written.{Written}
 use Rattle.bench.proofs.Taking.{start-size}
 
 -- ---- one read
 
-took-turned : (p : Progress) (x : Console) (s : List ℕ) (t : Turn) (l b w o : List ℕ) → 0 < length s →
-    Took p x s t l b w o → Turned p x s t l b w o
-unfolding Took Turned
-took-turned p x s (More r) l b w o h T = record { some = h; takes = T }
-took-turned p x s (Ended r) l b w o h T = absurd T
-took-turned p x s Failed l b w o h T = h
+pub brought-taken : (E : Type 0) (p : Progress) (x : Console) (c : List ℕ) (got : ℕ) (v : Written) (l b w o : List ℕ) →
+    Moved (length c) got → 0 < got → Took {E = E} p x (take got c) (Ok v) l b w o →
+    Turned {E = E} p x (brought got c) (Ok (Continue v)) l b w o
+unfolding Took Turned brought
+brought-taken E p x c got v l b w o h g T = record { some = omega (arith, start-size got c h); takes = T }
 
-module _ (z got : ℤ) (c : List ℕ) (n : ℕ) (same : z ≡ got) (e : n ≡ clamp_len z (length c)) where
-  count-brought : take n c ≡ brought got c
-  unfolding brought
-  count-brought = ap (λ (k : ℕ). take k c) e ∙ ap (λ (y : ℤ). take (clamp_len y (length c)) c) same
+pub brought-unwritten : {E : Type 0} (p : Progress) (x : Console) (c : List ℕ) (got : ℕ) (e : E) (l b w o : List ℕ) →
+    Took p x (take got c) (Err e) l b w o → Turned p x (brought got c) (Err e) l b w o
+unfolding Took Turned brought
+brought-unwritten p x c got e l b w o T = T
 
-  first-brought : take (n - 0) c ≡ brought got c
-  first-brought = let whole : n - 0 ≡ n = omega arith in ap (λ (k : ℕ). take k c) whole ∙ count-brought
-
-  pub brought-taken : (p : Progress) (x : Console) (t : Turn) (l b w o : List ℕ) → n ≤ length c → 0 < n →
-      Took p x (take (n - 0) c) t l b w o → Turned p x (brought got c) t l b w o
-  brought-taken p x t l b w o h g T =
-      let size = start-size (n - 0) c (omega (arith, h)) in
-      subst (λ (s : List ℕ). Turned p x s t l b w o) first-brought
-      (took-turned p x (take (n - 0) c) t l b w o (omega (arith, size, g)) T)
-
-  pub brought-none : (v : Written) (l b w o : List ℕ) (k : ℕ) → n ≡ 0 → Buffered v.progress l o →
-      Idle v.progress k → Turned v.progress (console v.progress l b w o) (brought got c) (Ended v) l b w o
-  unfolding Turned
-  brought-none v l b w o k none R I = record {
-    none = sym count-brought ∙ ap (λ (j : ℕ). take j c) none;
-    rested = record { ready = R; printed = I.printed; lines = omega arith };
-    equal = refl;
-  }
-
-pub read-turn : {p : Progress} {x : Console} {c : List ℕ} {t : Turn} {l b w o : List ℕ} (z got : ℤ) (n : ℕ) →
-    z ≡ got → length c ≡ n → Moved n got → Turned p x (brought z c) t l b w o → ReadTurn p x c t l b w o
-read-turn {p} {x} {c} {t} {l} {b} {w} {o} z got n e k m T = record {
-  got = got;
-  moved = subst (λ (j : ℕ). Moved j got) (sym k) m;
-  turned = subst (λ (y : ℤ). Turned p x (brought y c) t l b w o) e T;
+pub brought-none : (E : Type 0) (v : Written) (c : List ℕ) (got : ℕ) (l b w o : List ℕ) (k : ℕ) → got ≡ 0 →
+    Buffered v.progress l o → Idle v.progress k →
+    Turned {E = E} v.progress (console v.progress l b w o) (brought got c) (Ok (Break v)) l b w o
+unfolding Turned brought
+brought-none E v c got l b w o k none R I = record {
+  none = ap (λ (j : ℕ). take j c) none;
+  rested = record { ready = R; printed = I.printed; lines = omega arith };
+  equal = refl;
 }
 
-brought-few : (got : ℤ) (c : List ℕ) → length (brought got c) ≤ length c
+pub read-turn : {E : Type 0} {p : Progress} {x : Console} {c : List ℕ} {t : Result (ControlFlow Written Written) E}
+    {l b w o : List ℕ} (got n : ℕ) → length c ≡ n → Moved n got → Turned p x (brought got c) t l b w o →
+    ReadTurn p x c t l b w o
+read-turn got n k m T = record { got = got; moved = omega arith; turned = T }
+
+brought-few : (got : ℕ) (c : List ℕ) → length (brought got c) ≤ length c
 unfolding brought
-brought-few got c = omega (arith, length-take (clamp_len got (length c)) c)
+brought-few got c = omega (arith, length-take got c)
 
 -- ---- read after read
 
@@ -117,11 +103,12 @@ module _ {left : ℕ} {p : Progress} {l b w o : List ℕ} (M : Meeting left p l 
     equal = M.equal;
   }
 
-  module _ (c : List ℕ) (t : Turn) (v : Written) (l' b' w' o' : List ℕ)
-      (T : ReadTurn p (console p l b w o) c t l' b' w' o') where
-    pub meeting-next : 0 < left → length c ≡ chunk_bytes → t ≡ More v → Meeting (left - 1) v.progress l' b' w' o'
+  module _ (E : Type 0) (c : List ℕ) (t : ControlFlow Written Written) (v : Written) (l' b' w' o' : List ℕ)
+      (T : ReadTurn {E = E} p (console p l b w o) c (Ok t) l' b' w' o') where
+    pub meeting-next : (rest : ℕ) → t ≡ Continue v → rest < left → length c ≡ chunk_bytes →
+        Meeting rest v.progress l' b' w' o'
     unfolding Turned
-    meeting-next h k e =
+    meeting-next rest e h k =
         let C = rw e at T.turned in
         let before = input_of M.reads in
         let r : Read = record { got = T.got; chunk = c } in
@@ -144,7 +131,7 @@ module _ {left : ℕ} {p : Progress} {l b w o : List ℕ} (M : Meeting left p l 
               ap written (sym (fed-append before s start) ∙ ap (fed start) (sym (input-more M.reads r)))));
         }
 
-    pub meeting-ended : t ≡ Ended v → MetAll (Ended v) l' b' w' o'
+    pub meeting-ended : t ≡ Break v → MetAll {E = E} (Ok v) l' b' w' o'
     unfolding Turned MetAll
     meeting-ended e =
         let S = rw e at T.turned in
@@ -157,7 +144,6 @@ module _ {left : ℕ} {p : Progress} {l b w o : List ℕ} (M : Meeting left p l 
           equal = S.equal ∙ M.equal;
         }
 
-pub met-ended : (t : Turn) (v : Written) (l b w o : List ℕ) → MetAll t l b w o → t ≡ Ended v →
-    Met v.progress l b w o
+pub met-ended : (E : Type 0) (v : Written) (l b w o : List ℕ) → MetAll {E = E} (Ok v) l b w o → Met v.progress l b w o
 unfolding MetAll
-met-ended t v l b w o M e = rw e at M
+met-ended E v l b w o M = M

@@ -13,10 +13,7 @@ use Rattle.console.specs.declared.Progress.{Progress}
 use Rattle.console.proofs.Feeding.{fed-append}
 use Rattle.console.proofs.Parts.{fed-written}
 use Rattle.bench.specs.Output.{Finished, Flushed, HandedAll, Idle, Takes, flushed}
-use Rattle.bench.specs.declared.output.Handed.{Handed}
-use Rattle.bench.specs.declared.output.Handed.TheVariants as handed
-use Rattle.bench.specs.declared.output.Turn.{Turn}
-use Rattle.bench.specs.declared.output.Turn.TheVariants.{More}
+use Rattle.std.specs.Prelude.{Err, Ok, Result}
 use Rattle.bench.specs.declared.output.Written.{Written}
 use Rattle.lists.proofs.Parts.{part, part-drop, part_length}
 
@@ -28,22 +25,18 @@ start-size n o h = simp length-take (omega arith)
 pub start-same : (n : ℕ) (o : List ℕ) → n ≤ length o → take n o ≡ take (length (take n o)) o
 start-same n o h = ap (λ (k : ℕ). take k o) (sym (start-size n o h))
 
-pub handed-size : (n : ℕ) (o : List ℕ) (t : Handed) (k : ℕ) → n ≤ length o → HandedAll (length (take n o)) t →
-    t ≡ handed.All k → k ≡ n
+pub handed-size : (E : Type 0) (n : ℕ) (o : List ℕ) (k : ℕ) → n ≤ length o →
+    HandedAll {E = E} (length (take n o)) (Ok k) → k ≡ n
 unfolding HandedAll
-handed-size n o t k h H e = (rw e at H) ∙ start-size n o h
+handed-size E n o k h H = H ∙ start-size n o h
 
-pub finished : (x : Console) (n : ℕ) (o : List ℕ) (t : Handed) → ClosedTo x n o →
-    HandedAll (length (take (n - 0) o)) t → Finished x o t
+pub finished : {E : Type 0} (x : Console) (n : ℕ) (o : List ℕ) (t : Result ℕ E) → ClosedTo x n o →
+    HandedAll (length (take n o)) t → Finished x o t
 unfolding HandedAll Finished
-finished x n o (handed.All k) C e =
-    let size = start-size (n - 0) o (omega (arith, C.within, C.size)) in
+finished x n o (Ok k) C e =
+    let size = start-size n o (omega (arith, C.within, C.size)) in
     let all : k ≡ n = omega (arith, e, size) in ap (λ (j : ℕ). take j o) all ∙ C.text
-finished x n o handed.Failed C e = tt
-
-pub flushed-more : (p : Progress) (t : Turn) (v : Written) → Flushed p t → t ≡ More v → v.progress ≡ flushed p
-unfolding Flushed
-flushed-more p t v F e = rw e at F
+finished x n o (Err e) C H = tt
 
 -- ---- a part of the input
 
@@ -99,11 +92,11 @@ module _ {p : Progress} {x : Console} {s : List ℕ} {at : ℕ} {q : Progress} {
         bytes =
             ap (λ (r : List ℕ). take at s ++ take f.taken r) (part-drop s at) ∙ sym (take-add at f.taken s)
 
-    pub taking-next : (t : Turn) (v : Written) → Flushed f.progress t → t ≡ More v →
+    pub taking-next : (E : Type 0) (v : Written) → Flushed {E = E} f.progress (Ok v) →
         Taking p x s (at + f.taken) v.progress l' b' w' o'
-    taking-next t v E e =
-        subst (λ (r : Progress). Taking p x s (at + f.taken) r l' b' w' o') (sym (flushed-more f.progress t v E e))
-        taking-flushed
+    unfolding Flushed
+    taking-next E v e =
+        subst (λ (r : Progress). Taking p x s (at + f.taken) r l' b' w' o') (sym e) taking-flushed
 
   pub taking-all : length s ≤ at → Takes p x s q l b w o
   taking-all h = record {

@@ -1,12 +1,9 @@
 -- What a part of the input leaves: a console ready for more input, with nothing that waits to be written.
-use Rattle.std.specs.Prelude.{List, ◌≡◌, ◌+◌, ◌<◌, ◌^◌, ◌≤◌, ℕ, length, take}
+use Rattle.std.specs.Prelude.{Err, List, Ok, Result, ◌≡◌, ◌+◌, ◌<◌, ◌^◌, ◌≤◌, ℕ, length, take}
 use Rattle.console.specs.Buffers.{Buffered, console}
 use Rattle.console.specs.Console.{Console, closed, fed, written}
 use Rattle.console.specs.declared.Progress.{Progress}
-use Rattle.bench.specs.declared.output.Handed.{Handed}
-use Rattle.bench.specs.declared.output.Handed.TheVariants as handed
-use Rattle.bench.specs.declared.output.Turn.{Turn}
-use Rattle.bench.specs.declared.output.Turn.TheVariants.{Ended, Failed, More}
+use Rattle.bench.specs.declared.output.Written.{Written}
 
 -- the numbers before the first byte of the input
 abbrev pub begun : Progress
@@ -17,15 +14,14 @@ abbrev pub flushed : Progress → Progress
 flushed p = record { held = p.held; lines = p.lines; printed = 0 }
 
 -- all n bytes of a text were handed over; if the write failed nothing is said
-unfoldable pub HandedAll : ℕ → Handed → Type 0
-HandedAll n (handed.All k) = k ≡ n
-HandedAll n handed.Failed = Unit {0}
+unfoldable pub HandedAll : {E : Type 0} → ℕ → Result ℕ E → Type 0
+HandedAll n (Ok k) = k ≡ n
+HandedAll n (Err e) = Unit {0}
 
--- all that is printed was handed over; if the write failed nothing is said; it does not end the input
-unfoldable pub Flushed : Progress → Turn → Type 0
-Flushed p (More r) = r.progress ≡ flushed p
-Flushed p (Ended r) = ⊥
-Flushed p Failed = Unit {0}
+-- all that is printed was handed over; if the write failed nothing is said
+unfoldable pub Flushed : {E : Type 0} → Progress → Result Written E → Type 0
+Flushed p (Ok r) = r.progress ≡ flushed p
+Flushed p (Err e) = Unit {0}
 
 -- nothing waits to be written, and n lines more can be counted
 pub record Idle (p : Progress) (n : ℕ) : Type 0 where
@@ -43,13 +39,13 @@ pub record Takes (p : Progress) (x : Console) (s : List ℕ) (r : Progress) (l b
   pub rested : Rested p (length s) r l o
   pub equal : console r l b w o ≡ written (fed x s)
 
--- the whole part was taken; a write can fail only if there is a byte to take; a part does not end the input
-unfoldable pub Took : Progress → Console → List ℕ → Turn → List ℕ → List ℕ → List ℕ → List ℕ → Type 0
-Took p x s (More r) l b w o = Takes p x s r.progress l b w o
-Took p x s (Ended r) l b w o = ⊥
-Took p x s Failed l b w o = 0 < length s
+-- the whole part was taken; a write can fail only if there is a byte to take
+unfoldable pub Took : {E : Type 0} → Progress → Console → List ℕ → Result Written E → List ℕ → List ℕ → List ℕ →
+    List ℕ → Type 0
+Took p x s (Ok r) l b w o = Takes p x s r.progress l b w o
+Took p x s (Err e) l b w o = 0 < length s
 
 -- the bytes handed over last are all that the console x prints when the input ends
-unfoldable pub Finished : Console → List ℕ → Handed → Type 0
-Finished x o (handed.All n) = take n o ≡ closed x
-Finished x o handed.Failed = Unit {0}
+unfoldable pub Finished : {E : Type 0} → Console → List ℕ → Result ℕ E → Type 0
+Finished x o (Ok n) = take n o ≡ closed x
+Finished x o (Err e) = Unit {0}

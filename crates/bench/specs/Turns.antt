@@ -1,13 +1,13 @@
 -- What a read and all reads leave. What a read brought stands in the chunk that it left: the first bytes, as many as
 -- the read returned.
-use Rattle.std.specs.Prelude.{List, [], ◌++◌, ◌∷◌, ◌≡◌, ◌<◌, ◌≤◌, ℕ, ℤ, pos, negsuc, length, take}
-use Rattle.io.specs.Counts.{clamp_len}
+use Rattle.std.specs.Prelude.{List, [], ◌++◌, ◌∷◌, ◌≡◌, ◌<◌, ◌≤◌, ℕ, Err, Ok, Result, length, take}
+use Rattle.std.specs.declared.ops.ControlFlow.{ControlFlow}
+use Rattle.std.specs.declared.ops.ControlFlow.TheVariants.{Break, Continue}
 use Rattle.console.specs.Buffers.{Buffered, ProgressRoom, console}
 use Rattle.console.specs.Console.{Console, fed, start, written}
 use Rattle.console.specs.declared.Progress.{Progress}
 use Rattle.bench.specs.Output.{Rested, Takes}
-use Rattle.bench.specs.declared.output.Turn.{Turn}
-use Rattle.bench.specs.declared.output.Turn.TheVariants.{Ended, Failed, More}
+use Rattle.bench.specs.declared.output.Written.{Written}
 
 -- the bytes that a read takes at most
 abbrev pub chunk_bytes : ℕ
@@ -15,14 +15,13 @@ chunk_bytes = 65536
 
 -- ---- one read
 
--- what a read into n bytes returns: the number of bytes that it brought, or -1
-abbrev pub Moved : ℕ → ℤ → Type 0
-Moved n (pos k) = k ≤ n
-Moved n (negsuc k) = k ≡ 0
+-- what a read into n bytes returns: the number of bytes that it brought, 0 if it failed
+abbrev pub Moved : ℕ → ℕ → Type 0
+Moved n got = got ≤ n
 
 -- the bytes that a read brought which returned a number and left a chunk: none if it failed
-unfoldable pub brought : ℤ → List ℕ → List ℕ
-brought got c = take (clamp_len got (length c)) c
+unfoldable pub brought : ℕ → List ℕ → List ℕ
+brought got c = take got c
 
 -- a read brought bytes, and the console x took all of them
 pub record Came (p : Progress) (x : Console) (s : List ℕ) (r : Progress) (l b w o : List ℕ) : Type 0 where
@@ -36,14 +35,16 @@ pub record Stayed (p : Progress) (x : Console) (s : List ℕ) (r : Progress) (l 
   pub equal : console r l b w o ≡ x
 
 -- the bytes s that a read brought decide whether the input ends; a write can fail only if there are any
-unfoldable pub Turned : Progress → Console → List ℕ → Turn → List ℕ → List ℕ → List ℕ → List ℕ → Type 0
-Turned p x s (More r) l b w o = Came p x s r.progress l b w o
-Turned p x s (Ended r) l b w o = Stayed p x s r.progress l b w o
-Turned p x s Failed l b w o = 0 < length s
+unfoldable pub Turned : {E : Type 0} → Progress → Console → List ℕ → Result (ControlFlow Written Written) E → List ℕ →
+    List ℕ → List ℕ → List ℕ → Type 0
+Turned p x s (Ok (Continue r)) l b w o = Came p x s r.progress l b w o
+Turned p x s (Ok (Break r)) l b w o = Stayed p x s r.progress l b w o
+Turned p x s (Err e) l b w o = 0 < length s
 
 -- a read returned a number and left the chunk c, and what it brought was taken
-pub record ReadTurn (p : Progress) (x : Console) (c : List ℕ) (t : Turn) (l b w o : List ℕ) : Type 0 where
-  pub got : ℤ
+pub record ReadTurn {E : Type 0} (p : Progress) (x : Console) (c : List ℕ) (t : Result (ControlFlow Written Written) E)
+    (l b w o : List ℕ) : Type 0 where
+  pub got : ℕ
   pub moved : Moved (length c) got
   pub turned : Turned p x (brought got c) t l b w o
 
@@ -51,7 +52,7 @@ pub record ReadTurn (p : Progress) (x : Console) (c : List ℕ) (t : Turn) (l b 
 
 -- what a read returned, and the chunk that it left
 pub record Read : Type 0 where
-  pub got : ℤ
+  pub got : ℕ
   pub chunk : List ℕ
 
 -- what reads brought, one after another
@@ -77,7 +78,6 @@ pub record Met (r : Progress) (l b w o : List ℕ) : Type 0 where
   pub room : ProgressRoom r 1 2
   pub equal : console r l b w o ≡ written (fed start (input_of reads))
 
-unfoldable pub MetAll : Turn → List ℕ → List ℕ → List ℕ → List ℕ → Type 0
-MetAll (More r) l b w o = ⊥
-MetAll (Ended r) l b w o = Met r.progress l b w o
-MetAll Failed l b w o = Unit {0}
+unfoldable pub MetAll : {E : Type 0} → Result Written E → List ℕ → List ℕ → List ℕ → List ℕ → Type 0
+MetAll (Ok r) l b w o = Met r.progress l b w o
+MetAll (Err e) l b w o = Unit {0}

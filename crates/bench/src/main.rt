@@ -11,23 +11,25 @@ ghost use Rattle.bench.specs.Output.{Idle};
 ghost use Rattle.bench.specs.Turns.{MetAll, Moved, ReadTurn, Turned, brought, chunk_bytes};
 
 use console::{HELD_BYTES, OUT_BYTES, empty_scratch, empty_table};
-use output::{Streams, Turn, Written, begin, fail, finish, take};
-use std::io::Read;
+use output::{Streams, Written, begin, fail, finish, take};
+use std::io::{Error, Read};
+use std::ops::ControlFlow;
 
 // A proved loop has to end, and nothing says that an input does. So many reads of 65,536 bytes are more than a run
 // makes, and the lines of fewer than 2^64 bytes can be counted.
 const READS: u64 = 281474976710655;
 
-// One read of standard input. A failure is reported on standard error.
-fn read_chunk(streams: Streams, chunk: &mut [u8]) -> isize
+// One read of standard input: the number of bytes that it brought. A failure is reported on standard error, and brings
+// none.
+fn read_chunk(streams: Streams, chunk: &mut [u8]) -> usize
     ensures { Moved (length chunk.old) result }
 {
     let mut input = streams.input;
     match input.read(chunk) {
-        Ok(got) => got as isize,
+        Ok(got) => got,
         Err(why) => {
             fail(streams, "read", &why);
-            -1
+            0
         }
     }
 }
@@ -37,24 +39,25 @@ fn read_chunk(streams: Streams, chunk: &mut [u8]) -> isize
 fn take_chunk(
     streams: Streams,
     w: Written,
-    got: isize,
+    got: usize,
     chunk: &[u8],
     line: &mut [u8; HELD_BYTES],
     table: &mut [u8],
     scratch: &mut [u8],
     out: &mut [u8; OUT_BYTES],
-) -> Turn
+) -> Result<ControlFlow<Written, Written>, Error>
+    requires moved { Moved (length chunk.now) got }
     requires buffered { Buffered w.progress line.old out.old }
     requires idle { Idle w.progress (length chunk.now) }
     ensures { Turned w.progress (console w.progress line.old table.old
         scratch.old out.old) (brought got chunk.now) result line.new
         table.new scratch.new out.new }
 {
-    let n = io::count(got, chunk);
-    if n == 0 {
-        return Turn::Ended(w);
+    if got == 0 {
+        return Ok(ControlFlow::Break(w));
     }
-    take(streams, w, &chunk[0..n], line, table, scratch, out)
+    let next = take(streams, w, &chunk[..got], line, table, scratch, out)?;
+    Ok(ControlFlow::Continue(next))
 }
 
 // Reads a part of the input and takes it.
@@ -66,7 +69,7 @@ fn read_some(
     table: &mut [u8],
     scratch: &mut [u8],
     out: &mut [u8; OUT_BYTES],
-) -> Turn
+) -> Result<ControlFlow<Written, Written>, Error>
     requires buffered { Buffered w.progress line.old out.old }
     requires idle { Idle w.progress chunk_bytes }
     requires chunk_len { length chunk.old ≡ chunk_bytes }
@@ -86,7 +89,7 @@ fn read_all(
     table: &mut [u8],
     scratch: &mut [u8],
     out: &mut [u8; OUT_BYTES],
-) -> Turn
+) -> Result<Written, Error>
     requires chunk_len { length chunk.old ≡ chunk_bytes }
     requires line_len { length line.old ≡ held_bytes }
     requires table_value { table.old ≡ empty_table }
@@ -95,16 +98,31 @@ fn read_all(
     ensures { MetAll result line.new table.new scratch.new out.new }
 {
     let mut w = begin();
-    let mut reads = READS;
-    while reads > 0 {
-        reads -= 1;
-        match read_some(streams, w, chunk, line, table, scratch, out) {
-            Turn::More(next) => w = next,
-            Turn::Ended(last) => return Turn::Ended(last),
-            Turn::Failed => return Turn::Failed,
+    for _done in 0..READS {
+        match read_some(streams, w, chunk, line, table, scratch, out)? {
+            ControlFlow::Continue(next) => w = next,
+            ControlFlow::Break(last) => return Ok(last),
         }
     }
-    Turn::Ended(w)
+    Ok(w)
+}
+
+// The whole input. An error is that of a write, after which nothing more is printed.
+fn run(streams: Streams) -> Result<usize, Error> {
+    let mut table = empty_table();
+    let mut scratch = empty_scratch();
+    let mut line = [0u8; HELD_BYTES];
+    let mut out = io::large_buffer();
+    let mut chunk = io::large_buffer();
+    let w = read_all(
+        streams,
+        &mut chunk,
+        &mut line,
+        &mut table,
+        &mut scratch,
+        &mut out,
+    )?;
+    finish(streams, w, &line, &mut table, &mut scratch, &mut out)
 }
 
 fn main(rt: HostRuntime) {
@@ -113,20 +131,7 @@ fn main(rt: HostRuntime) {
         output: rt.stdout(),
         errors: rt.stderr(),
     };
-    let mut table = empty_table();
-    let mut scratch = empty_scratch();
-    let mut line = [0u8; HELD_BYTES];
-    let mut out = io::large_buffer();
-    let mut chunk = io::large_buffer();
-    let Turn::Ended(w) = read_all(
-        streams,
-        &mut chunk,
-        &mut line,
-        &mut table,
-        &mut scratch,
-        &mut out,
-    ) else {
-        return;
-    };
-    finish(streams, w, &line, &mut table, &mut scratch, &mut out);
+    if let Err(why) = run(streams) {
+        fail(streams, "write", &why);
+    }
 }

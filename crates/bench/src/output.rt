@@ -21,21 +21,6 @@ pub struct Written {
     progress: Progress,
 }
 
-// After a part of the input: there may be more input, the input has ended, or nothing can be written any more.
-#[derive(Clone, Copy)]
-pub enum Turn {
-    More(Written),
-    Ended(Written),
-    Failed,
-}
-
-// How many bytes were handed to the write, or that it failed.
-#[derive(Clone, Copy)]
-pub enum Handed {
-    All(usize),
-    Failed,
-}
-
 // Before the first byte of the input.
 pub fn begin() -> Written
     ensures { result.progress ≡ begun }
@@ -58,35 +43,26 @@ pub fn fail(streams: Streams, what: &str, why: &Error) {
 }
 
 // Hands a text to standard output and returns how many bytes it has. It takes `out` so that the contract can say that
-// the text is its start. A failure is reported on standard error.
-fn hand_over(streams: Streams, text: &[u8], out: &[u8]) -> Handed
+// the text is its start.
+fn hand_over(streams: Streams, text: &[u8], out: &[u8]) -> Result<usize, Error>
     requires { text.now ≡ take (length text.now) out.now }
     ensures { HandedAll (length text.now) result }
 {
     let mut output = streams.output;
-    match output.write_all(text) {
-        Ok(()) => Handed::All(text.len()),
-        Err(why) => {
-            fail(streams, "write", &why);
-            Handed::Failed
-        }
-    }
+    output.write_all(text)?;
+    Ok(text.len())
 }
 
 // Hands over what is printed. What was handed over no longer waits.
-fn flush(streams: Streams, p: Progress, out: &[u8]) -> Turn
+fn flush(streams: Streams, p: Progress, out: &[u8]) -> Result<Written, Error>
     requires { p.printed ≤ length out.now }
     ensures { Flushed p result }
 {
-    let printed = p.printed;
-    let Handed::All(handed) = hand_over(streams, &out[0..printed], out) else {
-        return Turn::Failed;
-    };
-    Turn::More(Written {
+    let handed = hand_over(streams, &out[..p.printed], out)?;
+    Ok(Written {
         progress: Progress {
-            held: p.held,
-            lines: p.lines,
             printed: p.printed - handed,
+            ..p
         },
     })
 }
@@ -100,7 +76,7 @@ pub fn take(
     table: &mut [u8],
     scratch: &mut [u8],
     out: &mut [u8; OUT_BYTES],
-) -> Turn
+) -> Result<Written, Error>
     requires buffered { Buffered w.progress line.old out.old }
     requires idle { Idle w.progress (length input.now) }
     ensures { Took w.progress (console w.progress line.old table.old
@@ -110,17 +86,11 @@ pub fn take(
     let mut q = w;
     let mut at = 0;
     while at < input.len() {
-        let p = q.progress;
-        let fed = feed(p, &input[at..], line, table, scratch, out);
-        let taken = fed.taken;
-        let r = fed.progress;
-        let Turn::More(next) = flush(streams, r, out) else {
-            return Turn::Failed;
-        };
-        q = next;
-        at += taken;
+        let fed = feed(q.progress, &input[at..], line, table, scratch, out);
+        q = flush(streams, fed.progress, out)?;
+        at += fed.taken;
     }
-    Turn::More(q)
+    Ok(q)
 }
 
 // Ends the input and writes what is printed then.
@@ -131,14 +101,13 @@ pub fn finish(
     table: &mut [u8],
     scratch: &mut [u8],
     out: &mut [u8; OUT_BYTES],
-) -> Handed
+) -> Result<usize, Error>
     requires buffered { Buffered w.progress line.now out.old }
     requires progress_room { ProgressRoom w.progress 1 2 }
     ensures { Finished (console w.progress line.now table.old scratch.old
         out.old) out.new result }
 {
-    let p = w.progress;
-    let printed = close(p, line, table, scratch, out);
+    let printed = close(w.progress, line, table, scratch, out);
     let all = &out[..];
-    hand_over(streams, &all[0..printed], all)
+    hand_over(streams, &all[..printed], all)
 }

@@ -1,7 +1,7 @@
--- `bench::main` is safe: the console that reading left is closed, and what is printed is written.
-use mathlib.Core.Path.{refl, sym}
+-- `bench::run` is safe: the console that reading left is closed, and what is printed is written.
+use Rattle.std.proofs.Common.{refl, sym}
 use Rattle.bench.proofs.Meeting.{met-ended}
-use Rattle.bench.proofs.main.Goals as goal
+use Rattle.bench.proofs.run.Goals as goal
 
 pub read_all-requires : goal.read_all-requires
 read_all-requires c = record {
@@ -13,10 +13,9 @@ read_all-requires c = record {
 }
 
 pub slice_bounds-finish-end : goal.slice_bounds-finish-end
-slice_bounds-finish-end c =
-    sym (met-ended _ _ _ _ _ _ c.read_all.ensures c.in-Ended.is).ready.line
+slice_bounds-finish-end c = sym (met-ended _ _ _ _ _ _ c.in_ok-w.ensures).ready.line
 
 pub finish-requires : goal.finish-requires
 finish-requires c =
-    let M = met-ended _ _ _ _ _ _ c.read_all.ensures c.in-Ended.is in
+    let M = met-ended _ _ _ _ _ _ c.in_ok-w.ensures in
     record { buffered = M.ready; progress_room = M.room }

@@ -1,12 +1,12 @@
 -- `bench::output::hand_over` meets its contract.
-use mathlib.Core.Path.{refl}
+use Rattle.std.proofs.Common.{rules}
 use Rattle.bench.specs.Output.{HandedAll}
 use Rattle.bench.proofs.output.hand_over.Goals as goal
 
-pub returns-in-Ok : goal.returns-in-Ok
+pub returns-in_err-write_all : goal.returns-in_err-write_all
 unfolding HandedAll
-returns-in-Ok c = refl
+returns-in_err-write_all c = search rules
 
-pub returns-in-Err : goal.returns-in-Err
+pub returns : goal.returns
 unfolding HandedAll
-returns-in-Err c = tt
+returns c = search rules

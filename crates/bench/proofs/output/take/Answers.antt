@@ -1,9 +1,7 @@
-use native.Mathlib.Omega.{arith}
-use mathlib.Core.Path.{refl}
+use Rattle.std.proofs.Common.{rules, arith, refl}
 use Rattle.bench.specs.Output.{Took}
 use Rattle.bench.proofs.Taking.{taken-some, taken-within, taking-all, taking-next, taking-room}
 use Rattle.bench.proofs.Taking.{taking-start}
-use borrow.Author.Rules.{rules}
 use Rattle.bench.proofs.output.take.Goals as goal
 
 pub loop-at-init : goal.loop-at-init
@@ -16,9 +14,9 @@ feed-fed-requires c = record {
   progress_room = taking-room c.loop-at.invariant.0 c.requires.idle;
 }
 
-pub returns-in_default : goal.returns-in_default
+pub returns-in_err-q : goal.returns-in_err-q
 unfolding Took
-returns-in_default c = search rules
+returns-in_err-q c = search rules
 
 pub overflow_add-at : goal.overflow_add-at
 overflow_add-at c =
@@ -36,8 +34,7 @@ loop-at-smaller c =
 
 pub loop-at-preserved : goal.loop-at-preserved
 loop-at-preserved c = (
-  taking-next c.loop-at.invariant.0 c.feed-fed.result _ _ _ _ c.feed-fed.ensures _ _
-      c.flush.ensures c.in-More.is,
+  taking-next c.loop-at.invariant.0 c.feed-fed.result _ _ _ _ c.feed-fed.ensures _ _ c.in_ok-q.ensures,
   search rules,
   omega (arith, c.loop-at.invariant.2),
 )
