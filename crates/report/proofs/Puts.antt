@@ -1,11 +1,11 @@
 -- Text put into a buffer: a byte, one text after another, and a whole line.
-use mathlib.Core.List.{List, [], ◌++◌, ◌∷◌, append_assoc, append-nil}
-use mathlib.Core.Path.{◌∙◌, ◌≡◌, ap, refl, sym}
+use mathlib.Core.List.{List, [], ◌++◌, ◌∷◌, append_assoc}
+use mathlib.Core.Path.{◌∙◌, ◌≡◌, ap}
 use Prim.Native.Nat.{◌+◌, ◌<◌, ◌≤◌, ℕ}
 use native.Mathlib.Numerals.{add-one}
 use native.Mathlib.Omega.{arith}
-use lib.ListN.{get_or, length, length-append, length-set, set, take}
-use lib.Seq.{take_all, take-suc, take-suc-set}
+use lib.ListN.{length, length-append, length-set, set, take}
+use lib.Seq.{take-suc-set}
 use Rattle.report.specs.Printing.{Printed, Put, line_bytes}
 
 pub put_byte : (s : List ℕ) (at b : ℕ) → at < length s → Put s (set s at b) at (b ∷ []) (at + 1)

@@ -6,8 +6,7 @@ use mathlib.Core.Path.{◌∙◌, ◌≡◌, ap, refl, subst, sym}
 use Prim.Native.Nat.{◌-◌, ◌≤◌, ℕ}
 use native.Mathlib.Omega.{arith}
 use lib.Dec.{eqb, leb}
-use lib.ListN.{get_or, length, length-append, length-replicate, replicate}
-use lib.Seq.{ext_get_or}
+use lib.ListN.{length, length-append, length-replicate, replicate}
 use borrow.Author.Tests.{eq-eqb, leb-false, leb-true, ne_eqb}
 use Rattle.format.specs.Format.{listing_bytes, max_line}
 use Rattle.scalebench.specs.Typed.{Small, line_number}

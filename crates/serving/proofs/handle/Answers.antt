@@ -1,5 +1,5 @@
 -- `serving::handle` meets its contract: what was read names the call, and the lent bytes start with its listing.
-use Rattle.std.proofs.Common.{rules, ap, ◌∙◌, sym}
+use Rattle.std.proofs.Common.{ap, ◌∙◌, sym}
 use Rattle.std.specs.Prelude.{Ok}
 use Rattle.std.proofs.lemmas.Result.{err_from_is_err_and}
 use Rattle.serving.specs.Serving.{called}
