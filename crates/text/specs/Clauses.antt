@@ -1,5 +1,6 @@
 -- The contracts of the functions within the reader: what they return, in terms of the grammar and of the scan.
-use Rattle.std.specs.Prelude.{Err, None, Ok, Option, Result, Some, ◌≡◌, ℕ, suc, ◌+◌, ◌*◌, ◌≤◌, false, List, [], ◌∷◌, ◌++◌, length, take, drop, slice_index}
+use Rattle.std.specs.Prelude.{Err, None, Ok, Option, Result, Some}
+use Rattle.std.specs.Prelude.{◌≡◌, ℕ, suc, ◌+◌, ◌*◌, ◌≤◌, false, List, [], ◌∷◌, ◌++◌, length, take, drop, slice_index}
 use Rattle.std.proofs.lemmas.List.Edits.{sets}
 use Rattle.format.specs.Format.{listing_bytes, max_label, node_bytes}
 use Rattle.text.specs.Columns.{Ahead, OnLine}
