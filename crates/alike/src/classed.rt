@@ -2,18 +2,14 @@
 ghost use Rattle.std.specs.Prelude.{Bool, List, ◌≡◌, ◌-◌, ◌<◌, ◌≤◌, ℕ, eqb, get_or};
 ghost use Rattle.std.specs.Bool.{beq};
 ghost use Rattle.automata.specs.Automaton.{Automaton, accepting};
-ghost use Rattle.packed.specs.Packed.{Searchable};
-ghost use Rattle.subtrees.specs.Parents.{ParentsWithin};
 ghost use Rattle.subtrees.specs.Store.{tree_numbered};
-ghost use Rattle.table.specs.Layout.{transitions_in};
 ghost use Rattle.trees.specs.Tree.{Tree};
 ghost use Rattle.alike.specs.Agreeing.{named_like_state, named_like_subtree};
-ghost use Rattle.uses.specs.Settings.{ParentsFrom, SearchableIn};
+ghost use Rattle.uses.specs.Settings.{ParentsFrom};
 ghost use Rattle.alike.specs.Settings.{HasTransitions, HoldsSubtrees, NamesKnown};
 
 use crate::frames::{Candidate, frames_agree};
 use format::{MAX_NODES, wide};
-use subtrees::CHILD_NUMBERS;
 use uses::Setting;
 
 // Whether two bytes are the same class; only 1 is accepting.

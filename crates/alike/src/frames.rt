@@ -1,25 +1,20 @@
 // The frames over a subtree: its parents, each with the place of the subtree among its children. A candidate is a
 // state or another subtree. In the subtree's place it must give each parent the name that the parent has.
-ghost use Rattle.std.specs.Prelude.{◌≡◌, false, List, ◌<◌, ◌≤◌, ℕ, get_or};
+ghost use Rattle.std.specs.Prelude.{◌≡◌, List, ◌<◌, ◌≤◌, ℕ, get_or};
 ghost use Rattle.automata.specs.Automaton.{Automaton};
 ghost use Rattle.automata.specs.ContextRun.{step_frame};
 ghost use Rattle.lists.specs.Positions.{up_from};
 ghost use Rattle.lists.specs.Tests.{every};
-ghost use Rattle.packed.specs.Packed.{Searchable};
-ghost use Rattle.subtrees.specs.Frames.{frame_at};
-ghost use Rattle.table.specs.Layout.{transitions_in};
-ghost use Rattle.subtrees.specs.Parents.{ParentsWithin};
 ghost use Rattle.subtrees.specs.Store.{tree_numbered};
 ghost use Rattle.trees.specs.Context.{fill};
 ghost use Rattle.trees.specs.Tree.{Tree};
-ghost use Rattle.alike.specs.Agreeing.{name_in, parent_agrees, place_agrees};
+ghost use Rattle.alike.specs.Agreeing.{name_in};
 ghost use Rattle.alike.specs.Known.{FromOn, Numbered};
-ghost use Rattle.uses.specs.Settings.{ParentsFrom, SearchableIn};
+ghost use Rattle.uses.specs.Settings.{ParentsFrom};
 ghost use Rattle.alike.specs.Settings.{HasTransitions, HoldsSubtrees, NamesKnown, frame_in, place_agrees_in, parent_agrees_in};
 
 use crate::nodes::{children_of, node_name, states_of, step_node};
 use format::{MAX_ARITY, MAX_NODES, wide};
-use subtrees::CHILD_NUMBERS;
 use uses::Setting;
 
 // What stands in a subtree's place: a state or 0, or the subtree with a number.

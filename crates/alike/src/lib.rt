@@ -1,5 +1,5 @@
 // The local criterion: whether a subtree can stand for a state or for another subtree after a change of the set. The
-// arrays of the m subtrees are those of crate subtrees. The names of subtrees with greater numbers are known.
+// names of subtrees with greater numbers are known.
 #![tactic(auto)]
 
 mod classed; // the class and the names in the frames
@@ -10,24 +10,18 @@ mod slots; // a frame over a subtree as a slot
 ghost use Rattle.std.specs.Prelude.{Bool, List, ◌≡◌, ◌-◌, ◌<◌, ◌≤◌, ℕ, eqb, get_or};
 ghost use Rattle.automata.specs.Alike.{like_state, like_subtree};
 ghost use Rattle.automata.specs.Automaton.{Automaton, accepting};
-ghost use Rattle.fields.specs.Fields.{HoldsTransitionsOver};
-ghost use Rattle.packed.specs.Packed.{Searchable};
-ghost use Rattle.subtrees.specs.Parents.{ParentsWithin};
 ghost use Rattle.subtrees.specs.Store.{tree_numbered};
 ghost use Rattle.trees.specs.Tree.{Tree};
-ghost use Rattle.uses.specs.Spans.{UsesWithin};
-ghost use Rattle.uses.specs.Uses.{Holds};
-ghost use Rattle.uses.specs.Settings.{HoldsIn, OverStates, ParentsFrom, SearchableIn, UsesBounded};
+ghost use Rattle.uses.specs.Settings.{HoldsIn, ParentsFrom};
 ghost use Rattle.alike.specs.Settings.{NamesKnown};
 
 use classed::{named_like_state, named_like_subtree};
-use format::{BYTE_VALUES, MAX_NODES};
+use format::MAX_NODES;
 pub use slots::frame_slot_of;
-use subtrees::CHILD_NUMBERS;
 use uses::{Setting, state_uses_agree, subtree_uses_agree};
 
-// Whether subtree j can stand for q, a state or 0, whose class is `class`. The uses of a state lie between its
-// entries of `lows` and `lasts`, the parents of j between `from` and `to`.
+// Whether subtree j can stand for q, a state or 0, whose class is `class`. The parents of j have indices
+// from `from` on and below `to`.
 pub fn like_state(
     setting: &Setting<'_>,
     names: &[u8; MAX_NODES],

@@ -3,15 +3,11 @@ ghost use Rattle.std.specs.Prelude.{◌≡◌, List, ◌<◌, ◌≤◌, ℕ, eq
 ghost use Rattle.automata.specs.Automaton.{Automaton, step};
 ghost use Rattle.format.specs.Format.{max_arity, max_nodes};
 ghost use Rattle.lists.specs.Tests.{any};
-ghost use Rattle.packed.specs.Packed.{Searchable};
 ghost use Rattle.packed.specs.Seeking.{Places};
 ghost use Rattle.subtrees.specs.Steps.{Children, Filled};
 ghost use Rattle.subtrees.specs.Store.{child_at, trees_numbered};
-ghost use Rattle.table.specs.Layout.{transitions_in};
 ghost use Rattle.trees.specs.Tree.{Tree, node};
 ghost use Rattle.alike.specs.Agreeing.{state_of};
-ghost use Rattle.alike.specs.Known.{Holds, NamedAbove};
-ghost use Rattle.uses.specs.Settings.{SearchableIn};
 ghost use Rattle.alike.specs.Settings.{HasTransitions, HoldsSubtrees, NamesKnown};
 
 use format::{MAX_ARITY, MAX_NODES, wide};

@@ -50,7 +50,8 @@ fn name_subtree(
     ensures upper_bound { result ≤ setting.now.n + setting.now.subtrees.now.count }
     ensures chosen { (A : Automaton) (t : Tree) (ts : List Tree) (S : (Tree → Bool)) (N : (Tree → ℕ)) →
         KnownIn A t ts S table.now setting.now → Open A t marks.now →
-        NamesKnown A t ts setting.now.subtrees.now j names.now N → Chosen A t S ts setting.now.n setting.now.subtrees.now.count N j result }
+        NamesKnown A t ts setting.now.subtrees.now j names.now N →
+        Chosen A t S ts setting.now.n setting.now.subtrees.now.count N j result }
 {
     let from = wide(parents.froms[j - 1]);
     let to = wide(parents.tos[j - 1]);

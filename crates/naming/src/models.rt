@@ -51,7 +51,8 @@ pub fn find_subtree(
     ensures bounds { IfSome result (λ v. (j < v) × (v ≤ setting.now.subtrees.now.count)) }
     ensures subtree_sought { (A : Automaton) (t : Tree) (ts : List Tree) (S : (Tree → Bool)) (N : (Tree → ℕ)) →
         HoldsIn A t ts setting.now → ClassedIn S ts setting.now →
-        NamesKnown A t ts setting.now.subtrees.now j names.now N → SubtreeSought A t S ts setting.now.n setting.now.subtrees.now.count N j result }
+        NamesKnown A t ts setting.now.subtrees.now j names.now N →
+        SubtreeSought A t S ts setting.now.n setting.now.subtrees.now.count N j result }
 {
     for v in j + 1..setting.subtrees.count + 1 {
         if fits_subtree(setting, names, parents, j, v) {

@@ -101,8 +101,8 @@ fn anchors_child(
     is_child(setting, i, j)
 }
 
-// Whether some parent of subtree j has its own name and shares it with no other subtree. `shared` marks the subtrees
-// whose own names others have too. The parents of j have indices from `from` on and below `to`.
+// Whether some parent of the subtree has its own name and shares it with no other subtree. `shared` marks the subtrees
+// whose own names others have too.
 pub fn anchored(sought: &Sought<'_, '_>, shared: &[u8; MAX_NODES]) -> bool
     ensures { result ≡ any (anchors_for sought.now shared.now)
         (up_from (sought.now.j + 1) (sought.now.setting.now.subtrees.now.count - sought.now.j)) }
@@ -127,7 +127,7 @@ fn raises_child(setting: &Setting<'_>, names: &[u8; MAX_NODES], i: usize, j: usi
     is_child(setting, i, j)
 }
 
-// Whether the name of some parent of subtree j is some subtree's own name.
+// Whether the name of some parent of the subtree is some subtree's own name.
 pub fn raised(sought: &Sought<'_, '_>) -> bool
     ensures { result ≡ any (raises_for sought.now)
         (up_from (sought.now.j + 1) (sought.now.setting.now.subtrees.now.count - sought.now.j)) }

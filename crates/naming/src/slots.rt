@@ -14,12 +14,13 @@ use format::TRANSITION_BYTES;
 use packed::{Slot, first_in_slot, next_in_slot};
 use uses::use_slot;
 
-// The first state in slot z that subtree j is like.
+// The first state in slot z that the subtree is like.
 pub fn state_in_slot(sought: &Sought<'_, '_>, z: Slot) -> Option<usize>
     requires place_lt_max_arity { z.place < max_arity }
     ensures upper_bound { IfSome result (λ q. q ≤ sought.now.setting.now.n) }
     ensures state_sought { (A : Automaton) (t : Tree) (ts : List Tree) (S : Tree → Bool) (N : Tree → ℕ) →
-        KnownFor A t ts S sought.now → OpenFor A t sought.now → NamesFor A t ts N sought.now → SlottedFor A t S ts N sought.now z →
+        KnownFor A t ts S sought.now → OpenFor A t sought.now → NamesFor A t ts N sought.now →
+        SlottedFor A t S ts N sought.now z →
         FoundFor A t S ts N sought.now result }
 {
     let setting = sought.setting;
@@ -34,8 +35,8 @@ pub fn state_in_slot(sought: &Sought<'_, '_>, z: Slot) -> Option<usize>
     None
 }
 
-// A slot that holds every state that subtree j is like. It is the slot of a frame whose parent has a name other than
-// 0, else a slot in which j's state is used and which the frames of j do not cover. None if neither is found.
+// A slot that holds every state that the subtree is like. It is the slot of a frame whose parent has a name other than
+// 0, else a slot in which the subtree's state is used and which its frames do not cover. None if neither is found.
 pub fn slot_of(sought: &Sought<'_, '_>) -> Option<Slot>
     ensures place_lt_max_arity { IfSome result (λ z. z.place < max_arity) }
     ensures states_slotted { (A : Automaton) (t : Tree) (ts : List Tree) (S : Tree → Bool) (N : Tree → ℕ) →

@@ -22,11 +22,12 @@ fn is_free(marks: &[u8; BYTE_VALUES], q: usize) -> bool
     marks[q] != 0
 }
 
-// Whether q is 0 or open, and subtree j is like it.
+// Whether q is 0 or open, and the subtree is like it.
 pub fn fits_state(sought: &Sought<'_, '_>, q: usize) -> bool
     requires q_le_n { q ≤ sought.now.setting.now.n }
     ensures { (A : Automaton) (t : Tree) (ts : List Tree) (S : Tree → Bool) (N : Tree → ℕ) →
-        KnownFor A t ts S sought.now → OpenFor A t sought.now → NamesFor A t ts N sought.now → TriedFor A t S ts N sought.now q result }
+        KnownFor A t ts S sought.now → OpenFor A t sought.now → NamesFor A t ts N sought.now →
+        TriedFor A t S ts N sought.now q result }
 {
     if !is_free(sought.marks, q) {
         return false;
@@ -45,11 +46,12 @@ pub fn fits_state(sought: &Sought<'_, '_>, q: usize) -> bool
     )
 }
 
-// The first of 0 and the open states that subtree j is like.
+// The first of 0 and the open states that the subtree is like.
 pub fn first_state(sought: &Sought<'_, '_>) -> Option<usize>
     ensures upper_bound { IfSome result (λ q. q ≤ sought.now.setting.now.n) }
     ensures state_sought { (A : Automaton) (t : Tree) (ts : List Tree) (S : Tree → Bool) (N : Tree → ℕ) →
-        KnownFor A t ts S sought.now → OpenFor A t sought.now → NamesFor A t ts N sought.now → FoundFor A t S ts N sought.now result }
+        KnownFor A t ts S sought.now → OpenFor A t sought.now → NamesFor A t ts N sought.now →
+        FoundFor A t S ts N sought.now result }
 {
     for q in 0..sought.setting.n + 1 {
         if fits_state(sought, q) {
@@ -59,11 +61,12 @@ pub fn first_state(sought: &Sought<'_, '_>) -> Option<usize>
     None
 }
 
-// The state that subtree j has, if it is open and j is still like it.
+// The state that the subtree has, if it is open and the subtree is still like it.
 pub fn own_state(sought: &Sought<'_, '_>) -> Option<usize>
     ensures upper_bound { IfSome result (λ q. q ≤ sought.now.setting.now.n) }
     ensures chosen { (A : Automaton) (t : Tree) (ts : List Tree) (S : Tree → Bool) (N : Tree → ℕ) →
-        KnownFor A t ts S sought.now → OpenFor A t sought.now → NamesFor A t ts N sought.now → IfSome result (ChosenFor A t S ts N sought.now) }
+        KnownFor A t ts S sought.now → OpenFor A t sought.now → NamesFor A t ts N sought.now →
+        IfSome result (ChosenFor A t S ts N sought.now) }
 {
     let q = wide(sought.setting.subtrees.states[sought.j - 1]);
     if q > sought.setting.n {
