@@ -1,22 +1,15 @@
 -- The facts about a setting that the contracts of this crate and of those above it speak of.
 use Rattle.std.specs.Prelude.{Bool, ◌&&◌, List, ℕ}
 use Rattle.automata.specs.Automaton.{Automaton}
-use Rattle.fields.specs.Fields.{HoldsTransitionsOver}
-use Rattle.packed.specs.Packed.{Searchable}
 use Rattle.subtrees.specs.Parents.{ParentsWithin}
 use Rattle.subtrees.specs.declared.Subtrees.{Subtrees}
 use Rattle.trees.specs.Tree.{Tree}
 use Rattle.uses.specs.declared.setting.Frames.{Frames}
 use Rattle.uses.specs.declared.setting.Setting.{Setting}
-use Rattle.uses.specs.Frames.{Nodes, frame_count, frame_of, in_slot}
-use Rattle.uses.specs.Spans.{UsesWithin}
+use Rattle.uses.specs.Frames.{frame_count, frame_of, in_slot}
 use Rattle.uses.specs.Uses.{Arrays, Holds, Scannable, arrays, covered_at, place_agrees, swap_agrees, transition_agrees}
 use Rattle.uses.specs.Uses.{transitions_agree}
 use Rattle.uses.specs.Walks.{Walked}
-
--- the subtrees are nodes with at most eight children each
-abbrev pub AreNodes : Subtrees → Type 0
-AreNodes s = Nodes s.count s.arities s.children
 
 -- the parents of subtree j have indices from start on and below end
 abbrev pub ParentsFrom : Subtrees → ℕ → ℕ → ℕ → Type 0
@@ -32,17 +25,6 @@ arrays_in g f = arrays_of g.subtrees.now g.weights.now f.first f.second
 -- the frames of one subtree
 abbrev pub frames_of_one : ℕ → ℕ → ℕ → Frames
 frames_of_one j start end = record { first = j; second = 0; start = start; end = end }
-
--- the transitions can be searched and are over the states 1 to n
-abbrev pub SearchableIn : Setting → Type 0
-SearchableIn g = Searchable g.transitions.now g.count
-
-abbrev pub OverStates : Setting → Type 0
-OverStates g = HoldsTransitionsOver g.transitions.now g.count g.n
-
--- the uses of each state lie between its entries
-abbrev pub UsesBounded : Setting → Type 0
-UsesBounded g = UsesWithin g.transitions.now g.count g.lows.now g.lasts.now
 
 -- the uses of two states can be compared but for the frames
 abbrev pub ScannableIn : Setting → Frames → Type 0
