@@ -7,8 +7,8 @@ use Rattle.trees.specs.Tree.{Tree}
 use Rattle.uses.specs.declared.setting.Frames.{Frames}
 use Rattle.uses.specs.declared.setting.Setting.{Setting}
 use Rattle.uses.specs.Frames.{frame_count, frame_of, in_slot}
-use Rattle.uses.specs.Uses.{Arrays, Holds, Scannable, arrays, covered_at, place_agrees, swap_agrees, transition_agrees}
-use Rattle.uses.specs.Uses.{transitions_agree}
+use Rattle.uses.specs.Uses.{Arrays, BothWithin, Holds, arrays, covered_at, place_agrees, swap_agrees}
+use Rattle.uses.specs.Uses.{transition_agrees, transitions_agree}
 use Rattle.uses.specs.Walks.{Walked}
 
 -- the parents of subtree j have indices from start on and below end
@@ -26,11 +26,10 @@ arrays_in g f = arrays_of g.subtrees.now g.weights.now f.first f.second
 abbrev pub frames_of_one : ℕ → ℕ → ℕ → Frames
 frames_of_one j start end = record { first = j; second = 0; start = start; end = end }
 
--- the uses of two states can be compared but for the frames
-abbrev pub ScannableIn : Setting → Frames → Type 0
-ScannableIn g f =
-    Scannable g.transitions.now g.count g.n g.subtrees.now.count g.subtrees.now.arities g.subtrees.now.children
-    f.first f.second f.start f.end
+-- the bounds of the frames hold
+abbrev pub FramesWithin : Setting → Frames → Type 0
+FramesWithin g f =
+    BothWithin g.subtrees.now.count g.subtrees.now.arities g.subtrees.now.children f.first f.second f.start f.end
 
 -- the definitions of Frames, Uses and Walks for a setting and frames
 abbrev pub in_slot_in : Setting → ℕ → ℕ → ℕ → Bool

@@ -6,19 +6,17 @@ use Rattle.automata.specs.Change.{subtrees}
 use Rattle.automata.specs.OpenStates.{pairs_of}
 use Rattle.automata.specs.Totals.{product_over}
 use Rattle.sorted.specs.Steps.{step_at}
-use Rattle.fields.specs.Fields.{HoldsTransitionsOver}
 use Rattle.format.specs.Format.{max_arity, max_nodes, transition_bytes}
 use Rattle.lists.specs.Positions.{up_from}
 use Rattle.lists.specs.Tests.{◌∈◌, every}
 use Rattle.packed.specs.declared.slots.Slot.{Slot}
-use Rattle.packed.specs.Packed.{Searchable}
 use Rattle.packed.specs.Slots.{SlotTakes}
 use Rattle.subtrees.specs.Parents.{ParentsWithin}
 use Rattle.subtrees.specs.Store.{Stored, tree_numbered}
 use Rattle.table.specs.Layout.{arg_of, arity_of, out_of, transitions_in}
 use Rattle.trees.specs.Context.{Frame}
 use Rattle.trees.specs.Tree.{Tree}
-use Rattle.uses.specs.Frames.{Nodes, frame_count}
+use Rattle.uses.specs.Frames.{frame_count}
 
 -- the arrays of m subtrees, the number of pairs of each state, and the two subtrees, the second 0 for none
 pub record Arrays : Type 0 where
@@ -97,12 +95,8 @@ pub record SlotUsed (a : Arrays) (s : List ℕ) (c p : ℕ) (z : Slot) : Type 0 
 
 -- ---- what is read
 
--- transitions over n states that can be searched, and m nodes; the parents of subtrees j and v have indices from
--- start on and below end
-pub record Scannable (s : List ℕ) (c n m : ℕ) (r h : List ℕ) (j v start end : ℕ) : Type 0 where
-  pub searchable : Searchable s c
-  pub over : HoldsTransitionsOver s c n
-  pub nodes : Nodes m r h
+-- the parents of subtrees j and v have indices from start on and below end
+pub record BothWithin (m : ℕ) (r h : List ℕ) (j v start end : ℕ) : Type 0 where
   pub first : ParentsWithin m r h j start end
   pub second : ParentsWithin m r h v start end
 

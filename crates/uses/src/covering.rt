@@ -5,7 +5,7 @@ ghost use Rattle.fields.specs.Fields.{Readable};
 ghost use Rattle.format.specs.Format.{max_arity};
 ghost use Rattle.table.specs.Layout.{arity_of};
 ghost use Rattle.uses.specs.Uses.{factor_at, product_at, product_cap};
-ghost use Rattle.uses.specs.Settings.{covered_in, ParentsFrom};
+ghost use Rattle.uses.specs.Settings.{covered_in, FramesWithin};
 
 use crate::frames::frame_count;
 use crate::setting::{Frames, Setting};
@@ -54,8 +54,7 @@ fn choices(transitions: &[u8], at: usize, k: usize, weights: &[u8; BYTE_VALUES])
 pub fn is_covered(setting: &Setting<'_>, at: usize, k: usize, frames: Frames) -> bool
     requires readable { Readable setting.now.transitions.now at }
     requires k_bound { k < arity_of setting.now.transitions.now at }
-    requires parents_within { ParentsFrom setting.now.subtrees.now frames.first frames.start frames.end }
-    requires parents_within_2 { ParentsFrom setting.now.subtrees.now frames.second frames.start frames.end }
+    requires framed { FramesWithin setting.now frames }
     ensures { result ≡ covered_in setting.now frames at k }
 {
     let found = frame_count(setting, at, k, frames);

@@ -7,7 +7,7 @@ ghost use Rattle.lists.specs.Tests.{any, bit, every};
 ghost use Rattle.subtrees.specs.Store.{child_at};
 ghost use Rattle.table.specs.Layout.{arity_of};
 ghost use Rattle.uses.specs.Frames.{same_child, same_sibling, twin};
-ghost use Rattle.uses.specs.Settings.{in_slot_in, frame_of_in, framed_in, frame_count_in, ParentsFrom};
+ghost use Rattle.uses.specs.Settings.{in_slot_in, frame_of_in, framed_in, frame_count_in, FramesWithin};
 
 use crate::setting::{Frames, Setting};
 use fields::{arg_of, arity_of, label_of};
@@ -183,8 +183,7 @@ fn framed_at(setting: &Setting<'_>, at: usize, k: usize, frames: Frames, i: usiz
 pub fn frame_count(setting: &Setting<'_>, at: usize, k: usize, frames: Frames) -> usize
     requires readable { Readable setting.now.transitions.now at }
     requires k_bound { k < arity_of setting.now.transitions.now at }
-    requires parents_within { ParentsFrom setting.now.subtrees.now frames.first frames.start frames.end }
-    requires parents_within_2 { ParentsFrom setting.now.subtrees.now frames.second frames.start frames.end }
+    requires framed { FramesWithin setting.now frames }
     ensures value { result ≡ frame_count_in setting.now frames at k }
     ensures upper_bound { result ≤ max_nodes }
 {

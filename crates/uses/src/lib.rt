@@ -18,7 +18,7 @@ ghost use Rattle.subtrees.specs.Store.{tree_numbered};
 ghost use Rattle.trees.specs.Context.{Frame};
 ghost use Rattle.trees.specs.Tree.{Tree};
 ghost use Rattle.uses.specs.Uses.{FramesOf};
-ghost use Rattle.uses.specs.Settings.{ScannableIn, ParentsFrom, HoldsIn};
+ghost use Rattle.uses.specs.Settings.{FramesWithin, ParentsFrom, HoldsIn};
 
 use format::wide;
 use scanning::{hint_agrees, transitions_agree};
@@ -31,7 +31,7 @@ use walking::walk_agrees;
 // is 0 for none. The last use of each is tried first, because most states that differ do so there. Then the uses are
 // walked in step. Only if the walk fails, each use is looked up.
 fn uses_agree(setting: &Setting<'_>, frames: Frames, p: u8, q: u8) -> bool
-    requires scannable { ScannableIn setting.now frames }
+    requires framed { FramesWithin setting.now frames }
     ensures { (A : Automaton) (t : Tree) (ts : List Tree) (F : List Frame) →
         HoldsIn A t ts setting.now → FramesOf t ts setting.now.subtrees.now.count frames.first frames.second F →
         result ≡ uses_agree A t F p q }

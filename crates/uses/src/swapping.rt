@@ -4,7 +4,7 @@ ghost use Rattle.sorted.specs.Steps.{step_at};
 ghost use Rattle.format.specs.Format.{max_arity, transition_bytes};
 ghost use Rattle.packed.specs.Packed.{meta_at, packed_at};
 ghost use Rattle.table.specs.Layout.{arg_of, arity_of};
-ghost use Rattle.uses.specs.Settings.{swap_agrees_in, place_agrees_in, ScannableIn};
+ghost use Rattle.uses.specs.Settings.{swap_agrees_in, place_agrees_in, FramesWithin};
 
 use crate::covering::is_covered;
 use crate::setting::{Frames, Setting};
@@ -61,7 +61,7 @@ fn swap_agrees(
     x: u8,
     y: u8,
 ) -> bool
-    requires scannable { ScannableIn setting.now frames }
+    requires framed { FramesWithin setting.now frames }
     requires i_lt_count { i < setting.now.count }
     requires k_bound { k < arity_of setting.now.transitions.now (transition_bytes * i) }
     requires meta_value { meta ≡ meta_at setting.now.transitions.now (transition_bytes * i) }
@@ -106,7 +106,7 @@ pub fn place_agrees(
     i: usize,
     k: usize,
 ) -> bool
-    requires scannable { ScannableIn setting.now frames }
+    requires framed { FramesWithin setting.now frames }
     requires i_lt_count { i < setting.now.count }
     requires k_bound { k < arity_of setting.now.transitions.now (transition_bytes * i) }
     requires meta_value { meta ≡ meta_at setting.now.transitions.now (transition_bytes * i) }

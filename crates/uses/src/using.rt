@@ -10,7 +10,7 @@ ghost use Rattle.subtrees.specs.Store.{tree_numbered};
 ghost use Rattle.table.specs.Layout.{arg_of, arity_of, out_of};
 ghost use Rattle.trees.specs.Tree.{Tree};
 ghost use Rattle.uses.specs.Uses.{SlotUsed};
-ghost use Rattle.uses.specs.Settings.{ScannableIn, ParentsFrom, HoldsIn, arrays_of, frames_of_one};
+ghost use Rattle.uses.specs.Settings.{FramesWithin, ParentsFrom, HoldsIn, arrays_of, frames_of_one};
 
 use crate::covering::is_covered;
 use crate::setting::{Frames, Setting};
@@ -52,7 +52,7 @@ fn place_slot(
     i: usize,
     k: usize,
 ) -> Option<Slot>
-    requires scannable { ScannableIn setting.now (frames_of_one j start end) }
+    requires framed { FramesWithin setting.now (frames_of_one j start end) }
     requires i_lt_count { i < setting.now.count }
     requires k_bound { k < arity_of setting.now.transitions.now (transition_bytes * i) }
     ensures { IfSome result (SlotUsed (arrays_of setting.now.subtrees.now setting.now.weights.now j 0)
@@ -87,7 +87,7 @@ fn transition_slot(
     p: u8,
     i: usize,
 ) -> Option<Slot>
-    requires scannable { ScannableIn setting.now (frames_of_one j start end) }
+    requires framed { FramesWithin setting.now (frames_of_one j start end) }
     requires i_lt_count { i < setting.now.count }
     ensures { IfSome result (SlotUsed (arrays_of setting.now.subtrees.now setting.now.weights.now j 0)
         setting.now.transitions.now setting.now.count p) }

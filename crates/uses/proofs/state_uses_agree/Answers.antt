@@ -8,10 +8,7 @@ use Rattle.uses.proofs.state_uses_agree.Goals as goal
 
 pub uses_agree-requires : goal.uses_agree-requires
 uses_agree-requires c = record {
-  scannable = record {
-    searchable = c.args.setting.now.searchable;
-    over = c.args.setting.now.over;
-    nodes = shaped-nodes c.args.setting.now.shaped;
+  framed = record {
     first = c.requires.parents_within;
     second = no-parents (shaped-nodes c.args.setting.now.shaped) c.requires.parents_within;
   };

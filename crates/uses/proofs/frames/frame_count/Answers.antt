@@ -6,7 +6,7 @@ use Rattle.uses.proofs.frames.frame_count.Goals as goal
 pub loop-i-init : goal.loop-i-init
 loop-i-init c =
     frames-start c.args.setting.now.transitions.now c.args.at c.args.k c.args.setting.now.subtrees.now.labels c.args.setting.now.subtrees.now.arities c.args.setting.now.subtrees.now.children
-    c.args.setting.now.subtrees.now.states c.args.setting.now.subtrees.now.count c.args.frames.first c.args.frames.second c.requires.k_bound c.requires.parents_within c.requires.parents_within_2
+    c.args.setting.now.subtrees.now.states c.args.setting.now.subtrees.now.count c.args.frames.first c.args.frames.second c.requires.k_bound c.requires.framed.first c.requires.framed.second
 
 pub framed_at-found-requires : goal.framed_at-found-requires
 framed_at-found-requires c = record {
@@ -14,7 +14,7 @@ framed_at-found-requires c = record {
   k_lt_max_arity = omega (arith, c.requires.readable.narrow, c.requires.k_bound);
   i_lt_m = omega (
     arith,
-    c.requires.parents_within.known,
+    c.requires.framed.first.known,
     c.loop-i-test.true,
   );
 }
@@ -25,7 +25,7 @@ overflow_add-found c =
       arith,
       h,
       c.args.setting.now.shaped.few,
-      c.requires.parents_within.known,
+      c.requires.framed.first.known,
       c.loop-i-test.true,
     )
 
@@ -33,13 +33,13 @@ pub loop-i-preserved : goal.loop-i-preserved
 loop-i-preserved c =
     count_next c.loop-i.invariant (omega (
       arith,
-      c.requires.parents_within.known,
+      c.requires.framed.first.known,
       c.loop-i-test.true,
     )) c.framed_at-found.ensures
 
 pub returns : goal.returns
 returns c = record {
   value = frames-end c.args.setting.now.transitions.now c.args.at c.args.k c.args.setting.now.subtrees.now.labels c.args.setting.now.subtrees.now.arities c.args.setting.now.subtrees.now.children
-      c.args.setting.now.subtrees.now.states c.args.setting.now.subtrees.now.count c.args.frames.first c.args.frames.second c.requires.k_bound c.requires.parents_within c.requires.parents_within_2 c.loop-i.invariant c.loop-i-test.false;
+      c.args.setting.now.subtrees.now.states c.args.setting.now.subtrees.now.count c.args.frames.first c.args.frames.second c.requires.k_bound c.requires.framed.first c.requires.framed.second c.loop-i.invariant c.loop-i-test.false;
   upper_bound = omega (arith, c.loop-i.invariant.within, c.args.setting.now.shaped.few);
 }

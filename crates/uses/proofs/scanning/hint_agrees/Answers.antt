@@ -11,7 +11,7 @@ returns-then-number-eq0 c =
 
 pub transition_agrees-requires : goal.transition_agrees-requires
 transition_agrees-requires c = record {
-  scannable = c.requires.scannable;
+  framed = c.requires.framed;
   i_lt_count = omega (arith, c.args.setting.now.uses.known c.args.x, c.entry-number.ensures, c.if-number-eq0.false);
 }
 

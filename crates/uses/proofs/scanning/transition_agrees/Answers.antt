@@ -11,7 +11,7 @@ loop-k-init c =
 
 pub place_agrees-requires : goal.place_agrees-requires
 place_agrees-requires c = record {
-  scannable = c.requires.scannable;
+  framed = c.requires.framed;
   i_lt_count = c.requires.i_lt_count;
   k_bound = omega (arith, c.arity_of-arity.ensures, c.loop-k-test.true);
   meta_value = c.meta_at-meta.ensures;

@@ -14,7 +14,7 @@ pub unused_or_agrees-requires : goal.unused_or_agrees-requires
 unused_or_agrees-requires c =
     let last = c.max-to.ensures ∙ ap₂ max c.entry-3.ensures c.entry-4.ensures in
     record {
-      scannable = c.requires.scannable;
+      framed = c.requires.framed;
       i_lt_count = omega (arith, c.args.setting.now.uses.known c.args.p, c.args.setting.now.uses.known c.args.q, last, c.loop-i-test.true);
     }
 

@@ -10,7 +10,7 @@ use Rattle.uses.proofs.swapping.place_agrees.Goals as goal
 
 pub arg_of-arg-requires : goal.arg_of-arg-requires
 arg_of-arg-requires c =
-    let r = readable c.requires.scannable.over.runs c.args.i c.requires.i_lt_count in
+    let r = readable c.args.setting.now.over.runs c.args.i c.requires.i_lt_count in
     record {
       transition_bytes_in_bounds = r.inside;
       k_lt_max_arity = omega (arith, r.narrow, c.requires.k_bound);
@@ -28,7 +28,7 @@ swap_agrees-requires c =
     let own = own-either arg.result c.args.p c.args.q none c.either-x.ensures
     ∙ arg.ensures.value in
     record {
-      scannable = c.requires.scannable;
+      framed = c.requires.framed;
       i_lt_count = c.requires.i_lt_count;
       k_bound = c.requires.k_bound;
       meta_value = c.requires.meta_value;

@@ -22,10 +22,9 @@ returns-then-out-out_of c =
 
 pub is_covered-requires : goal.is_covered-requires
 is_covered-requires c = record {
-  readable = readable c.requires.scannable.over.runs c.args.i c.requires.i_lt_count;
+  readable = readable c.args.setting.now.over.runs c.args.i c.requires.i_lt_count;
   k_bound = c.requires.k_bound;
-  parents_within = c.requires.scannable.first;
-  parents_within_2 = c.requires.scannable.second;
+  framed = c.requires.framed;
 }
 
 pub returns : goal.returns

@@ -8,7 +8,7 @@ use Rattle.uses.proofs.using.place_slot.Goals as goal
 
 pub arg_of-requires : goal.arg_of-requires
 arg_of-requires c =
-    let r = readable c.requires.scannable.over.runs c.args.i c.requires.i_lt_count in
+    let r = readable c.args.setting.now.over.runs c.args.i c.requires.i_lt_count in
     record {
       transition_bytes_in_bounds = r.inside;
       k_lt_max_arity = omega
@@ -17,16 +17,15 @@ arg_of-requires c =
 
 pub is_covered-requires : goal.is_covered-requires
 is_covered-requires c = record {
-  readable = readable c.requires.scannable.over.runs c.args.i
+  readable = readable c.args.setting.now.over.runs c.args.i
       c.requires.i_lt_count;
   k_bound = c.requires.k_bound;
-  parents_within = c.requires.scannable.first;
-  parents_within_2 = c.requires.scannable.second;
+  framed = c.requires.framed;
 }
 
 pub returns : goal.returns
 returns c =
-    used-slot (arrays_of c.args.setting.now.subtrees.now c.args.setting.now.weights.now c.args.j 0) c.requires.scannable.searchable c.requires.scannable.over c.args.i c.args.k c.requires.i_lt_count c.requires.k_bound (sym
+    used-slot (arrays_of c.args.setting.now.subtrees.now c.args.setting.now.weights.now c.args.j 0) c.args.setting.now.searchable c.args.setting.now.over c.args.i c.args.k c.requires.i_lt_count c.requires.k_bound (sym
     c.wide.ensures ∙ sym c.if-arg_of-wide.false
     ∙ c.arg_of.ensures.value) (sym c.is_covered.ensures
     ∙ c.if-is_covered.false) c.slot_at.result c.slot_at.ensures.meta_value c.slot_at.ensures.args_value c.slot_at.ensures.place_value c.slot_at.ensures.out_value

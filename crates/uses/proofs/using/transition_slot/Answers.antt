@@ -3,7 +3,7 @@ use Rattle.uses.proofs.using.transition_slot.Goals as goal
 
 pub place_slot-requires : goal.place_slot-requires
 place_slot-requires c = record {
-  scannable = c.requires.scannable;
+  framed = c.requires.framed;
   i_lt_count = c.requires.i_lt_count;
   k_bound = omega (
     arith,

@@ -12,10 +12,7 @@ use Rattle.uses.proofs.using.use_slot.Goals as goal
 
 pub transition_slot-requires : goal.transition_slot-requires
 transition_slot-requires c = record {
-  scannable = record {
-    searchable = c.args.setting.now.searchable;
-    over = c.args.setting.now.over;
-    nodes = shaped-nodes c.args.setting.now.shaped;
+  framed = record {
     first = c.requires.parents_within;
     second = no-parents (shaped-nodes c.args.setting.now.shaped) c.requires.parents_within;
   };

@@ -27,7 +27,7 @@ pub step-requires : goal.step-requires
 step-requires c =
     let z = c.loop-i.invariant in
     record {
-      scannable = c.requires.scannable;
+      framed = c.requires.framed;
       walkable = c.requires.walkable;
       at_use = z.first;
       at_use_2 = z.second;

@@ -71,7 +71,7 @@ returns-then-pair_agrees c = step-pair (c.pair_agrees.ensures c.if-pair_agrees.t
 
 pub use_covered-requires : goal.use_covered-requires
 use_covered-requires c = record {
-  scannable = c.requires.scannable;
+  framed = c.requires.framed;
   to_le_count = c.requires.walkable.inside;
   k_bound = λ h. use-place c.args.setting.now.transitions.now (transition_bytes * c.args.i) c.args.k c.args.p
       (c.requires.walkable.searchable.padded.each c.args.i (omega (arith, c.requires.walkable.inside))) c.requires.walkable.place c.requires.walkable.first_some
@@ -84,7 +84,7 @@ returns-then-use_covered c =
 
 pub use_covered-requires-2 : goal.use_covered-requires-2
 use_covered-requires-2 c = record {
-  scannable = c.requires.scannable;
+  framed = c.requires.framed;
   to_le_count = c.requires.walkable.inside;
   k_bound = λ h. use-place c.args.setting.now.transitions.now (transition_bytes * c.args.x) c.args.k c.args.q
       (c.requires.walkable.searchable.padded.each c.args.x (omega (arith, c.requires.walkable.inside))) c.requires.walkable.place c.requires.walkable.second-some

@@ -12,10 +12,9 @@ pub is_covered-requires : goal.is_covered-requires
 is_covered-requires c =
     let h = c.if-i-to.false in
     record {
-      readable = readable c.requires.scannable.over.runs c.args.i (omega (arith, c.requires.to_le_count));
+      readable = readable c.args.setting.now.over.runs c.args.i (omega (arith, c.requires.to_le_count));
       k_bound = c.requires.k_bound (omega arith);
-      parents_within = c.requires.scannable.first;
-      parents_within_2 = c.requires.scannable.second;
+      framed = c.requires.framed;
     }
 
 pub returns : goal.returns

@@ -30,15 +30,15 @@ place_agrees_in_step-requires c =
     let first = c.min.ensures ∙ ap₂ min c.entry-3.ensures c.entry-4.ensures in
     let k = c.loop-k.k in
     let w : Walkable c.args.setting.now.transitions.now c.args.setting.now.count c.args.setting.now.n k c.args.p c.args.q c.max-to.result = record {
-      searchable = c.requires.scannable.searchable;
-      over = c.requires.scannable.over;
+      searchable = c.args.setting.now.searchable;
+      over = c.args.setting.now.over;
       inside = omega (arith, last, c.args.setting.now.uses.known c.args.p, c.args.setting.now.uses.known c.args.q);
       place = omega (arith, c.width-places.ensures.upper_bound, c.loop-k-test.true);
       first_some = omega (arith, c.if-p-eq0.false);
       second-some = omega (arith, c.if-q-eq0.false);
     } in
     record {
-      scannable = c.requires.scannable;
+      framed = c.requires.framed;
       walkable = w;
       from_le_to = omega (arith, c.min-from.ensures);
       walked = walked-before c.args.setting.now.uses (arrays_in c.args.setting.now c.args.frames) w c.min-from.result (omega (arith, c.min-from.ensures))
