@@ -21,8 +21,9 @@ use Rattle.answering.specs.Serials.{buffer_refusal, numbered, response_of}
 use Rattle.table.specs.Intake.{content_conditions, length_condition, table_refusal}
 use Rattle.table.specs.Layout.{decode}
 use Rattle.totals.specs.Limited.{total_of}
-use Rattle.totals.specs.declared.limited.Total.{Total}
-use Rattle.totals.specs.declared.limited.Total.TheVariants.{Number, Over}
+use Rattle.std.specs.declared.option.Option.{Option}
+use Rattle.std.specs.declared.option.Option.TheVariants.{None, Some}
+use Rattle.totals.proofs.Limits.{total-fits, total-none, total-some}
 use Rattle.trees.specs.Listing.{read_tree}
 use Rattle.trees.specs.Tree.{Tree}
 use Rattle.calls.proofs.Conditions.{table-from-one}
@@ -31,27 +32,12 @@ use Rattle.answering.proofs.Reading.{refused-or}
 
 -- ---- the total as crate totals has it
 
-abbrev Says : ℕ → Total → Type 0
-Says n (Number v) = (n < number_limit) × (v ≡ n)
-Says n Over = number_limit ≤ n
-
-says-itself : (n : ℕ) → Says n (total_of n)
-unfolding total_of
-says-itself n = go (ltb n number_limit) refl
-  where
-    go : (b : Bool) → ltb n number_limit ≡ b → Says n (cond b (Number n) Over)
-    go true e = (ltb-true n number_limit e, refl)
-    go false e = omega (arith, ltb-false n number_limit e)
-
-says : (n : ℕ) (x y : Total) → x ≡ total_of n → x ≡ y → Says n y
-says n x y e d = subst (Says n) (sym e ∙ d) (says-itself n)
-
 -- the number is the total, and fits
-pub total-number : (n v : ℕ) {x : Total} → x ≡ total_of n → x ≡ Number v → (n < number_limit) × (v ≡ n)
-total-number n v {x} e d = says n x (Number v) e d
+pub total-number : (n : ℕ) {v : ℕ} {x : Option ℕ} → x ≡ total_of n → x ≡ Some v → (n < number_limit) × (v ≡ n)
+total-number n e d = (total-fits n (sym d ∙ e), total-some n (sym d ∙ e))
 
-pub total-over : (n : ℕ) {x : Total} → x ≡ total_of n → x ≡ Over → number_limit ≤ n
-total-over n {x} e d = says n x Over e d
+pub total-over : (n : ℕ) {x : Option ℕ} → x ≡ total_of n → x ≡ None → number_limit ≤ n
+total-over n e d = total-none n (sym d ∙ e)
 
 -- ---- tree to number
 

@@ -14,20 +14,20 @@ use Rattle.format.specs.Format.{number_limit}
 use Rattle.table.specs.Intake.{table_refusal}
 use Rattle.table.specs.Layout.{decode}
 use Rattle.totals.specs.Limited.{total_of}
-use Rattle.totals.specs.declared.limited.Total.{Total}
-use Rattle.totals.specs.declared.limited.Total.TheVariants.{Number, Over}
+use Rattle.std.specs.declared.option.Option.{Option}
+use Rattle.std.specs.declared.option.Option.TheVariants.{None, Some}
 use Rattle.answering.proofs.Reading.{refused-or}
 
 -- the answer for a number of trees, as crate totals has it
-abbrev from_total : Total → Answer
-from_total (Number n) = Counted n
-from_total Over = TooMany
+abbrev from_total : Option ℕ → Answer
+from_total (Some n) = Counted n
+from_total None = TooMany
 
 from-total : (n : ℕ) → from_total (total_of n) ≡ totalled n
 unfolding total_of totalled
 from-total n = go (ltb n number_limit)
   where
-    go : (b : Bool) → from_total (cond b (Number n) Over) ≡ cond b (Counted n) TooMany
+    go : (b : Bool) → from_total (cond b (Some n) None) ≡ cond b (Counted n) TooMany
     go true = refl
     go false = refl
 
@@ -35,8 +35,8 @@ pub total-refused : (b : List ℕ) {r : ℕ} → r ≡ table_refusal b → r ≢
 unfolding total_answer
 total-refused b {r} e n = ap Refused e ∙ sym (refused-or (table_refusal b) _ (λ d. n (e ∙ d)))
 
-pub total-answered : (b : List ℕ) {r : ℕ} → r ≡ table_refusal b → r ≡ 0 → {x : Total} → x ≡ total_of (total (decode b)) →
-    (y : Total) → x ≡ y → from_total y ≡ total_answer b
+pub total-answered : (b : List ℕ) {r : ℕ} → r ≡ table_refusal b → r ≡ 0 → {x : Option ℕ} → x ≡ total_of (total (decode b)) →
+    (y : Option ℕ) → x ≡ y → from_total y ≡ total_answer b
 unfolding total_answer
 total-answered b e z f y d =
     rw (eq-eqb (table_refusal b) 0 (sym e ∙ z)) (ap from_total (sym d ∙ f) ∙ from-total (total (decode b)))

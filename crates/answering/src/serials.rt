@@ -26,9 +26,9 @@ fn serial(tree: &[u8], table: &[u8], reached: &[u8; MAX_NODES]) -> Answer
     ensures { result ≡ ranked (decode table.now) (read_tree tree.now) }
 {
     let numbers = state_numbers(table);
-    if total_of(table, &numbers).is_none() {
+    let Some(_) = total_of(table, &numbers) else {
         return Answer::from(Refusal::TotalOver);
-    }
+    };
     Answer::Serial {
         number: ranks::rank(tree, reached, table, &numbers),
     }

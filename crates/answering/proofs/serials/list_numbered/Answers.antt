@@ -8,19 +8,20 @@ use Rattle.answering.proofs.serials.list_numbered.Goals as goal
 pub returns-in_default : goal.returns-in_default
 returns-in_default c =
     let A = decode c.args.table.now in
-    numbered-over c.args.number A c.args.listing.now
-    (total-over (total A) c.total_of.ensures c.in_default.is)
+    rw c.from.ensures (numbered-over c.args.number A c.args.listing.now
+    (total-over (total A) c.total_of.ensures c.in_default.is))
 
 pub returns-then-number-value : goal.returns-then-number-value
 returns-then-number-value c =
     let A = decode c.args.table.now in
-    let n = total-number (total A) _ c.total_of.ensures c.in-Number.is in
-    numbered-beyond c.args.number A c.args.listing.now n.0 (omega (arith, n.1, c.if-number-value.true))
+    let n = total-number (total A) c.total_of.ensures c.in-Some.is in
+    rw c.from-then-number-value.ensures
+    (numbered-beyond c.args.number A c.args.listing.now n.0 (omega (arith, n.1, c.if-number-value.true)))
 
 pub unrank-requires : goal.unrank-requires
 unrank-requires c =
     let A = decode c.args.table.now in
-    let n = total-number (total A) _ c.total_of.ensures c.in-Number.is in
+    let n = total-number (total A) c.total_of.ensures c.in-Some.is in
     record {
       table_value = c.requires.table_value;
       numbers_of = c.state_numbers-numbers.ensures;
@@ -32,13 +33,13 @@ unrank-requires c =
 pub returns-then-unrank : goal.returns-then-unrank
 returns-then-unrank c =
     let A = decode c.args.table.now in
-    let n = total-number (total A) _ c.total_of.ensures c.in-Number.is in
+    let n = total-number (total A) c.total_of.ensures c.in-Some.is in
     numbered-listed c.args.number A c.args.listing.now n.0 (omega (arith, n.1, c.if-number-value.false))
     c.unrank.ensures.value _ c.unrank.ensures.listing_after c.if-unrank.true
 
 pub returns : goal.returns
 returns c =
     let A = decode c.args.table.now in
-    let n = total-number (total A) _ c.total_of.ensures c.in-Number.is in
-    numbered-large c.args.number A c.args.listing.now n.0 (omega (arith, n.1, c.if-number-value.false))
-    c.unrank.ensures.value _ c.unrank.ensures.listing_after c.if-unrank.false
+    let n = total-number (total A) c.total_of.ensures c.in-Some.is in
+    rw c.from-2.ensures (numbered-large c.args.number A c.args.listing.now n.0 (omega (arith, n.1, c.if-number-value.false))
+    c.unrank.ensures.value _ c.unrank.ensures.listing_after c.if-unrank.false)

@@ -1,4 +1,5 @@
 -- `answering::serials::serial` meets its contract: 18 if the total is over, else the number of the tree.
+use mathlib.Core.Path.{◌∙◌}
 use Rattle.automata.specs.Totals.{total}
 use Rattle.table.specs.Layout.{decode}
 use Rattle.trees.specs.Listing.{read_tree}
@@ -8,13 +9,13 @@ use Rattle.answering.proofs.serials.serial.Goals as goal
 pub returns-in_default : goal.returns-in_default
 returns-in_default c =
     let A = decode c.args.table.now in
-    ranked-over A (read_tree c.args.tree.now) c.requires.tree_value_2
+    c.from.ensures ∙ ranked-over A (read_tree c.args.tree.now) c.requires.tree_value_2
     (total-over (total A) c.total_of.ensures c.in_default.is)
 
 pub rank-requires : goal.rank-requires
 rank-requires c =
     let A = decode c.args.table.now in
-    let fits = (total-number (total A) _ c.total_of.ensures c.in-Number.is).0 in
+    let fits = (total-number (total A) c.total_of.ensures c.in-Some.is).0 in
     record {
       tree_value = c.requires.tree_value;
       table_value = c.requires.table_value;
@@ -27,5 +28,5 @@ rank-requires c =
 pub returns : goal.returns
 returns c =
     let A = decode c.args.table.now in
-    let fits = (total-number (total A) _ c.total_of.ensures c.in-Number.is).0 in
+    let fits = (total-number (total A) c.total_of.ensures c.in-Some.is).0 in
     ranked-number A (read_tree c.args.tree.now) c.requires.tree_value_2 fits c.rank.ensures

@@ -1,7 +1,7 @@
 -- `answering::serials::buffer_refusal` meets its contract: the lengths, then the table's content.
 use native.Mathlib.Omega.{arith}
 use Rattle.answering.proofs.Numbering.{buffer-5, buffer-6, buffer-content}
-use Rattle.answering.proofs.serials.buffer_refusal.Goals as goal
+use Rattle.answering.proofs.serials.check_buffer.Goals as goal
 
 pub returns-then-table-ne-TABLE_BYTES : goal.returns-then-table-ne-TABLE_BYTES
 returns-then-table-ne-TABLE_BYTES c =
@@ -14,4 +14,4 @@ returns-then-listing-ne-MAX_LISTING c =
 pub returns : goal.returns
 returns c =
     buffer-content c.args.table.now c.args.listing.now c.if-table-ne-TABLE_BYTES.false
-    (omega arith) c.content_refusal.ensures
+    (omega arith) c.check_content.ensures
