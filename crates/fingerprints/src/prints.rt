@@ -8,7 +8,7 @@ ghost use Rattle.fingerprints.specs.Fingerprints.{gain, gains, only};
 
 use crate::values::{salt, scaled, value, xor_args};
 use fields::{arg_of, arity_of, label_of, out_of};
-use format::{BYTE_VALUES, TRANSITION_BYTES, widened};
+use format::{BYTE_VALUES, TRANSITION_BYTES};
 
 // State q gains v.
 fn add(prints: &mut [usize; BYTE_VALUES], q: usize, v: usize)
@@ -35,7 +35,7 @@ fn add_uses(
     ensures { Gained (gain (nth_transition transitions.now i) x) prints.old prints.new }
 {
     let arity = arity_of(transitions, TRANSITION_BYTES * i);
-    let s = salt(widened(label_of(transitions, TRANSITION_BYTES * i)), x);
+    let s = salt(usize::from(label_of(transitions, TRANSITION_BYTES * i)), x);
     let all = xor_args(transitions, TRANSITION_BYTES * i, s);
     for k in 0..arity {
         let q = arg_of(transitions, TRANSITION_BYTES * i, k);

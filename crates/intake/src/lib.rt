@@ -18,7 +18,7 @@ ghost use Rattle.validity.specs.Ranks.{climbing};
 
 use fields::transition_count;
 use fingerprints::settled;
-use format::{HEAD_BYTES, Refusal, TABLE_BYTES, wide};
+use format::{HEAD_BYTES, Refusal, TABLE_BYTES};
 use packed::{layout_fits, rises};
 use partition::all_apart;
 use validity::{acyclic, all_accessible, all_coaccessible, ranks_show, ruled};
@@ -117,7 +117,7 @@ pub fn check_content(table: &[u8]) -> Result<(), Refusal>
     if !rises(&table[HEAD_BYTES..], count) {
         return Err(Refusal::Order);
     }
-    let n = wide(table[0]);
+    let n = usize::from(table[0]);
     check_automaton(table, &table[HEAD_BYTES..], count, n)
 }
 

@@ -10,9 +10,7 @@ ghost use Rattle.packed.specs.Places.{arg_empty, arg_in_range, at_most};
 
 use crate::args_at;
 use fields::{arg_of, arity_of, label_of, out_of, transition_count};
-use format::{
-    COUNT_AT, HEAD_BYTES, MAX_ARITY, MAX_STATES, MAX_TRANSITIONS, TRANSITION_BYTES, wide,
-};
+use format::{COUNT_AT, HEAD_BYTES, MAX_ARITY, MAX_STATES, MAX_TRANSITIONS, TRANSITION_BYTES};
 
 // Whether the bytes from `from` on and below `end` are at most a bound. No early exit, so the loop vectorises. On
 // small tables nearly all bytes are checked here.
@@ -121,7 +119,7 @@ pub fn layout_fits(table: &[u8]) -> bool
     requires { length table.now ≡ table_bytes }
     ensures { result ≡ layout_fits table.now }
 {
-    let states = wide(table[0]);
+    let states = usize::from(table[0]);
     if states > MAX_STATES {
         return false;
     }

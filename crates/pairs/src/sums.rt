@@ -8,7 +8,7 @@ ghost use Rattle.table.specs.Layout.{out_of, transitions_in};
 ghost use Rattle.pairs.specs.Counts.{Raised, SumsInto, entry, product_at, product_cap, sum_cap, zeros};
 
 use fields::{arg_of, arity_of, out_of};
-use format::{BYTE_VALUES, MAX_PRODUCT, TRANSITION_BYTES, wide};
+use format::{BYTE_VALUES, MAX_PRODUCT, TRANSITION_BYTES};
 
 const SUM_CAP: usize = 255;
 
@@ -17,7 +17,7 @@ pub fn index(x: u8) -> usize
     ensures value { result ≡ x }
     ensures upper_bound { result < byte_values }
 {
-    wide(x)
+    usize::from(x)
 }
 
 // A product, at most one more than condition 16 allows.
@@ -76,7 +76,7 @@ fn raised(sum: u8, more: usize) -> u8
     requires { more ≤ product_cap }
     ensures { result ≡ min sum_cap (sum + more) }
 {
-    (wide(sum) + more).min(SUM_CAP) as u8
+    (usize::from(sum) + more).min(SUM_CAP) as u8
 }
 
 // Adds the product of the transition that starts at a byte to the sum of its output. Outputs whose number is 0 are

@@ -4,7 +4,7 @@ ghost use Rattle.format.specs.Format.{byte_values};
 ghost use Rattle.partition.specs.Parts.{Grouped};
 ghost use Rattle.partition.specs.Splits.{LeastOf, LedBelow, Regrouped, Settled, is_same, key_of};
 
-use format::{BYTE_VALUES, wide};
+use format::BYTE_VALUES;
 
 // Whether p is of q's part and has q's key.
 fn is_same(keys: &[usize; BYTE_VALUES], parts: &[u8; BYTE_VALUES], q: usize, p: usize) -> bool
@@ -21,7 +21,7 @@ fn first_same(keys: &[usize; BYTE_VALUES], parts: &[u8; BYTE_VALUES], q: usize) 
     requires q_bound { q ≤ 255 }
     ensures { LeastOf parts.now (key_of keys.now) q result }
 {
-    for p in wide(parts[q])..q {
+    for p in usize::from(parts[q])..q {
         if is_same(keys, parts, q, p) {
             return p;
         }
@@ -36,7 +36,7 @@ fn settle(keys: &[usize; BYTE_VALUES], parts: &mut [u8; BYTE_VALUES], q: usize) 
     requires q_bound { q ≤ 255 }
     ensures { Settled (key_of keys.now) q parts.old parts.new result }
 {
-    if keys[q] == keys[wide(parts[q])] {
+    if keys[q] == keys[usize::from(parts[q])] {
         return false;
     }
     let first = first_same(keys, parts, q);

@@ -17,7 +17,7 @@ ghost use Rattle.partition.specs.Splits.{ByClass};
 ghost use Rattle.table.specs.Layout.{transitions_in};
 
 use fingerprints::class_prints;
-use format::{BYTE_VALUES, wide};
+use format::BYTE_VALUES;
 use grouping::regroup;
 use repairing::repair;
 
@@ -49,7 +49,7 @@ fn all_lead(n: usize, parts: &[u8; BYTE_VALUES]) -> bool
     ensures { result ≡ all_lead parts.now n }
 {
     for q in 1..n + 1 {
-        if wide(parts[q]) != q {
+        if usize::from(parts[q]) != q {
             return false;
         }
     }

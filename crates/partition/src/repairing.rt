@@ -10,7 +10,7 @@ ghost use Rattle.table.specs.Layout.{arg_of, arity_of, out_of};
 
 use crate::grouping::regroup;
 use fields::{arg_of, arity_of, out_of};
-use format::{BYTE_VALUES, TRANSITION_BYTES, wide};
+use format::{BYTE_VALUES, TRANSITION_BYTES};
 use marking::sweep;
 use sorted::stepped;
 
@@ -21,7 +21,7 @@ fn note_mate(parts: &[u8; BYTE_VALUES], q: usize, mated: &mut [u8; BYTE_VALUES])
     requires q_bound_2 { part_of parts.now q ≤ q }
     ensures { Noted q parts.now mated.old mated.new }
 {
-    let lead = wide(parts[q]);
+    let lead = usize::from(parts[q]);
     if lead == q {
         return;
     }
@@ -62,7 +62,7 @@ fn part_to(
     if arg_of(transitions, TRANSITION_BYTES * i, k) == q {
         return parts[out_of(transitions, TRANSITION_BYTES * i)];
     }
-    parts[wide(stepped(transitions, count, n, i, k, q as u8))]
+    parts[usize::from(stepped(transitions, count, n, i, k, q as u8))]
 }
 
 // The same for a state of this leader's part, 0 for others.
@@ -84,10 +84,10 @@ fn part_key(
     requires q_bound { q ≤ 255 }
     ensures { result ≡ part_key transitions.now count parts.now i k lead q }
 {
-    if wide(parts[q]) != lead {
+    if usize::from(parts[q]) != lead {
         return 0;
     }
-    wide(part_to(transitions, count, n, i, k, q, parts))
+    usize::from(part_to(transitions, count, n, i, k, q, parts))
 }
 
 // The keys of the states 0 to n: all are known before one state moves.
@@ -164,7 +164,7 @@ fn repair_at(
     if mated[a] == 0 {
         return false;
     }
-    let lead = wide(parts[a]);
+    let lead = usize::from(parts[a]);
     if leader_agrees(transitions, count, n, i, k, lead, parts) {
         return false;
     }

@@ -14,7 +14,7 @@ ghost use Rattle.subtrees.specs.Steps.{Children, ChildrenStored, Entered, Filled
 ghost use Rattle.subtrees.specs.Steps.{same_child, same_node};
 ghost use Rattle.subtrees.specs.Store.{Held, Lists, Stored, arrays, bottom_up, trees_numbered};
 
-use format::{MAX_ARITY, MAX_NODES, NODE_BYTES, wide};
+use format::{MAX_ARITY, MAX_NODES, NODE_BYTES};
 use listing::{children_at, label_at};
 
 pub const CHILD_NUMBERS: usize = MAX_NODES * MAX_ARITY;
@@ -75,7 +75,7 @@ fn same_node(subtrees: &Subtrees, j: usize, label: u16, arity: u8, numbers: [u8;
     if subtrees.arities[j] != arity {
         return false;
     }
-    same_children(&subtrees.children, j, wide(arity), numbers)
+    same_children(&subtrees.children, j, usize::from(arity), numbers)
 }
 
 // The index of the subtree with this label and these children.
@@ -144,7 +144,7 @@ pub fn collect(tree: &[u8], reached: &[u8; MAX_NODES], subtrees: &mut Subtrees)
     for i in (0..tree.len() / NODE_BYTES).rev() {
         let label = label_at(tree, i);
         let arity = children_at(tree, i);
-        let width = wide(arity);
+        let width = usize::from(arity);
         let numbers = popped(&stack, top, width);
         let number = enter(subtrees, label, arity, numbers, reached[i]);
         top = top + width - 1;

@@ -21,7 +21,7 @@ ghost use Rattle.totals.specs.Limited.{total_of};
 ghost use Rattle.totals.specs.Numbers.{NumbersOf, number_in};
 
 use fields::transition_count;
-use format::{BYTE_VALUES, HEAD_BYTES, wide};
+use format::{BYTE_VALUES, HEAD_BYTES};
 pub use limited::{plus, times};
 pub use numbers::Numbers;
 use numbers::same;
@@ -76,7 +76,7 @@ pub fn state_numbers(table: &[u8]) -> Numbers
     ensures { NumbersOf (decode table.now) result }
 {
     let count = transition_count(table);
-    let n = wide(table[0]);
+    let n = usize::from(table[0]);
     numbers_of(&table[HEAD_BYTES..], count, n)
 }
 
@@ -86,7 +86,7 @@ pub fn total_of(table: &[u8], numbers: &Numbers) -> Option<u64>
     requires numbers_of { NumbersOf (decode table.now) numbers.now }
     ensures { result ≡ total_of (total (decode table.now)) }
 {
-    let n = wide(table[0]);
+    let n = usize::from(table[0]);
     sum_accepting(table, n, numbers)
 }
 

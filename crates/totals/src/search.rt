@@ -8,7 +8,7 @@ use crate::limited::plus;
 use crate::numbers::Numbers;
 use crate::rounds::product;
 use fields::out_of;
-use format::{BYTE_VALUES, MAX_TRANSITIONS, TRANSITION_BYTES, widened};
+use format::{BYTE_VALUES, MAX_TRANSITIONS, TRANSITION_BYTES};
 
 pub const LINKS: usize = BYTE_VALUES + MAX_TRANSITIONS;
 
@@ -30,7 +30,7 @@ pub fn link(transitions: &[u8], count: usize, links: &mut [u16; LINKS])
 fn linked(link: u16, bound: usize) -> Option<usize>
     ensures { IfSome result (λ i. i < bound) }
 {
-    let i = widened(link).checked_sub(1)?;
+    let i = usize::from(link).checked_sub(1)?;
     if i < bound { Some(i) } else { None }
 }
 

@@ -15,7 +15,7 @@ ghost use Rattle.validity.specs.Rules.{NumbersRead, Spans};
 
 use crate::marks::all_marked;
 use fields::{arg_of, out_of};
-use format::{BYTE_VALUES, MAX_ARITY, TRANSITION_BYTES, wide};
+use format::{BYTE_VALUES, MAX_ARITY, TRANSITION_BYTES};
 
 // What one pass says of a table: whether its states are numbered by the rule, and whether every output is above its
 // arguments.
@@ -66,7 +66,7 @@ pub fn all_seen(seen: &[u8; BYTE_VALUES], from: usize, end: usize) -> bool
 {
     let mut q = end;
     while from < q {
-        let least = wide(seen[q - 1]);
+        let least = usize::from(seen[q - 1]);
         if least == 0 {
             return false;
         }
@@ -99,7 +99,7 @@ fn read(transitions: &[u8], i: usize, seen: &mut [u8; BYTE_VALUES]) -> bool
     if out <= t {
         return true;
     }
-    if leads_to(wide(seen[out]), t + 1) {
+    if leads_to(usize::from(seen[out]), t + 1) {
         return true;
     }
     if !all_seen(seen, t + 1, out) {

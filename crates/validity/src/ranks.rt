@@ -8,7 +8,7 @@ ghost use Rattle.table.specs.Layout.{transition_at, transitions_in};
 ghost use Rattle.validity.specs.Ranks.{rank_of, rises_by};
 
 use fields::{arg_of, arity_of, out_of};
-use format::{BYTE_VALUES, MAX_TRANSITIONS, TRANSITION_BYTES, wide, widened};
+use format::{BYTE_VALUES, MAX_TRANSITIONS, TRANSITION_BYTES};
 
 // A state that is being ranked has this rank until its own is known.
 const SEEN: u8 = 255;
@@ -70,7 +70,7 @@ fn first_into(first: &[u16; BYTE_VALUES], q: usize, count: usize) -> Option<usiz
     requires { q < byte_values }
     ensures { IfSome result (λ i. i < count) }
 {
-    widened(first[q]).checked_sub(1).filter(|&i| i < count)
+    usize::from(first[q]).checked_sub(1).filter(|&i| i < count)
 }
 
 // An argument of the transition that starts at a byte and has no rank.
@@ -140,7 +140,7 @@ fn rank_all(
             }
             continue;
         }
-        let q = wide(path[depth - 1]) % BYTE_VALUES;
+        let q = usize::from(path[depth - 1]) % BYTE_VALUES;
         let Some(i) = first_into(first, q, count) else {
             depth -= 1;
             rank = rank.wrapping_add(1);

@@ -21,7 +21,7 @@ returns-then-not-rises c =
 pub check_automaton-requires : goal.check_automaton-requires
 check_automaton-requires c =
     let both = table-seen c.args.table.now c.requires (sym c.layout_fits.ensures ∙ c.if-not-layout_fits.false)
-    c.transition_count-count.ensures.value c.wide-n.ensures
+    c.transition_count-count.ensures.value c.from-n.ensures
     (sym (table-rises c.args.table.now c.transition_count-count.ensures.value c.rises.ensures) ∙ c.if-not-rises.false) in
     record { viewed = both.0; holds_padded = both.1.0; count_value = both.1.1 }
 
@@ -29,4 +29,4 @@ pub returns : goal.returns
 returns c =
     table-answer c.args.table.now (sym c.layout_fits.ensures ∙ c.if-not-layout_fits.false)
     (sym (table-rises c.args.table.now c.transition_count-count.ensures.value c.rises.ensures) ∙ c.if-not-rises.false)
-    c.transition_count-count.ensures.value c.wide-n.ensures c.check_automaton.ensures
+    c.transition_count-count.ensures.value c.from-n.ensures c.check_automaton.ensures

@@ -9,16 +9,16 @@ use Rattle.partition.proofs.all_lead.Goals as goal
 pub loop-q-init : goal.loop-q-init
 loop-q-init c = every-start c.args.n (omega arith)
 
-pub returns-then-wide-q : goal.returns-then-wide-q
+pub returns-then-from-q : goal.returns-then-from-q
 unfolding all_lead
-returns-then-wide-q c =
+returns-then-from-q c =
     every-broken c.loop-q.invariant (omega arith)
-    (ap (λ x. eqb x c.loop-q.q) (sym c.wide.ensures) ∙ ne_eqb _ _ c.if-wide-q.true)
+    (ap (λ x. eqb x c.loop-q.q) (sym c.from.ensures) ∙ ne_eqb _ _ c.if-from-q.true)
 
 pub loop-q-preserved : goal.loop-q-preserved
 loop-q-preserved c =
     every-next c.loop-q.invariant (omega arith)
-    (ap (λ x. eqb x c.loop-q.q) (sym c.wide.ensures) ∙ eq-eqb _ _ c.if-wide-q.false)
+    (ap (λ x. eqb x c.loop-q.q) (sym c.from.ensures) ∙ eq-eqb _ _ c.if-from-q.false)
 
 pub returns : goal.returns
 unfolding all_lead

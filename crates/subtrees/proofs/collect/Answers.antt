@@ -16,8 +16,8 @@ popped-numbers-requires c =
     let more = c.loop-i-test.true in
     let inv = c.loop-i.invariant in
     record {
-      arity_bound = omega (arith, pop-room ok inv more, c.wide-width.ensures);
-      arity_le_max_arity = omega (arith, pop-narrow ok inv more, c.wide-width.ensures);
+      arity_bound = omega (arith, pop-room ok inv more, c.from-width.ensures);
+      arity_le_max_arity = omega (arith, pop-narrow ok inv more, c.from-width.ensures);
     }
 
 pub bounds-reached-i : goal.bounds-reached-i
@@ -28,7 +28,7 @@ bounds-reached-i c =
 pub enter-number-requires : goal.enter-number-requires
 enter-number-requires c =
     let ok = passed c.args.tree.now c.requires.tree_value in
-    let filled = filled_at c.popped-numbers.ensures (c.wide-width.ensures ∙ c.children_at-arity.ensures) in
+    let filled = filled_at c.popped-numbers.ensures (c.from-width.ensures ∙ c.children_at-arity.ensures) in
     let more = c.loop-i-test.true in
     let inv = c.loop-i.invariant in
     record {
@@ -42,20 +42,20 @@ pub overflow_add-top : goal.overflow_add-top
 overflow_add-top c =
     let ok = passed c.args.tree.now c.requires.tree_value in
     let more = c.loop-i-test.true in
-    omega (arith, pop-room ok c.loop-i.invariant more, c.wide-width.ensures)
+    omega (arith, pop-room ok c.loop-i.invariant more, c.from-width.ensures)
 
 pub bounds-stack-top : goal.bounds-stack-top
 bounds-stack-top c =
     let ok = passed c.args.tree.now c.requires.tree_value in
     let more = c.loop-i-test.true in
     let inv = c.loop-i.invariant in
-    omega (arith, pop-room ok inv more, inv.below, c.wide-width.ensures)
+    omega (arith, pop-room ok inv more, inv.below, c.from-width.ensures)
 
 pub loop-i-preserved : goal.loop-i-preserved
 loop-i-preserved c =
     let ok = passed c.args.tree.now c.requires.tree_value in
     let label = c.label_at-label.ensures.value in
-    let width = c.wide-width.ensures ∙ c.children_at-arity.ensures in
+    let width = c.from-width.ensures ∙ c.children_at-arity.ensures in
     let filled = filled_at c.popped-numbers.ensures width in
     let more = c.loop-i-test.true in
     rw width

@@ -15,5 +15,5 @@ returns-then-subtrees-j-2 c =
 pub returns : goal.returns
 returns c =
     by-children c.args.subtrees.now.labels c.args.subtrees.now.arities c.args.subtrees.now.children c.args.label c.args.arity c.args.numbers c.args.j _ _
-    c.if-subtrees-j.false c.if-subtrees-j-2.false c.wide.ensures
+    c.if-subtrees-j.false c.if-subtrees-j-2.false c.from.ensures
     c.same_children.ensures

@@ -25,7 +25,7 @@ slice_bounds-numbers_of-start c =
 pub numbers_of-requires : goal.numbers_of-requires
 numbers_of-requires c =
     let seen = passed-seen c.args.table.now c.transition_count-count.ensures.value
-    c.wide-n.ensures c.requires in
+    c.from-n.ensures c.requires in
     record {
       holds_transitions_over = seen.0.over;
       count_value = seen.1.0;
@@ -37,5 +37,5 @@ pub returns : goal.returns
 returns c =
     let b = c.args.table.now in
     let count = c.transition_count-count.ensures.value in
-    subst (λ (A : Automaton). NumbersOf A c.numbers_of.result) (seen-decoded b count c.wide-n.ensures)
-    (c.numbers_of.ensures b (passed-seen b count c.wide-n.ensures c.requires).1.1.1)
+    subst (λ (A : Automaton). NumbersOf A c.numbers_of.result) (seen-decoded b count c.from-n.ensures)
+    (c.numbers_of.ensures b (passed-seen b count c.from-n.ensures c.requires).1.1.1)

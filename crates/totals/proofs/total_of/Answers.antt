@@ -10,10 +10,10 @@ bounds-table-0 c =
 
 pub sum_accepting-requires : goal.sum_accepting-requires
 sum_accepting-requires c =
-    let seen = passed-seen c.args.table.now refl c.wide-n.ensures c.requires.table_value in
+    let seen = passed-seen c.args.table.now refl c.from-n.ensures c.requires.table_value in
     record { n_in_bounds = seen.0.classes; n_lt_byte_values = omega (arith, seen.0.states) }
 
 pub returns : goal.returns
 returns c =
-    passed-total c.args.table.now c.requires.table_value c.wide-n.ensures c.requires.numbers_of
+    passed-total c.args.table.now c.requires.table_value c.from-n.ensures c.requires.numbers_of
     c.sum_accepting.ensures

@@ -15,7 +15,7 @@ pub loop-k-init : goal.loop-k-init
 loop-k-init c = (
   c.arity_of-arity.ensures,
   c.xor_args-all.ensures ∙ ap (xored (nth_transition c.args.transitions.now c.args.i).args 0)
-      (c.salt-s.ensures ∙ ap (λ (l : ℕ). salted l c.args.x) (c.widened.ensures
+      (c.salt-s.ensures ∙ ap (λ (l : ℕ). salted l c.args.x) (c.from.ensures
       ∙ c.label_of.ensures.value)),
   filling-start c.requires.prints (λ q. gain-start c.args.transitions.now (transition_bytes * c.args.i) c.args.x q),
 )

@@ -23,7 +23,7 @@ pub returns-then-not-transitions_fit : goal.returns-then-not-transitions_fit
 returns-then-not-transitions_fit c =
     let classes = sym c.classes_fit.ensures ∙ c.if-not-classes_fit.false in
     let fields = part-fits c.args.table.now
-    c.wide-states.ensures
+    c.from-states.ensures
     c.transition_count-count.ensures.value c.transitions_fit.ensures in
     broken-field c.args.table.now (omega arith) classes (omega arith)
     (sym fields ∙ c.if-not-transitions_fit.true)
@@ -33,7 +33,7 @@ returns c =
     let classes = sym c.classes_fit.ensures ∙
     c.if-not-classes_fit.false in
     let fields = part-fits c.args.table.now
-    c.wide-states.ensures
+    c.from-states.ensures
     c.transition_count-count.ensures.value
     c.transitions_fit.ensures in
     let zeros = part-zeros c.args.table.now c.requires

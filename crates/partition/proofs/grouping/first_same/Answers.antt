@@ -8,7 +8,7 @@ use Rattle.partition.proofs.grouping.first_same.Goals as goal
 pub loop-p-init : goal.loop-p-init
 loop-p-init c =
     subst (λ (p : ℕ). NoneBefore c.args.parts.now (key_of c.args.keys.now) c.args.q p)
-    (sym c.wide-p.ensures) (none-start c.requires.led_below)
+    (sym c.from-p.ensures) (none-start c.requires.led_below)
 
 pub returns-then-is_same : goal.returns-then-is_same
 returns-then-is_same c =

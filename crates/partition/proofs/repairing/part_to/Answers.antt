@@ -32,4 +32,4 @@ returns-then-arg_of-q c =
 
 pub returns : goal.returns
 returns c =
-    ap (part_of c.args.parts.now) (c.wide.ensures ∙ c.stepped.ensures)
+    ap (part_of c.args.parts.now) (c.from.ensures ∙ c.stepped.ensures)

@@ -35,7 +35,7 @@ leader_agrees-requires c =
     let b = c.requires.holds_transitions_over.arg-state c.args.i c.args.k c.requires.i_lt_count
     c.requires.k_bound in
     let d = c.requires.grouped.below c.arg_of-a.result (omega (arith, a, b)) in
-    let small : c.wide-lead.result ≤ 255 = omega (arith, c.wide-lead.ensures, d, c.requires.grouped.few, a, b) in
+    let small : c.from-lead.result ≤ 255 = omega (arith, c.from-lead.ensures, d, c.requires.grouped.few, a, b) in
     record {
       sorted = c.requires.sorted;
       holds_transitions_over = c.requires.holds_transitions_over;
@@ -48,7 +48,7 @@ leader_agrees-requires c =
 pub returns-then-leader_agrees : goal.returns-then-leader_agrees
 returns-then-leader_agrees c =
     let s = c.args.transitions.now in
-    let e = c.wide-lead.ensures ∙ ap (part_of c.args.parts.now) c.arg_of-a.ensures.value in
+    let e = c.from-lead.ensures ∙ ap (part_of c.args.parts.now) c.arg_of-a.ensures.value in
     split-none c.requires.grouped
     (led-stable s c.args.n c.args.count c.requires.holds_transitions_over c.requires.sorted.rises c.args.i
     c.args.k c.requires.i_lt_count c.requires.k_bound c.requires.grouped
@@ -69,7 +69,7 @@ pub returns : goal.returns
 returns c =
     let s = c.args.transitions.now in
     let m = c.args.parts.now in
-    let e = c.wide-lead.ensures ∙ ap (part_of m) c.arg_of-a.ensures.value in
+    let e = c.from-lead.ensures ∙ ap (part_of m) c.arg_of-a.ensures.value in
     split_at s c.args.n c.args.count c.requires.holds_transitions_over c.requires.sorted.rises c.args.i
     c.args.k c.requires.i_lt_count c.requires.k_bound c.requires.grouped
     (subst (λ (lead : ℕ). PartKeys s c.args.n c.args.count m c.args.i c.args.k lead

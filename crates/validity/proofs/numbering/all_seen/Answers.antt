@@ -12,19 +12,19 @@ pub returns-then-least-eq0 : goal.returns-then-least-eq0
 returns-then-least-eq0 c =
     every-missed (marked c.args.seen.now) c.args.from (c.args.end - c.args.from)
     (c.loop-q.q - 1) (omega arith) (omega (arith, c.loop-q.invariant.0))
-    (nonzero-false _ (sym c.wide-least.ensures ∙ c.if-least-eq0.true))
+    (nonzero-false _ (sym c.from-least.ensures ∙ c.if-least-eq0.true))
 
 pub loop-q-smaller : goal.loop-q-smaller
 loop-q-smaller c =
-    omega (arith, c.requires.spans.down (c.loop-q.q - 1), c.wide-least.ensures)
+    omega (arith, c.requires.spans.down (c.loop-q.q - 1), c.from-least.ensures)
 
 pub loop-q-preserved : goal.loop-q-preserved
 loop-q-preserved c = (
-  omega (arith, c.requires.spans.down (c.loop-q.q - 1), c.wide-least.ensures, c.loop-q.invariant.0),
+  omega (arith, c.requires.spans.down (c.loop-q.q - 1), c.from-least.ensures, c.loop-q.invariant.0),
   λ p a b.
       spanned c.requires.spans c.loop-q.q c.args.end (omega arith)
-      (λ e. c.if-least-eq0.false (c.wide-least.ensures ∙ e)) c.loop-q.invariant.1 p
-      (omega (arith, c.wide-least.ensures)) b,
+      (λ e. c.if-least-eq0.false (c.from-least.ensures ∙ e)) c.loop-q.invariant.1 p
+      (omega (arith, c.from-least.ensures)) b,
 )
 
 pub returns : goal.returns

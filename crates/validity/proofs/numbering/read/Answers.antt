@@ -17,7 +17,7 @@ returns-then-out-t c = record {
 pub returns-then-leads_to : goal.returns-then-leads_to
 returns-then-leads_to c =
     let o = c.out_of-out.ensures.value in
-    let m = c.wide.ensures ∙ ap (λ (q : ℕ). get_or c.args.seen.now q 0) o in
+    let m = c.from.ensures ∙ ap (λ (q : ℕ). get_or c.args.seen.now q 0) o in
     let l = c.leads_to.ensures c.if-leads_to.true in
     record {
       numbers_read = read_known c.args.transitions.now c.args.i c.args.seen.now c.requires.seen_len
