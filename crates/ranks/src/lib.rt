@@ -22,7 +22,7 @@ ghost use Rattle.calls.specs.Calls.{fits_listing, padded_listing};
 
 use choosing::choose_state;
 use fields::transition_count;
-use format::{HEAD_BYTES, MAX_LISTING, MAX_NODES, wide};
+use format::{HEAD_BYTES, MAX_LISTING, MAX_NODES};
 use ranking::rank_within;
 use totals::{Numbers, plus, sum_accepting};
 use unfolding::list_tree;
@@ -39,7 +39,7 @@ pub fn rank(tree: &[u8], reached: &[u8; MAX_NODES], table: &[u8], numbers: &Numb
     ensures { result ≡ rank (decode table.now) (read_tree tree.now) }
 {
     let count = transition_count(table);
-    let q = wide(reached[0]);
+    let q = usize::from(reached[0]);
     let before = sum_accepting(table, q - 1, numbers);
     let within = rank_within(tree, reached, &table[HEAD_BYTES..], count, numbers);
     plus(before, within).unwrap()
@@ -58,7 +58,7 @@ pub fn unrank(number: u64, table: &[u8], numbers: &Numbers, listing: &mut [u8]) 
         cond result (padded_listing (unrank (decode table.now) number)) listing.old }
 {
     let count = transition_count(table);
-    let n = wide(table[0]);
+    let n = usize::from(table[0]);
     let choice = choose_state(table, n, number, numbers);
     let mut bytes = [0u8; MAX_LISTING];
     if !list_tree(

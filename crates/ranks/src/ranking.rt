@@ -14,7 +14,7 @@ ghost use Rattle.trees.specs.Listing.{listing_refusal, read_tree};
 
 use crate::weights::{product_of_stack, trees_into};
 use fields::{arg_of, arity_of, label_of};
-use format::{MAX_NODES, NODE_BYTES, TRANSITION_BYTES, wide};
+use format::{MAX_NODES, NODE_BYTES, TRANSITION_BYTES};
 use listing::{children_at, label_at};
 use totals::{Numbers, plus, times};
 
@@ -41,7 +41,7 @@ fn is_own(
         return false;
     }
     for k in 0..arity {
-        if arg_of(transitions, at, k) != wide(stack[top + k]) {
+        if arg_of(transitions, at, k) != usize::from(stack[top + k]) {
             return false;
         }
     }
@@ -97,7 +97,7 @@ pub fn rank_within(
     let mut top = MAX_NODES;
     for i in (0..tree.len() / NODE_BYTES).rev() {
         let label = label_at(tree, i);
-        let arity = wide(children_at(tree, i));
+        let arity = usize::from(children_at(tree, i));
         let q = reached[i];
         let before = sum_before(
             transitions,
@@ -106,7 +106,7 @@ pub fn rank_within(
             &stack,
             top,
             arity,
-            wide(q),
+            usize::from(q),
             numbers,
         );
         let weight = product_of_stack(&stack, top + arity, numbers);

@@ -17,7 +17,7 @@ use crate::exact::divided;
 use crate::weights::product_of_args;
 use fields::{arg_of, arity_of, label_of};
 use format::{
-    LABEL_BYTES, MAX_LISTING, MAX_NODES, NODE_BYTES, TRANSITION_BYTES, label_high, label_low, wide,
+    LABEL_BYTES, MAX_LISTING, MAX_NODES, NODE_BYTES, TRANSITION_BYTES, label_high, label_low,
 };
 use totals::Numbers;
 
@@ -95,7 +95,13 @@ pub fn list_tree(
     lefts[top] = number;
     let mut nodes = 0;
     while top < MAX_NODES {
-        let choice = choose_transition(transitions, count, wide(states[top]), lefts[top], numbers);
+        let choice = choose_transition(
+            transitions,
+            count,
+            usize::from(states[top]),
+            lefts[top],
+            numbers,
+        );
         let at = TRANSITION_BYTES * choice.place;
         let arity = arity_of(transitions, at);
         if nodes + arity > top {

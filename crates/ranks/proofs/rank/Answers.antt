@@ -22,7 +22,7 @@ pub overflow_sub-q : goal.overflow_sub-q
 overflow_sub-q c =
     omega (
       arith,
-      c.wide-q.ensures,
+      c.from-q.ensures,
       root-byte c.requires.holds_states,
       root-some c.args.table.now c.requires.table_value c.requires.numbers_of c.requires.table_bound
           (read_tree c.args.tree.now) c.requires.tree_value_2,
@@ -34,7 +34,7 @@ sum_accepting-before-requires c =
     let seen = passed-seen b refl refl c.requires.table_value in
     let state = root-state b c.requires.table_value c.requires.numbers_of c.requires.table_bound (read_tree c.args.tree.now)
     c.requires.tree_value_2 in
-    let e = c.wide-q.ensures ∙ root-byte c.requires.holds_states in
+    let e = c.from-q.ensures ∙ root-byte c.requires.holds_states in
     record {
       n_in_bounds = omega (arith, seen.0.classes);
       n_lt_byte_values = omega (arith, seen.0.states);
@@ -62,7 +62,7 @@ summed c =
     let b = c.args.table.now in
     let count = c.transition_count-count.ensures.value in
     rank-fits b c.requires.table_value c.requires.numbers_of c.requires.table_bound (read_tree c.args.tree.now) c.requires.tree_value_2
-    (c.wide-q.ensures ∙ root-byte c.requires.holds_states)
+    (c.from-q.ensures ∙ root-byte c.requires.holds_states)
     c.sum_accepting-before.ensures
     (c.rank_within-within.ensures (decode b)
     (decoded-transitions b ∙ sym (ap₂ transitions_in (part_body b) count)) c.requires.holds_states)

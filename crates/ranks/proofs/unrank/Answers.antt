@@ -18,11 +18,11 @@ bounds-table-0 c =
 pub choose_state-choice-requires : goal.choose_state-choice-requires
 choose_state-choice-requires c =
     let b = c.args.table.now in
-    let seen = passed-seen b refl c.wide-n.ensures c.requires.table_value in
+    let seen = passed-seen b refl c.from-n.ensures c.requires.table_value in
     record {
       n_in_bounds = seen.0.classes;
       n_lt_byte_values = omega (arith, seen.0.states);
-      number_bound = rw c.wide-n.ensures (total-seen b c.requires.table_value c.requires.numbers_of c.requires.table_bound c.args.number c.requires.number_bound);
+      number_bound = rw c.from-n.ensures (total-seen b c.requires.table_value c.requires.numbers_of c.requires.table_bound c.args.number c.requires.number_bound);
     }
 
 pub slice_bounds-list_tree-count : goal.slice_bounds-list_tree-count
@@ -37,11 +37,11 @@ pub list_tree-requires : goal.list_tree-requires
 list_tree-requires c =
     let b = c.args.table.now in
     let count = c.transition_count-count.ensures.value in
-    let seen = passed-seen b count c.wide-n.ensures c.requires.table_value in
+    let seen = passed-seen b count c.from-n.ensures c.requires.table_value in
     record {
       holds_transitions_over = seen.0.over;
       n_lt_byte_values = omega (arith, seen.0.states);
-      lawful = rw (part_body b, count, c.wide-n.ensures) (numbers-lawful b c.requires.table_value c.requires.numbers_of c.requires.table_bound);
+      lawful = rw (part_body b, count, c.from-n.ensures) (numbers-lawful b c.requires.table_value c.requires.numbers_of c.requires.table_bound);
       le_q = c.choose_state-choice.ensures.some;
       q_le_n = c.choose_state-choice.ensures.state;
       number_bound = c.choose_state-choice.ensures.below;
@@ -51,7 +51,7 @@ list_tree-requires c =
 pub returns-then-not-list_tree : goal.returns-then-not-list_tree
 returns-then-not-list_tree c =
     let listed = table-listed c.args.table.now c.requires.table_value c.requires.numbers_of c.requires.table_bound
-    c.transition_count-count.ensures.value c.wide-n.ensures
+    c.transition_count-count.ensures.value c.from-n.ensures
     c.choose_state-choice.ensures
     c.list_tree.ensures.by_index in
     record { value = sym c.if-not-list_tree.true ∙ listed.fits; listing_after = refl }
@@ -62,7 +62,7 @@ copy_from_slice-requires c = c.requires.listing_len ∙ sym c.list_tree.ensures.
 pub returns : goal.returns
 returns c =
     let listed = table-listed c.args.table.now c.requires.table_value c.requires.numbers_of c.requires.table_bound
-    c.transition_count-count.ensures.value c.wide-n.ensures
+    c.transition_count-count.ensures.value c.from-n.ensures
     c.choose_state-choice.ensures
     c.list_tree.ensures.by_index in
     let yes = c.if-not-list_tree.false in

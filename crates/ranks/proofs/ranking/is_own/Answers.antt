@@ -24,15 +24,15 @@ pub loop-k-init : goal.loop-k-init
 loop-k-init c =
     agree-start c.args.transitions.now c.args.at c.args.arity (drop c.args.top c.args.stack.now)
 
-pub returns-then-arg_of-wide : goal.returns-then-arg_of-wide
-returns-then-arg_of-wide c =
+pub returns-then-arg_of-from : goal.returns-then-arg_of-from
+returns-then-arg_of-from c =
     let enough : c.args.arity ≤ length (drop c.args.top c.args.stack.now) =
     omega (arith, length-drop c.args.top c.args.stack.now, c.requires.stack_len, c.requires.arity_bound) in
     sym (unlike-arg c.args.transitions.now c.args.at c.args.label c.args.arity (drop c.args.top c.args.stack.now) enough
     c.loop-k.k (sym c.arity_of.ensures ∙ c.if-arity_of-arity.false)
     c.loop-k-test.true
-    (λ e. c.if-arg_of-wide.true (c.arg_of.ensures.value ∙ e
-    ∙ get_or-drop c.args.top c.args.stack.now c.loop-k.k 0 ∙ sym c.wide.ensures)))
+    (λ e. c.if-arg_of-from.true (c.arg_of.ensures.value ∙ e
+    ∙ get_or-drop c.args.top c.args.stack.now c.loop-k.k 0 ∙ sym c.from.ensures)))
 
 pub loop-k-smaller : goal.loop-k-smaller
 loop-k-smaller c = omega (arith, c.loop-k-test.true)
@@ -40,7 +40,7 @@ loop-k-smaller c = omega (arith, c.loop-k-test.true)
 pub loop-k-preserved : goal.loop-k-preserved
 loop-k-preserved c =
     agree-next c.loop-k.invariant c.loop-k-test.true
-    (sym c.arg_of.ensures.value ∙ c.if-arg_of-wide.false ∙ c.wide.ensures
+    (sym c.arg_of.ensures.value ∙ c.if-arg_of-from.false ∙ c.from.ensures
     ∙ sym (get_or-drop c.args.top c.args.stack.now c.loop-k.k 0))
 
 pub returns : goal.returns

@@ -21,7 +21,7 @@ bounds-reached-i c =
 pub sum_before-before-requires : goal.sum_before-before-requires
 sum_before-before-requires c =
     let ok = passed c.args.tree.now c.requires.tree_value in
-    let width = c.wide-arity.ensures
+    let width = c.from-arity.ensures
     ∙ c.children_at.ensures in
     record {
       holds_transitions = c.requires.holds_transitions;
@@ -33,7 +33,7 @@ sum_before-before-requires c =
 pub product_of_stack-weight-requires : goal.product_of_stack-weight-requires
 product_of_stack-weight-requires c =
     let ok = passed c.args.tree.now c.requires.tree_value in
-    let width = c.wide-arity.ensures
+    let width = c.from-arity.ensures
     ∙ c.children_at.ensures in
     record {
       stack_len = c.loop-i.invariant.stacked;
@@ -43,29 +43,29 @@ product_of_stack-weight-requires c =
 pub overflow_add-top-in-loop-i : goal.overflow_add-top-in-loop-i
 overflow_add-top-in-loop-i c =
     let ok = passed c.args.tree.now c.requires.tree_value in
-    let width = c.wide-arity.ensures ∙ c.children_at.ensures in
+    let width = c.from-arity.ensures ∙ c.children_at.ensures in
     omega (arith, pop-room ok c.loop-i.invariant (omega arith), width)
 
 pub overflow_sub-top : goal.overflow_sub-top
 overflow_sub-top c =
     let ok = passed c.args.tree.now c.requires.tree_value in
-    let width = c.wide-arity.ensures ∙ c.children_at.ensures in
+    let width = c.from-arity.ensures ∙ c.children_at.ensures in
     omega (arith, push-room ok c.loop-i.invariant (omega arith), width)
 
 pub bounds-stack-top : goal.bounds-stack-top
 bounds-stack-top c =
     let ok = passed c.args.tree.now c.requires.tree_value in
-    let width = c.wide-arity.ensures ∙ c.children_at.ensures in
+    let width = c.from-arity.ensures ∙ c.children_at.ensures in
     omega (arith, pop-room ok c.loop-i.invariant (omega arith), push-room ok c.loop-i.invariant (omega arith), width)
 
 pub loop-i-preserved : goal.loop-i-preserved
 loop-i-preserved c =
     let ok = passed c.args.tree.now c.requires.tree_value in
-    let width = c.wide-arity.ensures ∙ c.children_at.ensures in
+    let width = c.from-arity.ensures ∙ c.children_at.ensures in
     let label = c.label_at-label.ensures.value in
     rw width
     (ranking-next ok c.loop-i.invariant (omega arith) refl
-    (rw (label, width, c.wide.ensures) at c.sum_before-before.ensures)
+    (rw (label, width, c.from.ensures) at c.sum_before-before.ensures)
     (rw width at c.product_of_stack-weight.ensures) c.times.ensures c.plus-number.ensures)
 
 pub returns : goal.returns

@@ -11,7 +11,7 @@ loop-top-init c =
 pub choose_transition-choice-requires : goal.choose_transition-choice-requires
 choose_transition-choice-requires c = record {
   holds_transitions = c.requires.holds_transitions_over.runs;
-  number_bound = rw c.wide.ensures (next-trees c.loop-top.invariant c.loop-top-test.true c.requires.lawful);
+  number_bound = rw c.from.ensures (next-trees c.loop-top.invariant c.loop-top-test.true c.requires.lawful);
 }
 
 pub arity_of-arity-requires : goal.arity_of-arity-requires
@@ -32,7 +32,7 @@ overflow_add-nodes c =
 
 pub returns-then-nodes-arity : goal.returns-then-nodes-arity
 returns-then-nodes-arity c =
-    let chosen = rw c.wide.ensures at c.choose_transition-choice.ensures in
+    let chosen = rw c.from.ensures at c.choose_transition-choice.ensures in
     record {
       bytes_len = bytes-size c.loop-top.invariant;
       by_index = λ T G. walk-stops c.loop-top.invariant c.loop-top-test.true chosen
@@ -69,7 +69,7 @@ put_children-requires c =
 
 pub loop-top-preserved : goal.loop-top-preserved
 loop-top-preserved c =
-    let chosen = rw c.wide.ensures at
+    let chosen = rw c.from.ensures at
     c.choose_transition-choice.ensures in
     let room = c.if-nodes-arity.false in
     walk-next c.loop-top.invariant c.loop-top-test.true chosen c.requires.holds_transitions_over (omega (arith, c.arity_of-arity.ensures, room))
