@@ -9,7 +9,7 @@ ghost use Rattle.uses.specs.Settings.{ParentsFrom};
 ghost use Rattle.alike.specs.Settings.{HasTransitions, HoldsSubtrees, NamesKnown};
 
 use crate::frames::{Candidate, frames_agree};
-use format::{MAX_NODES, wide};
+use format::MAX_NODES;
 use uses::Setting;
 
 // Whether two bytes are the same class; only 1 is accepting.
@@ -43,7 +43,7 @@ pub fn named_like_state(
         eqb (get_or setting.now.classes.now (j - 1) 0) 1 ≡ S (tree_numbered ts j) → eqb class 1 ≡ accepting A q →
         result ≡ named_like_state A t S N (tree_numbered ts j) q }
 {
-    let number = wide(j);
+    let number = usize::from(j);
     if !same_class(setting.classes[number - 1], class) {
         return false;
     }
@@ -73,8 +73,8 @@ pub fn named_like_subtree(
         eqb (get_or setting.now.classes.now (v - 1) 0) 1 ≡ S (tree_numbered ts v) →
         result ≡ named_like_subtree t S N (tree_numbered ts j) (tree_numbered ts v) }
 {
-    let first = wide(j);
-    let second = wide(v);
+    let first = usize::from(j);
+    let second = usize::from(v);
     if !same_class(setting.classes[first - 1], setting.classes[second - 1]) {
         return false;
     }

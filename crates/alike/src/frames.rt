@@ -14,7 +14,7 @@ ghost use Rattle.uses.specs.Settings.{ParentsFrom};
 ghost use Rattle.alike.specs.Settings.{HasTransitions, HoldsSubtrees, NamesKnown, frame_in, place_agrees_in, parent_agrees_in};
 
 use crate::nodes::{children_of, node_name, states_of, step_node};
-use format::{MAX_ARITY, MAX_NODES, wide};
+use format::{MAX_ARITY, MAX_NODES};
 use uses::Setting;
 
 // What stands in a subtree's place: a state or 0, or the subtree with a number.
@@ -33,7 +33,7 @@ fn frame_step(setting: &Setting<'_>, i: usize, k: usize, x: u8) -> u8
         HoldsSubtrees A t ts setting.now.subtrees.now →
         result ≡ step_frame A (frame_in ts setting.now.subtrees.now i k) x }
 {
-    let arity = wide(setting.subtrees.arities[i]);
+    let arity = usize::from(setting.subtrees.arities[i]);
     let numbers = children_of(&setting.subtrees.children, i, arity);
     let mut qs = states_of(&setting.subtrees.states, numbers, arity);
     qs[k] = x;
@@ -54,7 +54,7 @@ fn frame_node(setting: &Setting<'_>, names: &[u8; MAX_NODES], i: usize, k: usize
         (tree_numbered ts x)) }
 {
     let arity = setting.subtrees.arities[i];
-    let mut numbers = children_of(&setting.subtrees.children, i, wide(arity));
+    let mut numbers = children_of(&setting.subtrees.children, i, usize::from(arity));
     numbers[k] = x;
     node_name(setting, names, setting.subtrees.labels[i], arity, numbers)
 }
@@ -102,7 +102,7 @@ fn place_agrees(
         NamesKnown A t ts setting.now.subtrees.now j names.now N → j ≤ a → FromOn j x →
         result ≡ place_agrees_in A N ts setting.now.subtrees.now a x i k }
 {
-    if wide(setting.subtrees.children[MAX_ARITY * i + k]) != a {
+    if usize::from(setting.subtrees.children[MAX_ARITY * i + k]) != a {
         return true;
     }
     let name = frame_name(setting, names, i, k, x);
@@ -125,7 +125,7 @@ fn parent_agrees(
         NamesKnown A t ts setting.now.subtrees.now j names.now N → j ≤ a → FromOn j x →
         result ≡ parent_agrees_in A N ts setting.now.subtrees.now a x i }
 {
-    let arity = wide(setting.subtrees.arities[i]);
+    let arity = usize::from(setting.subtrees.arities[i]);
     for k in 0..arity {
         if !place_agrees(setting, names, i, k, a, x) {
             return false;

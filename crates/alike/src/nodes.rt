@@ -10,7 +10,7 @@ ghost use Rattle.trees.specs.Tree.{Tree, node};
 ghost use Rattle.alike.specs.Agreeing.{state_of};
 ghost use Rattle.alike.specs.Settings.{HasTransitions, HoldsSubtrees, NamesKnown};
 
-use format::{MAX_ARITY, MAX_NODES, wide};
+use format::{MAX_ARITY, MAX_NODES};
 use packed::output;
 use subtrees::{CHILD_NUMBERS, search};
 use uses::Setting;
@@ -39,7 +39,7 @@ pub fn states_of(
 {
     let mut qs = [0u8; MAX_ARITY];
     for k in 0..arity {
-        let number = wide(numbers[k]);
+        let number = usize::from(numbers[k]);
         qs[k] = states[number - 1];
     }
     qs
@@ -89,7 +89,7 @@ pub fn node_name(
     if let Some(i) = search(setting.subtrees, label, arity, numbers) {
         return names[i];
     }
-    let width = wide(arity);
+    let width = usize::from(arity);
     let qs = states_of(&setting.subtrees.states, numbers, width);
     step_node(setting, label, width, qs)
 }

@@ -5,7 +5,7 @@ ghost use Rattle.subtrees.specs.Store.{child_at};
 ghost use Rattle.alike.specs.Settings.{SlotIn};
 
 use crate::nodes::{children_of, states_of};
-use format::{MAX_ARITY, MAX_NODES, wide};
+use format::{MAX_ARITY, MAX_NODES};
 use packed::{Slot, meta_of, pack};
 use uses::Setting;
 
@@ -16,13 +16,13 @@ fn frame_slot(setting: &Setting<'_>, names: &[u8; MAX_NODES], i: usize, k: usize
     requires k_bound { k < get_or setting.now.subtrees.now.arities i 0 }
     ensures { SlotIn setting.now.subtrees.now (child_at setting.now.subtrees.now.children i k) names.now result }
 {
-    let arity = wide(setting.subtrees.arities[i]);
+    let arity = usize::from(setting.subtrees.arities[i]);
     let numbers = children_of(&setting.subtrees.children, i, arity);
     let mut qs = states_of(&setting.subtrees.states, numbers, arity);
     qs[k] = 0;
     let meta = meta_of(arity, setting.subtrees.labels[i]);
     let args = pack(qs);
-    let name = wide(names[i]);
+    let name = usize::from(names[i]);
     Slot {
         meta: meta,
         args: args,
@@ -39,9 +39,9 @@ fn parent_slot(setting: &Setting<'_>, names: &[u8; MAX_NODES], i: usize, j: usiz
     if names[i] == 0 {
         return None;
     }
-    let arity = wide(setting.subtrees.arities[i]);
+    let arity = usize::from(setting.subtrees.arities[i]);
     for k in 0..arity {
-        if wide(setting.subtrees.children[MAX_ARITY * i + k]) == j {
+        if usize::from(setting.subtrees.children[MAX_ARITY * i + k]) == j {
             return Some(frame_slot(setting, names, i, k));
         }
     }

@@ -25,7 +25,7 @@ ghost use Rattle.alike.specs.Settings.{NamesKnown};
 ghost use Rattle.format.specs.Format.{table_bytes};
 
 pub use classes::classify;
-use format::{BYTE_VALUES, MAX_NODES, wide};
+use format::{BYTE_VALUES, MAX_NODES};
 use models::find_subtree;
 use parents::{Parents, anchored, note_parents};
 use seeking::find_state;
@@ -53,8 +53,8 @@ fn name_subtree(
         NamesKnown A t ts setting.now.subtrees.now j names.now N →
         Chosen A t S ts setting.now.n setting.now.subtrees.now.count N j result }
 {
-    let from = wide(parents.froms[j - 1]);
-    let to = wide(parents.tos[j - 1]);
+    let from = usize::from(parents.froms[j - 1]);
+    let to = usize::from(parents.tos[j - 1]);
     let sought = Sought {
         table: table,
         setting: setting,
@@ -85,7 +85,7 @@ fn mark_shared(setting: &Setting<'_>, shared: &mut [u8; MAX_NODES], j: usize, na
     ensures marked { Marked setting.now.n j name shared.old shared.new }
 {
     let n = setting.n;
-    let own = wide(name);
+    let own = usize::from(name);
     if own <= n {
         return;
     }

@@ -9,7 +9,7 @@ ghost use Rattle.uses.specs.Settings.{HoldsIn};
 
 use crate::parents::Parents;
 use alike::like_subtree;
-use format::{MAX_NODES, wide};
+use format::MAX_NODES;
 use uses::Setting;
 
 // Whether subtree v has its own name and subtree j is like it. The span that is looked at has the parents of both.
@@ -28,13 +28,13 @@ fn fits_subtree(
         HoldsIn A t ts setting.now → ClassedIn S ts setting.now →
         NamesKnown A t ts setting.now.subtrees.now j names.now N → SubtreeTried A t S ts setting.now.n N j v result }
 {
-    if wide(names[v - 1]) != setting.n + v {
+    if usize::from(names[v - 1]) != setting.n + v {
         return false;
     }
     let first = j as u8;
     let second = v as u8;
-    let from = wide(parents.froms[j - 1].min(parents.froms[v - 1]));
-    let to = wide(parents.tos[j - 1].max(parents.tos[v - 1]));
+    let from = usize::from(parents.froms[j - 1].min(parents.froms[v - 1]));
+    let to = usize::from(parents.tos[j - 1].max(parents.tos[v - 1]));
     like_subtree(setting, names, first, second, from, to)
 }
 

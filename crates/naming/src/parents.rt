@@ -10,7 +10,7 @@ ghost use Rattle.naming.specs.Settings.{NotedIn, SpansIn, anchors_in, raises_in}
 ghost use Rattle.naming.specs.Search.{anchors_for, raises_for};
 
 use crate::sought::Sought;
-use format::{MAX_ARITY, MAX_NODES, wide};
+use format::{MAX_ARITY, MAX_NODES};
 use uses::Setting;
 
 // The parents of subtree j have indices from entry j - 1 of `froms` on and below that of `tos`; both are 0 if it has
@@ -44,9 +44,9 @@ fn note_children(setting: &Setting<'_>, parents: &mut Parents, i: usize)
     requires parents_noted { NotedIn setting.now.subtrees.now i (max_arity * i) parents.old }
     ensures { NotedIn setting.now.subtrees.now (i + 1) (max_arity * (i + 1)) parents.new }
 {
-    let arity = wide(setting.subtrees.arities[i]);
+    let arity = usize::from(setting.subtrees.arities[i]);
     for k in 0..arity {
-        let j = wide(setting.subtrees.children[MAX_ARITY * i + k]);
+        let j = usize::from(setting.subtrees.children[MAX_ARITY * i + k]);
         note_child(parents, i, j);
     }
 }
@@ -71,9 +71,9 @@ fn is_child(setting: &Setting<'_>, i: usize, j: usize) -> bool
     requires i_le_m { i ≤ setting.now.subtrees.now.count }
     ensures { result ≡ is_child setting.now.subtrees.now.arities setting.now.subtrees.now.children i j }
 {
-    let arity = wide(setting.subtrees.arities[i - 1]);
+    let arity = usize::from(setting.subtrees.arities[i - 1]);
     for k in 0..arity {
-        if wide(setting.subtrees.children[MAX_ARITY * (i - 1) + k]) == j {
+        if usize::from(setting.subtrees.children[MAX_ARITY * (i - 1) + k]) == j {
             return true;
         }
     }
@@ -92,7 +92,7 @@ fn anchors_child(
     requires i_le_m { i ≤ setting.now.subtrees.now.count }
     ensures { result ≡ anchors_in setting.now names.now shared.now j i }
 {
-    if wide(names[i - 1]) != setting.n + i {
+    if usize::from(names[i - 1]) != setting.n + i {
         return false;
     }
     if shared[i - 1] != 0 {
@@ -121,7 +121,7 @@ fn raises_child(setting: &Setting<'_>, names: &[u8; MAX_NODES], i: usize, j: usi
     requires i_le_m { i ≤ setting.now.subtrees.now.count }
     ensures { result ≡ raises_in setting.now names.now j i }
 {
-    if wide(names[i - 1]) <= setting.n {
+    if usize::from(names[i - 1]) <= setting.n {
         return false;
     }
     is_child(setting, i, j)

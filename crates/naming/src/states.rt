@@ -9,7 +9,7 @@ ghost use Rattle.naming.specs.Search.{KnownFor, OpenFor, NamesFor, ChosenFor, Tr
 use crate::classes::class_in;
 use crate::sought::Sought;
 use alike::like_state;
-use format::{BYTE_VALUES, wide};
+use format::BYTE_VALUES;
 
 // Whether q is 0 or marked.
 fn is_free(marks: &[u8; BYTE_VALUES], q: usize) -> bool
@@ -68,7 +68,7 @@ pub fn own_state(sought: &Sought<'_, '_>) -> Option<usize>
         KnownFor A t ts S sought.now → OpenFor A t sought.now → NamesFor A t ts N sought.now →
         IfSome result (ChosenFor A t S ts N sought.now) }
 {
-    let q = wide(sought.setting.subtrees.states[sought.j - 1]);
+    let q = usize::from(sought.setting.subtrees.states[sought.j - 1]);
     if q > sought.setting.n {
         return None;
     }

@@ -6,7 +6,7 @@ ghost use Rattle.quotient.specs.Candidates.{KeptIn, kept_in};
 ghost use Rattle.quotient.specs.Kept.{PutFirst, state_of};
 
 use crate::named::{Candidates, KeptNames};
-use format::{BYTE_VALUES, wide};
+use format::BYTE_VALUES;
 use pairs::index;
 
 // Whether the name x is kept.
@@ -17,7 +17,7 @@ pub fn is_kept(candidates: &Candidates<'_>, x: usize) -> bool
     if x <= candidates.n {
         return candidates.opens[x] != 0;
     }
-    wide(candidates.names[x - candidates.n - 1]) == x
+    usize::from(candidates.names[x - candidates.n - 1]) == x
 }
 
 // The state of the name x: x itself, or the state of the subtree whose own name x is.

@@ -7,7 +7,7 @@ ghost use Rattle.quotient.specs.Named.{adds, has_own_children, named_in, takes_a
 ghost use Rattle.quotient.specs.Nodes.{EachNode, digit_of, key_of, meta_of};
 
 use crate::named::{NamedSubtrees, Names};
-use format::{MAX_ARITY, MAX_NODES, wide, widened};
+use format::{MAX_ARITY, MAX_NODES};
 use pairs::index;
 
 // The own name of a child, 0 for no child.
@@ -19,7 +19,7 @@ fn digit_of(named: &NamedSubtrees<'_>, child: u8) -> usize
     if child == 0 {
         return 0;
     }
-    named.n + wide(child)
+    named.n + usize::from(child)
 }
 
 // The own names of the children of the subtree at index j, packed.
@@ -40,7 +40,7 @@ pub fn meta_of(named: &NamedSubtrees<'_>, j: usize) -> u64
     ensures { result ≡ meta_of named.now.subtrees.now.labels named.now.subtrees.now.arities j }
 {
     let arity = index(named.subtrees.arities[j]);
-    let label = widened(named.subtrees.labels[j]);
+    let label = usize::from(named.subtrees.labels[j]);
     65536 * arity as u64 + label as u64
 }
 
@@ -77,8 +77,8 @@ fn has_own(named: &NamedSubtrees<'_>, child: u8) -> bool
     requires child_le_max_nodes { child ≤ max_nodes }
     ensures { result ≡ eqb (entry named.now.names.now (child - 1)) (named.now.n + child) }
 {
-    let number = wide(child);
-    wide(named.names[number - 1]) == named.n + number
+    let number = usize::from(child);
+    usize::from(named.names[number - 1]) == named.n + number
 }
 
 // Whether the children of the subtree at index j all have their own names.
@@ -86,7 +86,7 @@ fn children_own(named: &NamedSubtrees<'_>, j: usize) -> bool
     requires { j < named.now.subtrees.now.count }
     ensures { result ≡ has_own_children named.now j }
 {
-    let arity = wide(named.subtrees.arities[j]);
+    let arity = usize::from(named.subtrees.arities[j]);
     for k in 0..arity {
         if !has_own(named, named.subtrees.children[MAX_ARITY * j + k]) {
             return false;

@@ -11,7 +11,7 @@ ghost use Rattle.uses.specs.Settings.{in_slot_in, frame_of_in, framed_in, frame_
 
 use crate::setting::{Frames, Setting};
 use fields::{arg_of, arity_of, label_of};
-use format::{MAX_ARITY, MAX_NODES, wide};
+use format::{MAX_ARITY, MAX_NODES};
 use subtrees::Subtrees;
 
 const CHILD_NUMBERS: usize = MAX_NODES * MAX_ARITY;
@@ -36,8 +36,8 @@ fn same_sibling(
     if x == k {
         return true;
     }
-    let child = wide(children[MAX_ARITY * i + x]);
-    wide(states[child - 1]) == arg_of(transitions, at, x)
+    let child = usize::from(children[MAX_ARITY * i + x]);
+    usize::from(states[child - 1]) == arg_of(transitions, at, x)
 }
 
 // Whether each child of node i other than child k runs to the transition's argument at its place.
@@ -74,7 +74,7 @@ fn in_slot(setting: &Setting<'_>, at: usize, k: usize, i: usize) -> bool
     if setting.subtrees.labels[i] != label_of(setting.transitions, at) {
         return false;
     }
-    if wide(setting.subtrees.arities[i]) != arity_of(setting.transitions, at) {
+    if usize::from(setting.subtrees.arities[i]) != arity_of(setting.transitions, at) {
         return false;
     }
     same_siblings(setting, at, k, i)
@@ -125,7 +125,13 @@ fn is_twin(subtrees: &Subtrees, j: u8, k: usize, i: usize, h: usize) -> bool
     if subtrees.arities[h] != subtrees.arities[i] {
         return false;
     }
-    same_children(&subtrees.children, k, i, h, wide(subtrees.arities[i]))
+    same_children(
+        &subtrees.children,
+        k,
+        i,
+        h,
+        usize::from(subtrees.arities[i]),
+    )
 }
 
 // Whether some node has subtree j as child k and is otherwise the same as node i. Then the frame at place k of node i

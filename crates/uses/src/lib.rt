@@ -20,7 +20,6 @@ ghost use Rattle.trees.specs.Tree.{Tree};
 ghost use Rattle.uses.specs.Uses.{FramesOf};
 ghost use Rattle.uses.specs.Settings.{FramesWithin, ParentsFrom, HoldsIn};
 
-use format::wide;
 use scanning::{hint_agrees, transitions_agree};
 pub use setting::{Frames, Setting};
 pub use spans::note_uses;
@@ -60,7 +59,7 @@ pub fn state_uses_agree(setting: &Setting<'_>, start: usize, end: usize, j: u8, 
         HoldsIn A t ts setting.now →
         result ≡ uses_agree A t (frames_of t (tree_numbered ts j)) (run A (tree_numbered ts j)) q }
 {
-    let p = setting.subtrees.states[wide(j) - 1];
+    let p = setting.subtrees.states[usize::from(j) - 1];
     uses_agree(
         setting,
         Frames {
@@ -88,8 +87,8 @@ pub fn subtree_uses_agree(setting: &Setting<'_>, start: usize, end: usize, j: u8
         result ≡ uses_agree A t (frames_of t (tree_numbered ts j) ++ frames_of t (tree_numbered ts v))
         (run A (tree_numbered ts j)) (run A (tree_numbered ts v)) }
 {
-    let p = setting.subtrees.states[wide(j) - 1];
-    let q = setting.subtrees.states[wide(v) - 1];
+    let p = setting.subtrees.states[usize::from(j) - 1];
+    let q = setting.subtrees.states[usize::from(v) - 1];
     uses_agree(
         setting,
         Frames {

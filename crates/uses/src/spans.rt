@@ -6,7 +6,7 @@ ghost use Rattle.table.specs.Layout.{arity_of};
 ghost use Rattle.uses.specs.Spans.{Noted, NotedTo, UsesWithin};
 
 use fields::{arg_of, arity_of};
-use format::{BYTE_VALUES, TRANSITION_BYTES, wide, widened};
+use format::{BYTE_VALUES, TRANSITION_BYTES};
 
 // Notes transition i for its argument k.
 fn note_arg(
@@ -71,5 +71,5 @@ pub fn note_uses(
 pub fn entry(numbers: &[u16; BYTE_VALUES], q: u8) -> usize
     ensures { result ≡ get_or numbers.now q 0 }
 {
-    widened(numbers[wide(q)])
+    usize::from(numbers[usize::from(q)])
 }

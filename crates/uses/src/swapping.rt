@@ -9,7 +9,7 @@ ghost use Rattle.uses.specs.Settings.{swap_agrees_in, place_agrees_in, FramesWit
 use crate::covering::is_covered;
 use crate::setting::{Frames, Setting};
 use fields::{arg_of, out_of};
-use format::{TRANSITION_BYTES, wide};
+use format::TRANSITION_BYTES;
 use packed::{at_place, seek};
 
 // Packed arguments with y for x at place k.
@@ -19,7 +19,7 @@ fn exchanged(args: u64, k: usize, x: u8, y: u8) -> u64
     requires k_bound_2 { args - x * 2 ^ (8 * (7 - k)) + y * 2 ^ (8 * (7 - k)) < 2 ^ 64 }
     ensures { result ≡ args - x * 2 ^ (8 * (7 - k)) + y * 2 ^ (8 * (7 - k)) }
 {
-    args - at_place(wide(x), k) + at_place(wide(y), k)
+    args - at_place(usize::from(x), k) + at_place(usize::from(y), k)
 }
 
 // The output of the transition that is transition i with y for x as argument k; 0 if there is none. `meta` and `args`
@@ -81,14 +81,14 @@ fn swap_agrees(
 fn is_neither(arg: usize, p: u8, q: u8) -> bool
     ensures { result ≡ (not (eqb arg p) && not (eqb arg q)) }
 {
-    (arg != wide(p)) & (arg != wide(q))
+    (arg != usize::from(p)) & (arg != usize::from(q))
 }
 
 // `first` if an argument is p, else `second`.
 fn either(arg: usize, p: u8, first: u8, second: u8) -> u8
     ensures { result ≡ cond (eqb arg p) first second }
 {
-    if arg == wide(p) {
+    if arg == usize::from(p) {
         return first;
     }
     second

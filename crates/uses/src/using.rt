@@ -16,7 +16,7 @@ use crate::covering::is_covered;
 use crate::setting::{Frames, Setting};
 use crate::spans::entry;
 use fields::{arg_of, arity_of, out_of};
-use format::{TRANSITION_BYTES, wide};
+use format::TRANSITION_BYTES;
 use packed::{Slot, args_at, at_place, meta_at};
 
 // The slot of transition i without its argument k, which is p.
@@ -32,7 +32,7 @@ fn slot_at(transitions: &[u8], count: usize, i: usize, k: usize, p: u8) -> Slot
 {
     let at = TRANSITION_BYTES * i;
     let meta = meta_at(transitions, at);
-    let args = args_at(transitions, at) - at_place(wide(p), k);
+    let args = args_at(transitions, at) - at_place(usize::from(p), k);
     let out = out_of(transitions, at);
     Slot {
         meta: meta,
@@ -59,7 +59,7 @@ fn place_slot(
         setting.now.transitions.now setting.now.count p) }
 {
     let at = TRANSITION_BYTES * i;
-    if arg_of(setting.transitions, at, k) != wide(p) {
+    if arg_of(setting.transitions, at, k) != usize::from(p) {
         return None;
     }
     if is_covered(
@@ -113,7 +113,7 @@ pub fn use_slot(setting: &Setting<'_>, start: usize, end: usize, j: u8) -> Optio
         uses_agree A t (frames_of t (tree_numbered ts j)) (run A (tree_numbered ts j)) q ≡ true →
         SlotTakes setting.now.transitions.now setting.now.count z q) }
 {
-    let p = setting.subtrees.states[wide(j) - 1];
+    let p = setting.subtrees.states[usize::from(j) - 1];
     let number = entry(setting.lasts, p);
     if number == 0 {
         return None;

@@ -12,7 +12,7 @@ use crate::covering::is_covered;
 use crate::setting::{Frames, Setting};
 use crate::spans::entry;
 use fields::{arity_of, out_of};
-use format::{ARGS_AT, TRANSITION_BYTES, wide};
+use format::{ARGS_AT, TRANSITION_BYTES};
 use packed::{args_at, at_place, meta_at};
 
 // The first transition from an index on that has p as argument k; `to` if there is none before it.
@@ -37,7 +37,7 @@ fn args_without(transitions: &[u8], at: usize, k: usize, p: u8) -> u64
     requires k_bound { p * 2 ^ (8 * (7 - k)) ≤ packed_at transitions.now at }
     ensures { result ≡ packed_at transitions.now at - p * 2 ^ (8 * (7 - k)) }
 {
-    args_at(transitions, at) - at_place(wide(p), k)
+    args_at(transitions, at) - at_place(usize::from(p), k)
 }
 
 // Whether transitions i and x, which have p and q as argument k, are otherwise the same.

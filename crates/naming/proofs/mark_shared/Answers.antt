@@ -9,7 +9,7 @@ use Rattle.naming.proofs.mark_shared.Goals as goal
 pub returns-then-own-n : goal.returns-then-own-n
 returns-then-own-n c = record {
   shared_len_2 = c.requires.shared_len;
-  marked = marked-none (omega (arith, c.wide-own.ensures, c.if-own-n.true));
+  marked = marked-none (omega (arith, c.from-own.ensures, c.if-own-n.true));
 }
 
 pub overflow_add-n : goal.overflow_add-n
@@ -20,17 +20,17 @@ returns-then-own-n-2 c = record {
   shared_len_2 = c.requires.shared_len;
   marked = marked-own (omega (
     arith,
-    c.wide-own.ensures,
+    c.from-own.ensures,
     c.if-own-n-2.true,
   ));
 }
 
 pub returns : goal.returns
 returns c = record {
-  shared_len_2 = length-set c.args.shared.now (c.wide-own.result - c.args.setting.now.n - 1) 1 ∙ c.requires.shared_len;
-  marked = marked_other (omega (arith, c.wide-own.ensures, c.if-own-n.false)) (omega (
+  shared_len_2 = length-set c.args.shared.now (c.from-own.result - c.args.setting.now.n - 1) 1 ∙ c.requires.shared_len;
+  marked = marked_other (omega (arith, c.from-own.ensures, c.if-own-n.false)) (omega (
     arith,
-    c.wide-own.ensures,
+    c.from-own.ensures,
     c.if-own-n.false,
     c.requires.name_bound,
     c.args.setting.now.shaped.few,

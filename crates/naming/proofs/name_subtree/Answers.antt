@@ -14,7 +14,7 @@ invariant_of-sought c = record {
   table_len = c.requires.table_len;
   le_j = c.requires.le_j;
   j_le_m = c.requires.j_le_m;
-  parents_within = spanned c.requires.spans_of c.requires.le_j c.requires.j_le_m c.wide-from.ensures c.wide-to.ensures;
+  parents_within = spanned c.requires.spans_of c.requires.le_j c.requires.j_le_m c.from-from.ensures c.from-to.ensures;
 }
 
 pub returns-then-anchored : goal.returns-then-anchored

@@ -18,4 +18,4 @@ pub returns : goal.returns
 returns c =
     λ A t ts holds. c.uses_agree.ensures A t ts (frames_of t (tree_numbered ts c.args.j)) holds (first-only t ts
     c.args.setting.now.subtrees.now.count c.args.j c.requires.le_j c.requires.j_le_m) ∙ ap (λ (x : ℕ). uses_agree A t (frames_of t (tree_numbered ts
-    c.args.j)) x c.args.q) (state-read holds c.args.j c.requires.le_j c.requires.j_le_m c.wide.ensures)
+    c.args.j)) x c.args.q) (state-read holds c.args.j c.requires.le_j c.requires.j_le_m c.from.ensures)

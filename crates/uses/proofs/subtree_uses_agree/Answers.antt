@@ -12,5 +12,5 @@ returns c =
     (tree_numbered ts c.args.v)) holds (both-subtrees t ts c.args.setting.now.subtrees.now.count c.args.j c.args.v c.requires.le_j c.requires.j_le_m c.requires.le_v
     c.requires.v_le_m c.requires.fact) ∙ ap₂ (uses_agree A t (frames_of t (tree_numbered ts c.args.j) ++ frames_of t
     (tree_numbered ts c.args.v))) (state-read holds c.args.j c.requires.le_j c.requires.j_le_m
-    c.wide.ensures) (state-read holds c.args.v c.requires.le_v c.requires.v_le_m
-    c.wide-2.ensures)
+    c.from.ensures) (state-read holds c.args.v c.requires.le_v c.requires.v_le_m
+    c.from-2.ensures)

@@ -7,12 +7,12 @@ use Rattle.alike.proofs.frames.frame_step.Goals as goal
 pub children_of-numbers-requires : goal.children_of-numbers-requires
 children_of-numbers-requires c = record {
   i_lt_max_nodes = omega (arith, c.args.setting.now.shaped.few);
-  arity_le_max_arity = omega (arith, c.wide-arity.ensures, c.args.setting.now.shaped.narrow c.args.i (omega arith));
+  arity_le_max_arity = omega (arith, c.from-arity.ensures, c.args.setting.now.shaped.narrow c.args.i (omega arith));
 }
 
 pub states_of-qs-requires : goal.states_of-qs-requires
 states_of-qs-requires c =
-    children-more c.args.setting.now.shaped.few (frame-children c.args.setting.now.subtrees.now.arities c.args.setting.now.subtrees.now.children c.args.i c.wide-arity.ensures c.children_of-numbers.ensures c.args.setting.now.shaped c.requires.i_lt_m)
+    children-more c.args.setting.now.shaped.few (frame-children c.args.setting.now.subtrees.now.arities c.args.setting.now.subtrees.now.children c.args.i c.from-arity.ensures c.children_of-numbers.ensures c.args.setting.now.shaped c.requires.i_lt_m)
 
 pub bounds-qs-k : goal.bounds-qs-k
 bounds-qs-k c =
@@ -20,10 +20,10 @@ bounds-qs-k c =
 
 pub step_node-requires : goal.step_node-requires
 step_node-requires c = record {
-  places = put-places c.states_of-qs.ensures (omega (arith, c.wide-arity.ensures, c.args.setting.now.shaped.narrow c.args.i (omega arith))) c.args.k c.args.x (omega (arith, c.wide-arity.ensures));
+  places = put-places c.states_of-qs.ensures (omega (arith, c.from-arity.ensures, c.args.setting.now.shaped.narrow c.args.i (omega arith))) c.args.k c.args.x (omega (arith, c.from-arity.ensures));
 }
 
 pub returns : goal.returns
 returns c =
-    λ A t ts e holds. frame-stepped c.args.setting.now.subtrees.now.arities c.args.setting.now.subtrees.now.children c.args.i c.wide-arity.ensures c.children_of-numbers.ensures c.args.setting.now.shaped holds c.args.k c.args.x c.requires.i_lt_m c.requires.k_bound
+    λ A t ts e holds. frame-stepped c.args.setting.now.subtrees.now.arities c.args.setting.now.subtrees.now.children c.args.i c.from-arity.ensures c.children_of-numbers.ensures c.args.setting.now.shaped holds c.args.k c.args.x c.requires.i_lt_m c.requires.k_bound
     c.states_of-qs.ensures (c.step_node.ensures A e)

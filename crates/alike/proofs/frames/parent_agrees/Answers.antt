@@ -6,7 +6,7 @@ use Rattle.alike.proofs.frames.parent_agrees.Goals as goal
 
 pub loop-k-init : goal.loop-k-init
 loop-k-init c =
-    (c.wide-arity.ensures, λ A t ts N j e holds known above sub. every-start (get_or c.args.setting.now.subtrees.now.arities c.args.i 0) (omega arith))
+    (c.from-arity.ensures, λ A t ts N j e holds known above sub. every-start (get_or c.args.setting.now.subtrees.now.arities c.args.i 0) (omega arith))
 
 pub place_agrees-requires : goal.place_agrees-requires
 place_agrees-requires c = record {

@@ -13,11 +13,11 @@ returns-in-Some c =
 
 pub states_of-qs-requires : goal.states_of-qs-requires
 states_of-qs-requires c =
-    widened-children c.wide-width.ensures (children-more c.args.setting.now.shaped.few c.requires.children)
+    widened-children c.from-width.ensures (children-more c.args.setting.now.shaped.few c.requires.children)
 
 pub step_node-requires : goal.step_node-requires
 step_node-requires c = record {
-  places = filled-places c.states_of-qs.ensures (omega (arith, c.wide-width.ensures, c.requires.children.narrow));
+  places = filled-places c.states_of-qs.ensures (omega (arith, c.from-width.ensures, c.requires.children.narrow));
 }
 
 pub returns : goal.returns
@@ -25,5 +25,5 @@ returns c =
     let eight : length c.args.numbers ≡ max_arity = omega (arith, c.well_formed) in
     λ A t ts N j k e holds known h l.
     name-missing holds known eight c.requires.children c.in_default.ensures
-    (widened-step A ts c.args.label c.args.numbers c.states_of-qs.result c.wide-width.ensures (c.step_node.ensures A e)
-    (states-run holds.stored eight (widened-children c.wide-width.ensures c.requires.children) c.states_of-qs.ensures))
+    (widened-step A ts c.args.label c.args.numbers c.states_of-qs.result c.from-width.ensures (c.step_node.ensures A e)
+    (states-run holds.stored eight (widened-children c.from-width.ensures c.requires.children) c.states_of-qs.ensures))

@@ -5,7 +5,7 @@ use Rattle.alike.specs.Slots.{SlotOf}
 use Rattle.alike.proofs.slots.parent_slot.Goals as goal
 
 pub loop-k-init : goal.loop-k-init
-loop-k-init c = c.wide-arity.ensures
+loop-k-init c = c.from-arity.ensures
 
 pub overflow_add-i : goal.overflow_add-i
 overflow_add-i c = omega (arith, c.loop-k.invariant, c.args.setting.now.shaped.few, c.args.setting.now.shaped.narrow c.args.i (omega arith))
@@ -20,10 +20,10 @@ frame_slot-requires c = record {
   k_bound = omega (arith, c.loop-k.invariant);
 }
 
-pub returns-then-wide-j : goal.returns-then-wide-j
-returns-then-wide-j c = subst (λ (j : ℕ). SlotOf c.args.setting.now.subtrees.now.count j c.args.setting.now.subtrees.now.labels c.args.setting.now.subtrees.now.arities c.args.setting.now.subtrees.now.children c.args.setting.now.subtrees.now.states
+pub returns-then-from-j : goal.returns-then-from-j
+returns-then-from-j c = subst (λ (j : ℕ). SlotOf c.args.setting.now.subtrees.now.count j c.args.setting.now.subtrees.now.labels c.args.setting.now.subtrees.now.arities c.args.setting.now.subtrees.now.children c.args.setting.now.subtrees.now.states
     c.args.names.now c.frame_slot.result)
-    (sym c.wide.ensures ∙ c.if-wide-j.true) c.frame_slot.ensures
+    (sym c.from.ensures ∙ c.if-from-j.true) c.frame_slot.ensures
 
 pub loop-k-preserved : goal.loop-k-preserved
 loop-k-preserved c = c.loop-k.invariant

@@ -5,18 +5,18 @@ use Rattle.naming.proofs.Choosing.{not_own, own-tried}
 use Rattle.naming.proofs.Spans.{joined}
 use Rattle.naming.proofs.models.fits_subtree.Goals as goal
 
-pub returns-then-wide-setting : goal.returns-then-wide-setting
-returns-then-wide-setting c =
-    λ A t ts S N H K X. not_own X c.requires.j_lt_v c.requires.v_le_m (λ e. c.if-wide-setting.true (c.wide.ensures ∙ e))
+pub returns-then-from-setting : goal.returns-then-from-setting
+returns-then-from-setting c =
+    λ A t ts S N H K X. not_own X c.requires.j_lt_v c.requires.v_le_m (λ e. c.if-from-setting.true (c.from.ensures ∙ e))
 
 pub like_subtree-requires : goal.like_subtree-requires
 like_subtree-requires c =
     let first = c.requires.spans_of.each c.args.j c.requires.le_j (omega (arith, c.requires.j_lt_v, c.requires.v_le_m)) in
     let second = c.requires.spans_of.each c.args.v (omega (arith, c.requires.j_lt_v, c.requires.v_le_m)) c.requires.v_le_m in
-    let both = joined {f = c.wide-from.result} {t = c.wide-to.result} c.requires.spans_of c.requires.le_j
-    c.requires.j_lt_v c.requires.v_le_m (omega (arith, c.wide-from.ensures, c.min.ensures)) (omega (arith, c.wide-from.ensures, c.min.ensures))
-    (omega (arith, c.wide-to.ensures, c.max.ensures)) (omega (arith, c.wide-to.ensures, c.max.ensures))
-    (omega (arith, c.wide-to.ensures, c.max.ensures, first.known, second.known)) in
+    let both = joined {f = c.from-from.result} {t = c.from-to.result} c.requires.spans_of c.requires.le_j
+    c.requires.j_lt_v c.requires.v_le_m (omega (arith, c.from-from.ensures, c.min.ensures)) (omega (arith, c.from-from.ensures, c.min.ensures))
+    (omega (arith, c.from-to.ensures, c.max.ensures)) (omega (arith, c.from-to.ensures, c.max.ensures))
+    (omega (arith, c.from-to.ensures, c.max.ensures, first.known, second.known)) in
     record {
       le_j = c.requires.le_j;
       j_lt_v = c.requires.j_lt_v;
@@ -27,6 +27,6 @@ like_subtree-requires c =
 
 pub returns : goal.returns
 returns c =
-    λ A t ts S N H K X. own-tried X c.requires.j_lt_v c.requires.v_le_m (sym c.wide.ensures ∙ c.if-wide-setting.false)
+    λ A t ts S N H K X. own-tried X c.requires.j_lt_v c.requires.v_le_m (sym c.from.ensures ∙ c.if-from-setting.false)
     (c.like_subtree.ensures A t ts S N H X (K.each c.args.j c.requires.le_j (omega (arith, c.requires.j_lt_v, c.requires.v_le_m)))
     (K.each c.args.v (omega (arith, c.requires.j_lt_v, c.requires.v_le_m)) c.requires.v_le_m))

@@ -6,7 +6,7 @@ use Rattle.naming.proofs.parents.note_children.Goals as goal
 
 pub loop-k-init : goal.loop-k-init
 loop-k-init c = (
-  c.wide-arity.ensures,
+  c.from-arity.ensures,
   omega arith,
   record {
     sizes = c.requires.parents_noted.sizes;
@@ -32,10 +32,10 @@ note_child-requires c =
     omega (arith, now.invariant.0, c.loop-k-test.true) in
     record {
       i_lt_max_nodes = omega (arith, c.args.setting.now.shaped.few);
-      le_j = omega (arith, c.wide-j.ensures, c.args.setting.now.shaped.child-some c.args.i now.k c.requires.i_lt_m inside);
+      le_j = omega (arith, c.from-j.ensures, c.args.setting.now.shaped.child-some c.args.i now.k c.requires.i_lt_m inside);
       j_le_max_nodes = omega (
         arith,
-        c.wide-j.ensures,
+        c.from-j.ensures,
         c.args.setting.now.shaped.few,
         c.args.setting.now.shaped.child-before c.args.i now.k c.requires.i_lt_m inside,
       );
@@ -49,7 +49,7 @@ loop-k-preserved c =
       now.invariant.0,
       omega (arith, c.loop-k-test.true),
       noted-child c.args.setting.now.shaped c.requires.i_lt_m (omega (arith, now.invariant.0, c.loop-k-test.true))
-          c.wide-j.ensures now.invariant.2
+          c.from-j.ensures now.invariant.2
           c.note_child.ensures,
     )
 

@@ -6,13 +6,13 @@ use borrow.Author.Tests.{le-ltb, lt-ltb}
 use Rattle.naming.specs.Parents.{raises}
 use Rattle.naming.proofs.parents.raises_child.Goals as goal
 
-pub returns-then-wide-setting : goal.returns-then-wide-setting
+pub returns-then-from-setting : goal.returns-then-from-setting
 unfolding raises
-returns-then-wide-setting c =
+returns-then-from-setting c =
     rw (le-ltb c.args.setting.now.n ((get_or c.args.names.now (c.args.i - 1) 0)) (omega (
       arith,
-      c.wide.ensures,
-      c.if-wide-setting.true,
+      c.from.ensures,
+      c.if-from-setting.true,
     )))
 
 pub returns : goal.returns
@@ -20,6 +20,6 @@ unfolding raises
 returns c =
     rw (lt-ltb c.args.setting.now.n ((get_or c.args.names.now (c.args.i - 1) 0)) (omega (
       arith,
-      c.wide.ensures,
-      c.if-wide-setting.false,
+      c.from.ensures,
+      c.if-from-setting.false,
     ))) c.is_child.ensures

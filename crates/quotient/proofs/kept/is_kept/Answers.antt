@@ -15,4 +15,4 @@ returns-then-x-candidates c =
 
 pub returns : goal.returns
 returns c =
-    rw (lt-leb c.args.x c.args.candidates.now.n c.if-x-candidates.false) (ap (λ (y : ℕ). eqb y c.args.x) c.wide.ensures)
+    rw (lt-leb c.args.x c.args.candidates.now.n c.if-x-candidates.false) (ap (λ (y : ℕ). eqb y c.args.x) c.from.ensures)

@@ -6,7 +6,7 @@ use Rattle.quotient.proofs.nodes.children_own.Goals as goal
 
 pub loop-k-init : goal.loop-k-init
 loop-k-init c =
-    (c.wide-arity.ensures, every-start (get_or c.args.named.now.subtrees.now.arities c.args.j 0) (omega arith))
+    (c.from-arity.ensures, every-start (get_or c.args.named.now.subtrees.now.arities c.args.j 0) (omega arith))
 
 pub overflow_add-j : goal.overflow_add-j
 overflow_add-j c =

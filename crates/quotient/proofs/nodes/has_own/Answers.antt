@@ -2,4 +2,4 @@
 use Rattle.quotient.proofs.nodes.has_own.Goals as goal
 
 pub returns : goal.returns
-returns c = rw (c.wide.ensures, c.wide-number.ensures)
+returns c = rw (c.from.ensures, c.from-number.ensures)

@@ -21,4 +21,4 @@ returns-then-subtrees-h-3 c =
 
 pub returns : goal.returns
 returns c =
-    by-children c.args.subtrees.now.labels c.args.subtrees.now.arities c.args.subtrees.now.children c.args.j c.args.k c.args.i c.args.h c.if-subtrees-h.false c.if-subtrees-h-2.false c.if-subtrees-h-3.false (c.same_children.ensures ∙ ap (λ (n : ℕ). every (same_child c.args.subtrees.now.children c.args.k c.args.i c.args.h) (up_from 0 n)) c.wide.ensures)
+    by-children c.args.subtrees.now.labels c.args.subtrees.now.arities c.args.subtrees.now.children c.args.j c.args.k c.args.i c.args.h c.if-subtrees-h.false c.if-subtrees-h-2.false c.if-subtrees-h-3.false (c.same_children.ensures ∙ ap (λ (n : ℕ). every (same_child c.args.subtrees.now.children c.args.k c.args.i c.args.h) (up_from 0 n)) c.from.ensures)

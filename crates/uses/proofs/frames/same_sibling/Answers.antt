@@ -11,4 +11,4 @@ returns-then-x-k c = or-eq _ _ _ c.if-x-k.true
 
 pub returns : goal.returns
 returns c =
-    or-ne _ _ _ c.if-x-k.false (ap₂ eqb (c.wide.ensures ∙ ap (λ (x : ℕ). get_or c.args.states.now (x - 1) 0) c.wide-child.ensures) c.arg_of.ensures.value)
+    or-ne _ _ _ c.if-x-k.false (ap₂ eqb (c.from.ensures ∙ ap (λ (x : ℕ). get_or c.args.states.now (x - 1) 0) c.from-child.ensures) c.arg_of.ensures.value)

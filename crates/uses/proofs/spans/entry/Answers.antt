@@ -6,5 +6,5 @@ use Rattle.uses.proofs.spans.entry.Goals as goal
 
 pub returns : goal.returns
 returns c =
-    c.widened.ensures ∙ ap (λ (x : ℕ). get_or c.args.numbers.now x 0)
-    c.wide.ensures
+    c.from-2.ensures ∙ ap (λ (x : ℕ). get_or c.args.numbers.now x 0)
+    c.from.ensures

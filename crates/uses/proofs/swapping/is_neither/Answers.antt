@@ -8,4 +8,4 @@ use Rattle.uses.proofs.swapping.is_neither.Goals as goal
 pub returns : goal.returns
 returns c =
     let arg = c.args.arg in
-    ap₂ (λ (a b : ℕ). not (eqb arg a) && not (eqb arg b)) c.wide.ensures c.wide-2.ensures
+    ap₂ (λ (a b : ℕ). not (eqb arg a) && not (eqb arg b)) c.from.ensures c.from-2.ensures

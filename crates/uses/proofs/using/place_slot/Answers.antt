@@ -26,6 +26,6 @@ is_covered-requires c = record {
 pub returns : goal.returns
 returns c =
     used-slot (arrays_of c.args.setting.now.subtrees.now c.args.setting.now.weights.now c.args.j 0) c.args.setting.now.searchable c.args.setting.now.over c.args.i c.args.k c.requires.i_lt_count c.requires.k_bound (sym
-    c.wide.ensures ∙ sym c.if-arg_of-wide.false
+    c.from.ensures ∙ sym c.if-arg_of-from.false
     ∙ c.arg_of.ensures.value) (sym c.is_covered.ensures
     ∙ c.if-is_covered.false) c.slot_at.result c.slot_at.ensures.meta_value c.slot_at.ensures.args_value c.slot_at.ensures.place_value c.slot_at.ensures.out_value

@@ -8,7 +8,7 @@ use Rattle.uses.proofs.using.slot_at.Goals as goal
 
 pub at_place-requires : goal.at_place-requires
 at_place-requires c = record {
-  q_lt_byte_values = omega (arith, c.wide.ensures, c.ranges.p);
+  q_lt_byte_values = omega (arith, c.from.ensures, c.ranges.p);
   k_lt_max_arity = omega (
     arith,
     c.requires.searchable.padded.runs.narrow c.args.i
@@ -20,7 +20,7 @@ at_place-requires c = record {
 pub overflow_sub-args : goal.overflow_sub-args
 overflow_sub-args c =
     let out = c.at_place.ensures ∙ ap (λ (v : ℕ). v * 2 ^ (8 * (7 -
-    c.args.k))) (c.wide.ensures
+    c.args.k))) (c.from.ensures
     ∙ c.requires.p_value) in
     omega (
       arith,
@@ -37,7 +37,7 @@ overflow_sub-args c =
 pub returns : goal.returns
 returns c =
     let out = c.at_place.ensures ∙ ap (λ (v : ℕ). v * 2 ^ (8 * (7 -
-    c.args.k))) c.wide.ensures in
+    c.args.k))) c.from.ensures in
     record {
       meta_value = c.meta_at-meta.ensures;
       args_value = omega (

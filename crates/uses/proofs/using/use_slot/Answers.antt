@@ -26,7 +26,7 @@ returns c = record {
       used.takes q (uses-exact c.args.setting.now.searchable c.args.setting.now.over holds c.args.j 0
       (frames_of t (tree_numbered ts c.args.j))
       (first-only t ts c.args.setting.now.subtrees.now.count c.args.j c.requires.le_j c.requires.j_le_m)
-      (get_or c.args.setting.now.subtrees.now.states (c.wide.result - 1) 0) q
+      (get_or c.args.setting.now.subtrees.now.states (c.from.result - 1) 0) q
       ∙ ap (λ (x : ℕ). uses_agree A t (frames_of t (tree_numbered ts c.args.j)) x q)
-      (state-read holds c.args.j c.requires.le_j c.requires.j_le_m c.wide.ensures) ∙ agree));
+      (state-read holds c.args.j c.requires.le_j c.requires.j_le_m c.from.ensures) ∙ agree));
 }
