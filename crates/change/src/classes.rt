@@ -5,7 +5,7 @@ ghost use Rattle.format.specs.Format.{byte_values, max_nodes, max_states, table_
 ghost use Rattle.quotient.specs.Kept.{state_of};
 ghost use Rattle.change.specs.Classes.{Classed, class_of_name};
 
-use format::{BYTE_VALUES, MAX_NODES, wide};
+use format::{BYTE_VALUES, MAX_NODES};
 
 // The state of the name p: p itself, or the state of the subtree whose own name p is.
 fn state_of(n: usize, states: &[u8; MAX_NODES], p: usize) -> u8
@@ -36,7 +36,7 @@ fn class_of(
     if p == own {
         return own_class(inserting);
     }
-    let q = wide(state_of(n, states, p));
+    let q = usize::from(state_of(n, states, p));
     if q == 0 {
         return 0;
     }

@@ -11,9 +11,9 @@ returns-then-p-own c =
 pub returns-then-q-eq0 : goal.returns-then-q-eq0
 returns-then-q-eq0 c =
     class-none c.args.table.now c.args.n c.args.states.now c.args.own
-    c.args.inserting c.args.p c.if-p-own.false (c.wide-q.ensures ∙ c.state_of.ensures) c.if-q-eq0.true
+    c.args.inserting c.args.p c.if-p-own.false (c.from-q.ensures ∙ c.state_of.ensures) c.if-q-eq0.true
 
 pub returns : goal.returns
 returns c =
     class-some c.args.table.now c.args.n c.args.states.now c.args.own
-    c.args.inserting c.args.p c.if-p-own.false (c.wide-q.ensures ∙ c.state_of.ensures) c.if-q-eq0.false
+    c.args.inserting c.args.p c.if-p-own.false (c.from-q.ensures ∙ c.state_of.ensures) c.if-q-eq0.false
