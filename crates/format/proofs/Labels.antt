@@ -3,7 +3,7 @@ use mathlib.Core.List.{List, [], ◌∷◌}
 use mathlib.Core.Path.{◌≡◌}
 use Prim.Native.Nat.{◌%◌, ◌+◌, ◌/◌, ◌<◌, ◌≤◌, suc, ℕ}
 use native.Mathlib.Omega.{arith}
-use lib.ListN.{set}
+use lib.ListN.{get_or, set}
 use lib.Seq.{sets}
 use Rattle.format.specs.Format.{byte_values, label_from, label_written, max_label}
 
@@ -19,6 +19,10 @@ written_from h l b =
 pub from-most : (h l : ℕ) → h < byte_values → l < byte_values → label_from h l ≤ max_label
 from-most h l a b = omega arith
 
-pub label-stored : (s : List ℕ) (at a : ℕ) {h l : ℕ} → h ≡ a / byte_values → l ≡ a % byte_values →
-    set (set s at h) (at + 1) l ≡ sets s at (label_written a)
-label-stored s at a p q = let z : at + 1 ≡ suc at = omega arith in rw (z, p, q)
+pub label-stored : (s : List ℕ) (at a : ℕ) {b : List ℕ} → a ≤ max_label →
+    b ≡ a / byte_values % byte_values ∷ a % byte_values ∷ [] →
+    set (set s at (get_or b 0 0)) (at + 1) (get_or b 1 0) ≡ sets s at (label_written a)
+label-stored s at a small e =
+    let z : at + 1 ≡ suc at = omega arith in
+    let high : a / byte_values % byte_values ≡ a / byte_values = omega (arith, small) in
+    rw (z, e, high)

@@ -1,8 +1,8 @@
 // The widths and limits of document 01 for code. specs/Format.antt has the same numbers, and says what each is.
 #![tactic(auto)]
 
-ghost use Rattle.std.specs.Prelude.{◌≡◌, ◌%◌, ◌/◌, ◌≤◌};
-ghost use Rattle.format.specs.Format.{byte_values, label_from, max_label};
+ghost use Rattle.std.specs.Prelude.{◌≡◌, ◌≤◌};
+ghost use Rattle.format.specs.Format.{label_from, max_label};
 
 mod refusal;
 
@@ -60,31 +60,4 @@ pub fn label_from(high: u8, low: u8) -> u16
     ensures upper_bound { result ≤ max_label }
 {
     u16::from_be_bytes([high, low])
-}
-
-// The two bytes of a label.
-pub fn label_high(label: u16) -> u8
-    ensures { result ≡ label / byte_values }
-{
-    (label / 256) as u8
-}
-
-pub fn label_low(label: u16) -> u8
-    ensures { result ≡ label % byte_values }
-{
-    (label % 256) as u8
-}
-
-// A number of 16 bits as an index or a count.
-pub fn widened(x: u16) -> usize
-    ensures { result ≡ x }
-{
-    x as usize
-}
-
-// A byte as an index or a count.
-pub fn wide(x: u8) -> usize
-    ensures { result ≡ x }
-{
-    x as usize
 }

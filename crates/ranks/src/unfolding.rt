@@ -16,9 +16,7 @@ use crate::choosing::choose_transition;
 use crate::exact::divided;
 use crate::weights::product_of_args;
 use fields::{arg_of, arity_of, label_of};
-use format::{
-    LABEL_BYTES, MAX_LISTING, MAX_NODES, NODE_BYTES, TRANSITION_BYTES, label_high, label_low,
-};
+use format::{LABEL_BYTES, MAX_LISTING, MAX_NODES, NODE_BYTES, TRANSITION_BYTES};
 use totals::Numbers;
 
 // Writes node `node` of a listing.
@@ -30,8 +28,9 @@ fn put_node(bytes: &mut [u8; MAX_LISTING], node: usize, label: u16, arity: usize
     ensures { bytes.new ≡ set (sets bytes.old (node_bytes * node) (label_written label))
         (node_bytes * node + label_bytes) arity }
 {
-    bytes[NODE_BYTES * node] = label_high(label);
-    bytes[NODE_BYTES * node + 1] = label_low(label);
+    let [high, low] = label.to_be_bytes();
+    bytes[NODE_BYTES * node] = high;
+    bytes[NODE_BYTES * node + 1] = low;
     bytes[NODE_BYTES * node + LABEL_BYTES] = arity as u8;
 }
 

@@ -13,7 +13,7 @@ ghost use Rattle.text.specs.Outcome.{no_listing, listed, parsed};
 ghost use Rattle.text.specs.Reader.{agreed, extends, is_digit, read_line};
 
 use cursor::Cursor;
-use format::{LABEL_BYTES, LISTING_BYTES, MAX_LABEL, MAX_LINE, NODE_BYTES, label_high, label_low};
+use format::{LABEL_BYTES, LISTING_BYTES, MAX_LABEL, MAX_LINE, NODE_BYTES};
 
 mod cursor; // cursor.rt: a place in a line and its column
 
@@ -122,8 +122,9 @@ fn put_label(listing: &mut [u8; LISTING_BYTES], at: usize, value: u16)
     requires value_le_max_label { value ≤ max_label }
     ensures { listing.new ≡ sets listing.old at (label_written value) }
 {
-    put(listing, at, label_high(value));
-    put(listing, at + 1, label_low(value));
+    let [high, low] = value.to_be_bytes();
+    put(listing, at, high);
+    put(listing, at + 1, low);
 }
 
 // Reads the tree at the cursor, and writes its listing from byte `at` on.

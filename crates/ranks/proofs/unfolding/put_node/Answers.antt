@@ -9,4 +9,4 @@ use Rattle.ranks.proofs.unfolding.put_node.Goals as goal
 pub returns : goal.returns
 returns c =
     let first = node_bytes * c.args.node in
-    ap (λ l. set l (first + label_bytes) c.args.arity) (label-stored c.args.bytes.now first c.args.label c.label_high.ensures c.label_low.ensures)
+    ap (λ l. set l (first + label_bytes) c.args.arity) (label-stored c.args.bytes.now first c.args.label c.requires.label_le_max_label c.to_be_bytes.ensures)
