@@ -11,6 +11,6 @@ mod grounding; // condition 11
 
 pub use grounding::{acyclic, ranks_show};
 pub use marks::args_marked;
-pub use numbering::{Ruling, all_seen, greater, leads_to, ruled};
+pub use numbering::{Ruling, all_seen, leads_to, ruled};
 pub use reaching::all_accessible;
 pub use usefulness::all_coaccessible;

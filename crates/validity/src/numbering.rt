@@ -1,6 +1,6 @@
 // Condition 13 in one pass: a transition whose output is above its arguments gives the output its number, and every
 // state strictly between has one already.
-ghost use Rattle.std.specs.Prelude.{◌≡◌, ℕ, ◌+◌, ◌-◌, ◌*◌, ◌≤◌, max, true, List, length};
+ghost use Rattle.std.specs.Prelude.{◌≡◌, ℕ, ◌+◌, ◌-◌, ◌*◌, ◌≤◌, true, List, length};
 ghost use Rattle.automata.specs.Numbered.{Passed, numbered, top};
 ghost use Rattle.format.specs.Format.{byte_values, transition_bytes};
 ghost use Rattle.lists.specs.Positions.{up_from};
@@ -23,12 +23,6 @@ use format::{BYTE_VALUES, MAX_ARITY, TRANSITION_BYTES};
 pub struct Ruling {
     pub numbered: bool,
     pub climbing: bool,
-}
-
-pub fn greater(x: usize, y: usize) -> usize
-    ensures { result ≡ max x y }
-{
-    x.max(y)
 }
 
 // The greatest argument; 0 for a leaf. The places beyond the arguments are 0, so all eight are looked at and the loop
