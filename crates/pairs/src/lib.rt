@@ -19,7 +19,7 @@ ghost use Rattle.pairs.specs.Counts.{weight_of, zeros};
 use format::{BYTE_VALUES, MAX_NODES, MAX_PRODUCT};
 use opening::open_states;
 pub use opening::some_marked;
-pub use sums::{index, sum_fits};
+pub use sums::sum_fits;
 
 // How many of the first m subtrees run to each state. `counts` is all 0 before.
 fn count_states(m: usize, states: &[u8; MAX_NODES], counts: &mut [u8; BYTE_VALUES])
@@ -28,7 +28,7 @@ fn count_states(m: usize, states: &[u8; MAX_NODES], counts: &mut [u8; BYTE_VALUE
     ensures { Counted states.now m counts.new }
 {
     for j in 0..m {
-        let q = index(states[j]);
+        let q = usize::from(states[j]);
         counts[q] += 1;
     }
 }
@@ -77,5 +77,6 @@ pub fn count_pairs(
     count_states(m, states, &mut counts);
     open_states(transitions, count, &counts, opens);
     weigh(&counts, opens, weights);
-    sum_fits(transitions, count, index(counts[0]), MAX_PRODUCT, weights)
+    let stateless = usize::from(counts[0]);
+    sum_fits(transitions, count, stateless, MAX_PRODUCT, weights)
 }

@@ -12,14 +12,6 @@ use format::{BYTE_VALUES, MAX_PRODUCT, TRANSITION_BYTES};
 
 const SUM_CAP: usize = 255;
 
-// A byte as an index.
-pub fn index(x: u8) -> usize
-    ensures value { result ≡ x }
-    ensures upper_bound { result < byte_values }
-{
-    usize::from(x)
-}
-
 // A product, at most one more than condition 16 allows.
 fn capped(product: usize) -> usize
     ensures { result ≡ min product_cap product }
@@ -51,7 +43,7 @@ fn multiplied(transitions: &[u8], at: usize, numbers: &[u8; BYTE_VALUES]) -> usi
     let mut product = 1;
     for k in 0..arity {
         let q = arg_of(transitions, at, k);
-        let number = index(numbers[q]);
+        let number = usize::from(numbers[q]);
         if number == 0 {
             return 0;
         }

@@ -11,7 +11,6 @@ use crate::frames::frame_count;
 use crate::setting::{Frames, Setting};
 use fields::{arg_of, arity_of};
 use format::{BYTE_VALUES, MAX_NODES};
-use pairs::index;
 
 // The number of pairs of argument x; 1 if it is left out.
 fn factor(transitions: &[u8], at: usize, k: usize, weights: &[u8; BYTE_VALUES], x: usize) -> usize
@@ -24,7 +23,7 @@ fn factor(transitions: &[u8], at: usize, k: usize, weights: &[u8; BYTE_VALUES], 
         return 1;
     }
     let q = arg_of(transitions, at, x);
-    index(weights[q])
+    usize::from(weights[q])
 }
 
 // A product, at most one more than there can be frames.

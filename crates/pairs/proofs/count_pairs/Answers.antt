@@ -14,7 +14,7 @@ sum_fits-requires c = record {
   holds_transitions = c.requires.holds_transitions;
   more_le_limit = omega (
     arith,
-    c.index.ensures.value,
+    c.from-stateless.ensures,
     few-counted c.count_states.ensures c.requires.m_le_max_nodes 0 (omega arith),
   );
   limit_le_max_product = omega arith;
@@ -24,7 +24,7 @@ pub returns : goal.returns
 returns c = record {
   pairs_counted = λ A t S e.
       let C = subtrees-counted c.count_states.ensures c.requires.m_le_max_nodes e in
-      pairs-counted S C (c.open_states.ensures.fact A t S C) c.weigh.ensures c.index.ensures.value c.sum_fits.ensures;
+      pairs-counted S C (c.open_states.ensures.fact A t S C) c.weigh.ensures c.from-stateless.ensures c.sum_fits.ensures;
   opens_len_2 = c.open_states.ensures.marks_len_2;
   weights_len_2 = c.weigh.ensures.size;
 }

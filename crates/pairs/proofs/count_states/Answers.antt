@@ -1,5 +1,7 @@
+use Prim.Native.Nat.{◌<◌}
 use mathlib.Core.Path.{refl}
 use native.Mathlib.Omega.{arith}
+use Rattle.format.specs.Format.{byte_values}
 use Rattle.pairs.proofs.Counting.{counted-end, counted_next, counted_start, few-with}
 use Rattle.pairs.proofs.count_states.Goals as goal
 
@@ -7,26 +9,26 @@ pub loop-j-init : goal.loop-j-init
 loop-j-init c = (omega arith, counted_start c.requires.counts_value)
 
 pub bounds-counts-q : goal.bounds-counts-q
-bounds-counts-q c = c.index-q.ensures.upper_bound
+bounds-counts-q c = omega (arith, c.from-q.ensures, c.fits-states c.loop-j.j)
 
 pub overflow_add-counts : goal.overflow_add-counts
 overflow_add-counts c =
-    let read = c.index-q in
+    let q = c.from-q.result in
     omega (
       arith,
-      c.loop-j.invariant.1.each read.result read.ensures.upper_bound,
-      few-with c.args.states.now c.loop-j.j read.result,
+      c.loop-j.invariant.1.each q (omega (arith, c.from-q.ensures, c.fits-states c.loop-j.j)),
+      few-with c.args.states.now c.loop-j.j q,
       c.requires.m_le_max_nodes,
       c.loop-j-test.true,
     )
 
 pub bounds-counts-q-in-loop-j : goal.bounds-counts-q-in-loop-j
-bounds-counts-q-in-loop-j c = c.index-q.ensures.upper_bound
+bounds-counts-q-in-loop-j c = omega (arith, c.from-q.ensures, c.fits-states c.loop-j.j)
 
 pub loop-j-preserved : goal.loop-j-preserved
 loop-j-preserved c =
-    let read = c.index-q in
-    (omega arith, counted_next c.loop-j.invariant.1 read.ensures.value read.ensures.upper_bound refl)
+    let small : c.from-q.result < byte_values = omega (arith, c.from-q.ensures, c.fits-states c.loop-j.j) in
+    (omega arith, counted_next c.loop-j.invariant.1 c.from-q.ensures small refl)
 
 pub returns : goal.returns
 returns c =

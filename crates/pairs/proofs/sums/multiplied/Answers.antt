@@ -10,11 +10,11 @@ loop-k-init c = (c.arity_of-arity.ensures, product-start)
 pub returns-then-number-eq0 : goal.returns-then-number-eq0
 returns-then-number-eq0 c =
     product-none c.loop-k.invariant.1 (omega arith) c.arg_of-q.ensures.value
-    c.index-number.ensures.value (omega arith)
+    c.from-number.ensures (omega arith)
 
 pub overflow_mul-product : goal.overflow_mul-product
 overflow_mul-product c =
-    let h : c.index-number.result ≤ 255 = omega (arith, c.index-number.ensures.upper_bound) in
+    let h : c.from-number.result ≤ 255 = omega (arith, c.from-number.ensures, c.fits-numbers c.arg_of-q.result) in
     let l = mul-le-mul c.loop-k.invariant.1.small h in
     omega arith
 
@@ -22,7 +22,7 @@ pub loop-k-preserved : goal.loop-k-preserved
 loop-k-preserved c = (
   c.loop-k.invariant.0,
   product-next c.loop-k.invariant.1 (omega arith) c.arg_of-q.ensures.value
-      c.index-number.ensures.value c.capped-product.ensures,
+      c.from-number.ensures c.capped-product.ensures,
 )
 
 pub returns : goal.returns

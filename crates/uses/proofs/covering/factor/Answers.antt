@@ -11,6 +11,6 @@ returns-then-x-k c = record {
 
 pub returns : goal.returns
 returns c = record {
-  value = factor-there c.args.weights.now c.args.transitions.now c.args.at c.args.k c.args.x c.if-x-k.false c.arg_of-q.ensures.value c.index.ensures.value;
-  upper_bound = omega (arith, c.index.ensures.upper_bound);
+  value = factor-there c.args.weights.now c.args.transitions.now c.args.at c.args.k c.args.x c.if-x-k.false c.arg_of-q.ensures.value c.from.ensures;
+  upper_bound = omega (arith, c.from.ensures, c.fits-weights c.arg_of-q.result);
 }
