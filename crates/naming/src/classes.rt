@@ -8,7 +8,6 @@ ghost use Rattle.naming.specs.Classes.{Changed, Classed, ClassesIn, Rooted, clas
 ghost use Rattle.alike.specs.Known.{Holds};
 
 use format::MAX_NODES;
-use pairs::index;
 
 // The byte of a class.
 fn own_class(accepting: bool) -> u8
@@ -42,7 +41,7 @@ fn class_of(table: &[u8], states: &[u8; MAX_NODES], root: usize, inserting: bool
     if j == root {
         return own_class(inserting);
     }
-    class_in(table, index(states[j - 1]))
+    class_in(table, usize::from(states[j - 1]))
 }
 
 // Fills in the classes of the m subtrees. `root` is the number of the tree itself.

@@ -8,9 +8,9 @@ ghost use Rattle.quotient.specs.Named.{choices_at, choices_from};
 
 use crate::entries::Entries;
 use crate::finishing::{Choice, finish};
+use crate::kept::index;
 use crate::named::Names;
 use fields::{arg_of, arity_of};
-use pairs::index;
 
 // Appends the entries of all choices for the places from k on, after the names chosen for those before it.
 fn choose(

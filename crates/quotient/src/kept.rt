@@ -7,7 +7,14 @@ ghost use Rattle.quotient.specs.Kept.{PutFirst, state_of};
 
 use crate::named::{Candidates, KeptNames};
 use format::BYTE_VALUES;
-use pairs::index;
+
+// A byte as an index. The bound of a byte in a field is known where the byte is an argument.
+pub fn index(x: u8) -> usize
+    ensures value { result ≡ x }
+    ensures upper_bound { result < byte_values }
+{
+    usize::from(x)
+}
 
 // Whether the name x is kept.
 pub fn is_kept(candidates: &Candidates<'_>, x: usize) -> bool

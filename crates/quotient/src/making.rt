@@ -13,11 +13,11 @@ ghost use Rattle.quotient.specs.Making.{Room};
 ghost use Rattle.quotient.specs.Named.{ChosenIn, FewChosenIn, OddIn, added_at, added_in, choices_in};
 
 use crate::entries::Entries;
+use crate::kept::index;
 use crate::named::{KeptNames, NamedSubtrees, Names};
 use crate::nodes::{is_new, key_of, meta_of, number_each};
 use crate::plain::{choose_at, mark_odd};
 use format::{BYTE_VALUES, MAX_NODES, TRANSITION_BYTES};
-use pairs::index;
 
 // Notes how many entries there are after transition i, if the array has a place for i.
 fn note_end(ends: &mut [u16], i: usize, made: usize)

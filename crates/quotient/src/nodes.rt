@@ -8,7 +8,6 @@ ghost use Rattle.quotient.specs.Nodes.{EachNode, digit_of, key_of, meta_of};
 
 use crate::named::{NamedSubtrees, Names};
 use format::{MAX_ARITY, MAX_NODES};
-use pairs::index;
 
 // The own name of a child, 0 for no child.
 fn digit_of(named: &NamedSubtrees<'_>, child: u8) -> usize
@@ -39,7 +38,7 @@ pub fn meta_of(named: &NamedSubtrees<'_>, j: usize) -> u64
     requires { j < named.now.subtrees.now.count }
     ensures { result ≡ meta_of named.now.subtrees.now.labels named.now.subtrees.now.arities j }
 {
-    let arity = index(named.subtrees.arities[j]);
+    let arity = usize::from(named.subtrees.arities[j]);
     let label = usize::from(named.subtrees.labels[j]);
     65536 * arity as u64 + label as u64
 }

@@ -16,7 +16,7 @@ use crate::named::Names;
 use fields::{arity_of, out_of};
 use format::BYTE_VALUES;
 use packed::{args_at, meta_at};
-use pairs::{index, some_marked};
+use pairs::some_marked;
 
 // Takes the mark off the state q if its only name is q itself.
 fn unmark(names: &Names<'_>, q: usize, odd: &mut [u8; BYTE_VALUES])
@@ -27,7 +27,7 @@ fn unmark(names: &Names<'_>, q: usize, odd: &mut [u8; BYTE_VALUES])
     ensures odd_len_2 { length odd.new ≡ byte_values }
     ensures odd_marked_2 { OddIn names.now odd.new }
 {
-    if index(names.kept.firsts[q]) != q {
+    if usize::from(names.kept.firsts[q]) != q {
         return;
     }
     if names.kept.nexts[q] != 0 {

@@ -9,4 +9,4 @@ returns-then-j-root c =
 pub returns : goal.returns
 returns c =
     class-other c.args.table.now c.args.states.now c.args.root c.args.inserting
-    c.args.j c.if-j-root.false c.index.ensures.value c.class_in.ensures
+    c.args.j c.if-j-root.false c.from.ensures c.class_in.ensures

@@ -7,13 +7,12 @@ use Rattle.quotient.proofs.plain.unmark.Goals as goal
 
 pub returns : goal.returns
 returns c =
-    let index-call = c.index in
     record {
       odd_len_2 = simp length-set c.requires.odd_len;
       odd_marked_2 = odd-next c.args.odd.now c.requires.odd_marked record {
         some = c.requires.le_q;
         state = c.requires.q_le_n;
-        first = sym index-call.ensures.value ∙ c.if-index-q.false;
+        first = sym c.from.ensures ∙ c.if-from-q.false;
         last = omega arith;
       };
     }
