@@ -1,4 +1,4 @@
--- A byte is widened before it is an index.
+-- A byte is converted before it is an index.
 use mathlib.Core.Path.{◌∙◌, ap}
 use Prim.Native.Nat.{ℕ}
 use lib.ListN.{get_or}
