@@ -40,20 +40,25 @@ pub fn find(
     ensures result_value { unwrap_or result 0 ≡ lookup label (take arity args) (transitions_in transitions.now count) }
     ensures result_value_2 { is_some result ≡ any (matches label (take arity args)) (transitions_in transitions.now count) }
 {
-    'search: for i in 0..count {
+    let mut i = 0;
+    let answer = 'search: loop {
+        if i >= count {
+            break 'search None;
+        }
         let at = TRANSITION_BYTES * i;
+        i += 1;
         if label_of(transitions, at) != label {
-            continue;
+            continue 'search;
         }
         if arity_of(transitions, at) != arity {
-            continue;
+            continue 'search;
         }
         for k in 0..arity {
             if arg_of(transitions, at, k) != usize::from(args[k]) {
                 continue 'search;
             }
         }
-        return Some(out_of(transitions, at) as u8);
-    }
-    None
+        break 'search Some(out_of(transitions, at) as u8);
+    };
+    answer
 }

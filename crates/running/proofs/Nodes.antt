@@ -10,11 +10,13 @@ use lib.ListN.{get_or, length, length-append, set, take}
 use lib.Seq.{length-sets, sets}
 use Rattle.automata.specs.Automaton.{Transition, lookup, matches, run, step}
 use Rattle.automata.specs.NodeStates.{forest_states, node_states}
+use Rattle.std.specs.Option.{unwrap_or}
+use Rattle.std.specs.Prelude.{None, Option, Some, is_some}
 use Rattle.format.specs.Format.{label_bytes, max_nodes, node_bytes}
 use Rattle.lists.specs.Tests.{◌∈◌, any}
 use Rattle.running.specs.Running.{Ahead, Steps, child_states, over, ran_to}
-use Rattle.std.specs.Prelude.{None, Option, Some, is_some}
-use Rattle.std.specs.Option.{unwrap_or}
+use Rattle.running.specs.declared.Ran.{Ran}
+use Rattle.running.specs.declared.Ran.TheVariants.{Nothing, State}
 use Rattle.table.specs.Layout.{transitions_in}
 use Rattle.trees.specs.Listing.{first_trees, label_at, read_tree, read_trees}
 use Rattle.trees.specs.Preorder.{preorder, preorders}
@@ -50,19 +52,23 @@ found_some {s} {n} v a qs = lookup-some (transitions_in s n) a qs out
 -- its children run to the states qs
 module _ (τs : List ℕ) (n a : ℕ) (qs : List ℕ) where
   -- a child has no state
-  pub node-short : any (eqb 0) qs ≡ true → None ≡ ran_to (step (over τs n) a qs)
+  pub node-short : any (eqb 0) qs ≡ true → Nothing ≡ ran_to (step (over τs n) a qs)
   node-short d = nothing-ran _ (rw d)
 
   module _ (d : any (eqb 0) qs ≡ false) where
     node-step : lookup a qs (transitions_in τs n) ≡ step (over τs n) a qs
     node-step = rw d
 
-    -- and r is what the search for a transition finds
-    pub node-ran : Steps τs n → (r : Option ℕ) → unwrap_or r 0 ≡ lookup a qs (transitions_in τs n) →
-        is_some r ≡ any (matches a qs) (transitions_in τs n) → r ≡ ran_to (step (over τs n) a qs)
-    node-ran u None g i = nothing-ran _ (sym node-step ∙ sym g)
-    node-ran u (Some q) g i =
-        let some = found_some u a qs (sym i) in state-ran q (λ y. omega arith) ∙ ap ran_to (g ∙ node-step)
+    pub node-lost : {r : Option ℕ} → unwrap_or r 0 ≡ lookup a qs (transitions_in τs n) → r ≡ None →
+        Nothing ≡ ran_to (step (over τs n) a qs)
+    node-lost g z = nothing-ran _ (sym node-step ∙ sym g ∙ ap (λ o. unwrap_or o 0) z)
+
+    pub node-found : Steps τs n → {r : Option ℕ} (q : ℕ) → unwrap_or r 0 ≡ lookup a qs (transitions_in τs n) →
+        is_some r ≡ any (matches a qs) (transitions_in τs n) → r ≡ Some q → State q ≡ ran_to (step (over τs n) a qs)
+    node-found u q g i z =
+        let out : q ≡ lookup a qs (transitions_in τs n) = sym (ap (λ o. unwrap_or o 0) z) ∙ g in
+        let some = found_some u a qs (sym i ∙ ap is_some z) in
+        state-ran q (λ y. omega arith) ∙ ap ran_to (out ∙ node-step)
 
 -- ---- a tree
 
@@ -74,7 +80,7 @@ module _ {s : List ℕ} {at : ℕ} (v : Ahead s 1 at) (k : ℕ) (e : k ≡ get_o
   root-nodes d = rw (root-reads v k e) (omega (arith, d))
 
   module _ (τs : List ℕ) (n : ℕ) where
-    pub root-run : {r : Option ℕ} {a : ℕ} → r ≡ ran_to (step (over τs n) a (child_states τs n (part s node_bytes) k)) →
+    pub root-run : {r : Ran} {a : ℕ} → r ≡ ran_to (step (over τs n) a (child_states τs n (part s node_bytes) k)) →
         a ≡ label_at s 0 → r ≡ ran_to (run (over τs n) (read_tree s))
     root-run h label = h ∙ rw (label, root-reads v k e)
 
@@ -102,7 +108,7 @@ trees-nodes {s} {i = i} {m = m} w h =
 
 module _ (τs : List ℕ) (n : ℕ) where
   -- the children of a node are all run
-  pub children-done : {r : Option ℕ} (s : List ℕ) {k arity : ℕ} (j a : ℕ) (row : List ℕ) → k ≡ arity → j ≡ 0 →
+  pub children-done : {r : Ran} (s : List ℕ) {k arity : ℕ} (j a : ℕ) (row : List ℕ) → k ≡ arity → j ≡ 0 →
       r ≡ ran_to (step (over τs n) a (take arity row)) →
       r ≡ ran_to (step (over τs n) a (take k row ++ child_states τs n s j))
   children-done s {k} j a row e d h = rw (d, append-nil, e) h
@@ -120,16 +126,16 @@ module _ (τs : List ℕ) (n : ℕ) where
     child-states h = rw (first-others w) (ap (λ q. q ∷ child_states τs n rest i) (sym h))
 
     -- what it runs to; a is its parent's label, and qs are the states of the children before it
-    module _ {r : Option ℕ} (h : r ≡ ran_to (run (over τs n) (read_tree s))) (a : ℕ) (qs : List ℕ) where
+    module _ {r : Ran} (h : r ≡ ran_to (run (over τs n) (read_tree s))) (a : ℕ) (qs : List ℕ) where
       -- no state, so its parent has none
-      pub child-none : r ≡ None → None ≡ ran_to (step (over τs n) a (qs ++ child_states τs n s j))
+      pub child-none : r ≡ Nothing → Nothing ≡ ran_to (step (over τs n) a (qs ++ child_states τs n s j))
       child-none e =
           node-short τs n a (qs ++ child_states τs n s j)
           (ap (λ rs. any (eqb 0) (qs ++ rs)) (child-states (ran-none (run (over τs n) (read_tree s)) h e))
           ∙ none-behind qs (child_states τs n rest i))
 
       -- the state q, which is stored in the row
-      pub child-next : {q : ℕ} → r ≡ Some q → (row : List ℕ) → row ≡ qs ++ (q ∷ []) → {r' : Option ℕ} →
+      pub child-next : {q : ℕ} → r ≡ State q → (row : List ℕ) → row ≡ qs ++ (q ∷ []) → {r' : Ran} →
           r' ≡ ran_to (step (over τs n) a (row ++ child_states τs n rest i)) →
           r' ≡ ran_to (step (over τs n) a (qs ++ child_states τs n s j))
       child-next {q} e row d g =

@@ -1,13 +1,14 @@
 -- Running a listing over transitions: what it needs, what it answers, and what it leaves in the rows of child
 -- states and in the bytes of the nodes' states.
 use Rattle.std.specs.Prelude.{cond, false, List, [], ◌++◌, ◌≡◌, ◌*◌, ◌+◌, ◌<◌, ◌≤◌, ℕ, eqb, get_or, length, take}
-use Rattle.std.specs.Prelude.{None, Option, Some}
 use Rattle.automata.specs.Automaton.{Automaton, runs}
 use Rattle.automata.specs.NodeStates.{node_states}
 use Rattle.fields.specs.Fields.{HoldsTransitions}
 use Rattle.format.specs.Format.{max_arity, max_listing, max_nodes, node_bytes, transition_bytes}
 use Rattle.lists.specs.Tests.{any}
 use Rattle.running.specs.declared.Parent.{Parent}
+use Rattle.running.specs.declared.Ran.{Ran}
+use Rattle.running.specs.declared.Ran.TheVariants.{Nothing, State}
 use Rattle.table.specs.Layout.{out_of, transitions_in}
 use Rattle.trees.specs.Legal.{AllLegal}
 use Rattle.trees.specs.Listing.{first_trees, listings, read_trees}
@@ -44,9 +45,14 @@ pub record Joins (parent : Parent) (k j : ℕ) (row : List ℕ) : Type 0 where
 
 -- ---- what it answers
 
+-- the state that a run reached; 0 if it reached none
+abbrev pub ran_state : Ran → ℕ
+ran_state (State q) = q
+ran_state Nothing = 0
+
 -- the answer for a tree that runs to q; 0 is no state
-unfoldable pub ran_to : ℕ → Option ℕ
-ran_to q = cond (eqb q 0) None (Some q)
+unfoldable pub ran_to : ℕ → Ran
+ran_to q = cond (eqb q 0) Nothing (State q)
 
 -- transitions without classes: a run looks at no class
 abbrev pub over : List ℕ → ℕ → Automaton

@@ -16,16 +16,23 @@ ghost use Rattle.trees.specs.Listing.{first_trees, listing_refusal, read_tree, r
 ghost use Rattle.trees.specs.Preorder.{preorder, preorders};
 ghost use Rattle.trees.specs.Tree.{Tree};
 ghost use Rattle.running.specs.Running.{Ahead, HoldsStates, Joins, Rows, RowsKept, Steps};
-ghost use Rattle.running.specs.Running.{child_states, over, ran_to};
+ghost use Rattle.running.specs.Running.{child_states, over, ran_state, ran_to};
 
 use fields::{find, transition_count};
 use format::{HEAD_BYTES, MAX_ARITY, MAX_NODES, NODE_BYTES};
 use listing::{children_at, label_at};
 
-// The state that a node runs to, if any, and how many nodes were run for that.
+// What a tree runs to.
+#[derive(Clone, Copy)]
+pub enum Ran {
+    State(u8),
+    Nothing,
+}
+
+// What a node runs to, and how many nodes were run for that.
 #[derive(Drop)]
 struct Run {
-    ran: Option<u8>,
+    ran: Ran,
     nodes: usize,
 }
 
@@ -37,20 +44,27 @@ struct Parent {
     arity: usize,
 }
 
+// The byte for what a tree runs to; 0 for no state.
+fn state_byte(ran: Ran) -> u8
+    ensures { result ≡ ran_state ran }
+{
+    let Ran::State(q) = ran else {
+        return 0;
+    };
+    q
+}
+
 // What a node with this label runs to, if each of its children has a state.
-fn run_node(
-    transitions: &[u8],
-    count: usize,
-    label: u16,
-    arity: usize,
-    row: [u8; MAX_ARITY],
-) -> Option<u8>
+fn run_node(transitions: &[u8], count: usize, label: u16, arity: usize, row: [u8; MAX_ARITY]) -> Ran
     requires steps { Steps transitions.now count }
     requires arity_le_max_arity { arity ≤ max_arity }
     requires row_value { any (eqb 0) (take arity row) ≡ false }
     ensures { result ≡ ran_to (step (over transitions.now count) label (take arity row)) }
 {
-    find(transitions, count, label, arity, row)
+    let Some(q) = find(transitions, count, label, arity, row) else {
+        return Ran::Nothing;
+    };
+    Ran::State(q)
 }
 
 // Runs the tree that s starts with: a listing, or the part of one that starts at any node. Its root is node `node` of
@@ -76,16 +90,16 @@ fn run_tree(
         (node_states (over transitions.now count) (read_tree s.now)) }
 {
     let root = Parent {
-        node,
+        node: node,
         label: label_at(s, 0),
         arity: usize::from(children_at(s, 0)),
     };
     let rest = &s[NODE_BYTES..];
     let below = run_children(rest, transitions, count, rows, states, root, node + 1, 0);
     let ran = below.ran;
-    states[node] = ran.unwrap_or(0);
+    states[node] = state_byte(ran);
     Run {
-        ran,
+        ran: ran,
         nodes: 1 + below.nodes,
     }
 }
@@ -119,24 +133,26 @@ fn run_children(
     let row = parent.node;
     if k == parent.arity {
         let ran = run_node(transitions, count, parent.label, parent.arity, rows[row]);
-        return Run { ran, nodes: 0 };
+        return Run { ran: ran, nodes: 0 };
     }
     let child = run_tree(s, transitions, count, rows, states, node);
     let nodes = child.nodes;
     let rest = &s[NODE_BYTES * nodes..];
     let next = node + nodes;
-    let Some(q) = child.ran else {
+    let ran = child.ran;
+    let Ran::State(q) = ran else {
         let left = parent.arity - (k + 1);
         let others = run_others(rest, transitions, count, rows, states, next, left);
         return Run {
-            ran: None,
+            ran: Ran::Nothing,
             nodes: nodes + others,
         };
     };
     rows[row][k] = q;
     let others = run_children(rest, transitions, count, rows, states, parent, next, k + 1);
+    let reached = others.ran;
     Run {
-        ran: others.ran,
+        ran: reached,
         nodes: nodes + others.nodes,
     }
 }

@@ -31,7 +31,7 @@ fn walked(stop: usize, left: usize, node: usize, state: u8, children: usize) -> 
         };
     }
     Below {
-        stop,
+        stop: stop,
         left: left - 1 + children,
     }
 }

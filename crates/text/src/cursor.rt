@@ -1,4 +1,5 @@
-// A text cursor: a place in a line, from 0, and the column of the byte there, from 1.
+// A text cursor: a place in a line, from 0, and the column of the byte there, from 1. The work is in a function by
+// value; one thin step takes the cursor by `&mut`.
 ghost use Rattle.std.specs.Prelude.{◌≡◌, max};
 ghost use Rattle.text.specs.Columns.{advanced, line_start};
 
@@ -19,12 +20,21 @@ impl Cursor {
         }
     }
 
-    // The one step: the cursor goes n bytes further.
+    // The cursor n bytes further on.
+    fn moved(self, n: usize) -> Cursor
+        ensures { result ≡ advanced self n }
+    {
+        Cursor {
+            place: self.place.wrapping_add(n),
+            column: self.column.wrapping_add(n),
+        }
+    }
+
+    // The thin step.
     fn step(&mut self, n: usize)
         ensures { self.new ≡ advanced self.old n }
     {
-        self.place = self.place.wrapping_add(n);
-        self.column = self.column.wrapping_add(n);
+        *self = self.moved(n);
     }
 
     // The step for the readers, which hold the cursor by value: its contract says nothing of a reference.

@@ -46,13 +46,13 @@ pub loop-k-preserved : goal.loop-k-preserved
 loop-k-preserved c =
     agree-next c.loop-k.invariant (omega arith) (sym c.arg_of.ensures.value ∙ c.if-arg_of-from.false ∙ c.from.ensures)
 
-pub returns : goal.returns
-returns c =
+pub returns-then-i-count : goal.returns-then-i-count
+returns-then-i-count c =
     let both = search-end c.search.invariant (omega arith) in
     record { result_value = both.0; result_value_2 = both.1 }
 
-pub returns-in-search : goal.returns-in-search
-returns-in-search c =
+pub returns-after-loop-k : goal.returns-after-loop-k
+returns-after-loop-k c =
     let enough : c.args.arity ≤ length c.args.args = omega arith in
     let hit =
     search-hit c.search.invariant (omega arith)

@@ -112,13 +112,13 @@ run_children-run_children-others-requires t c =
     let more = c.if-k-parent.false in
     let w = children-first a.parent.arity a.k p.ahead joins.place more first.nodes_value in
     let bytes = bytes-kept a.transitions.now a.count w a.states.now first.states_after p.states_len in
-    let q = c.in-Some.q in
+    let q = c.in-State.q in
     let i = a.parent.node in
     let here : i < max_nodes = omega (arith, joins.before, root-row (first-ahead w.ahead w.more)) in
     let place : a.k < max_arity = omega (arith, joins.place, joins.narrow, more) in
     let rows = (kept_put joins.before first.rows_kept here a.k q).rows in
     let row = put-row joins.before first.rows_kept here a.k q place in
-    let some = ran-some (run (over a.transitions.now a.count) (read_tree a.s.now)) first.ran_value c.in-Some.is in
+    let some = ran-some (run (over a.transitions.now a.count) (read_tree a.s.now)) first.ran_value c.in-State.is in
     let after : a.node ≤ a.node + c.run_tree-child.result.nodes = omega arith in
     let next = joins-next joins more after row some in
     (omega (arith, c.decreases, first-shorter w), (p.steps, (others-ahead w, (rows, (bytes, next)))))
@@ -140,7 +140,7 @@ run_children-returns t c =
     let joins = p.joins in
     let w = children-first a.parent.arity a.k p.ahead joins.place more first.nodes_value in
     let others = c.run_children-others.ensures in
-    let q = c.in-Some.q in
+    let q = c.in-State.q in
     let i = a.parent.node in
     let here : i < max_nodes = omega (arith, joins.before, root-row (first-ahead w.ahead w.more)) in
     let place : a.k < max_arity = omega (arith, joins.place, joins.narrow, more) in
@@ -148,7 +148,7 @@ run_children-returns t c =
     let qs = take a.k (get_or a.rows.now i []) in
     record {
       nodes_value = trees-nodes w others.nodes_value;
-      ran_value = child-next τs a.count w first.ran_value a.parent.label qs c.in-Some.is _ row others.ran_value;
+      ran_value = child-next τs a.count w first.ran_value a.parent.label qs c.in-State.is _ row others.ran_value;
       rows_kept = kept_then (kept_put joins.before first.rows_kept here a.k q) others.rows_kept;
       states_after = trees-states τs a.count w a.states.now first.states_after others.states_after;
     }
@@ -279,7 +279,7 @@ run_tree-returns t c =
     let e : k ≡ get_or a.s.now label_bytes 0 = omega (arith, c.from.ensures, c.children_at.ensures) in
     let below = c.run_children-below.ensures in
     let ran = root-run v k e τs a.count below.ran_value c.label_at.ensures.value in
-    let state = ran-byte (run (over τs a.count) (read_tree a.s.now)) ran c.unwrap_or.ensures in
+    let state = ran-byte (run (over τs a.count) (read_tree a.s.now)) ran c.state_byte.ensures in
     record {
       nodes_value = root-nodes v k e below.nodes_value;
       ran_value = ran;
