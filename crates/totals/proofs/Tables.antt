@@ -1,11 +1,12 @@
 -- Tables of numbers of states: what is read from one, and what a write leaves.
-use mathlib.Core.Bool.{false≢true, true}
+use mathlib.Core.Bool.{◌&&◌, Bool, false≢true, true}
 use mathlib.Core.List.{List}
 use mathlib.Core.Path.{◌∙◌, ◌≡◌, ap, refl, subst}
-use Prim.Native.Nat.{◌+◌, ◌<◌, ℕ}
+use Prim.Native.Nat.{◌+◌, ◌<◌, ◌≤◌, suc, zero, ℕ}
 use native.Mathlib.Omega.{arith}
-use lib.ListN.{get_or, length, length-set, replicate, set}
-use lib.Seq.{get_or-set_other, get_or-set_same}
+use lib.ListN.{drop, get_or, length, length-set, replicate, set, take}
+use lib.Pointwise.{pointwise}
+use lib.Seq.{drop-cons, get_or-set_other, get_or-set_same}
 use borrow.Author.Tests.{eqb-true}
 use Rattle.std.proofs.lemmas.List.{get_or-replicate}
 use Rattle.std.specs.Option.{option_eq}
@@ -13,6 +14,8 @@ use Rattle.std.specs.Prelude.{nat_eq}
 use Rattle.std.specs.declared.option.Option.{Option}
 use Rattle.std.specs.declared.option.Option.TheVariants.{None, Some}
 use Rattle.format.specs.Format.{byte_values}
+use Rattle.lists.specs.Positions.{up_from}
+use Rattle.lists.specs.Tests.{every}
 use Rattle.totals.specs.Limited.{total_of, worth}
 use Rattle.totals.specs.Numbers.{Added, Put, number_in, same_in}
 use Rattle.totals.proofs.Limits.{worth-total}
@@ -50,3 +53,11 @@ same_numbers a b q e = same (get_or a q None) (get_or b q None) e
     same None (Some y) e = absurd (false≢true e)
     same (Some x) None e = absurd (false≢true e)
     same (Some x) (Some y) e = eqb-true x y e
+
+-- comparing the entries of two parts of a length from state k on compares the states one by one
+pub same-part : (a b : List (Option ℕ)) (k n : ℕ) → k + n ≤ length a → k + n ≤ length b →
+    pointwise (option_eq nat_eq) (take n (drop k a)) (take n (drop k b)) ≡ every (same_in a b) (up_from k n)
+same-part a b k zero h g = refl
+same-part a b k (suc n) h g =
+    rw (drop-cons a k None (omega arith), drop-cons b k None (omega arith))
+    (ap (λ (r : Bool). same_in a b k && r) (same-part a b (suc k) n (omega arith) (omega arith)))

@@ -24,10 +24,5 @@ pub fn same(a: &Numbers, b: &Numbers, n: usize) -> bool
     requires { n < byte_values }
     ensures { result ≡ every (same_in a.now b.now) (up_from 1 n) }
 {
-    for q in 1..n + 1 {
-        if a[q] != b[q] {
-            return false;
-        }
-    }
-    true
+    a[1..n + 1] == b[1..n + 1]
 }
