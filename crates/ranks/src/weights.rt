@@ -1,8 +1,8 @@
 // How many trees stand at a transition, and how many rows of trees over some states.
-ghost use Rattle.std.specs.Prelude.{cond, map, ◌≡◌, ◌-◌, ◌<◌, ◌≤◌, eqb, drop, length};
+ghost use Rattle.std.specs.Prelude.{cond, map, ◌≡◌, ◌-◌, ◌≤◌, eqb, drop, length};
 ghost use Rattle.automata.specs.Totals.{product_over};
 ghost use Rattle.fields.specs.Fields.{Readable};
-ghost use Rattle.format.specs.Format.{byte_values, max_nodes};
+ghost use Rattle.format.specs.Format.{max_nodes};
 ghost use Rattle.lists.specs.Positions.{up_from};
 ghost use Rattle.table.specs.Layout.{arg_of, arity_of, out_of, transition_at};
 ghost use Rattle.totals.specs.Limited.{total_of};
@@ -46,14 +46,6 @@ pub fn product_of_args(
     number
 }
 
-// A byte as a state.
-fn state(x: u8) -> usize
-    ensures value { result ≡ x }
-    ensures upper_bound { result < byte_values }
-{
-    x as usize
-}
-
 // The number of rows of trees over the states that stand on a stack from an index on.
 pub fn product_of_stack(stack: &[u8; MAX_NODES], from: usize, numbers: &Numbers) -> Option<u64>
     requires stack_len { length stack.now ≡ max_nodes }
@@ -63,7 +55,7 @@ pub fn product_of_stack(stack: &[u8; MAX_NODES], from: usize, numbers: &Numbers)
 {
     let mut number = Some(1);
     for k in (from..MAX_NODES).rev() {
-        number = times(numbers[state(stack[k])], number);
+        number = times(numbers[usize::from(stack[k])], number);
     }
     number
 }
