@@ -1,7 +1,7 @@
 -- Products over states, one more at the front at a time.
 use mathlib.Core.List.{List, [], ◌∷◌, map}
 use mathlib.Core.Path.{◌∙◌, ◌≡◌, ap, sym}
-use Prim.Native.Nat.{◌*◌, ◌+◌, ◌-◌, ◌<◌, ◌≤◌, suc, ℕ}
+use Prim.Native.Nat.{◌*◌, ◌+◌, ◌-◌, ◌<◌, ◌≤◌, suc, zero, ℕ}
 use native.Mathlib.Nat.{mul_comm}
 use native.Mathlib.Omega.{arith}
 use lib.ListN.{drop, drop_of_length-le, get_or, length}
@@ -59,29 +59,16 @@ module _ {w f : ℕ → ℕ} {n : ℕ} where
       r ≡ total_of (product_over w (map f (up_from from (n - from))))
   from_end x e = x.product.is ∙ ap (λ (k : ℕ). total_of (product_over w (map f (up_from k (n - k))))) e
 
--- ---- states on a stack, from index k on
+-- the states on a stack from index k on, read one by one
+on-stack : (stack : List ℕ) (k n : ℕ) → k + n ≡ length stack →
+    map (λ (j : ℕ). get_or stack j 0) (up_from k n) ≡ drop k stack
+on-stack stack k zero e = sym (drop_of_length-le stack {i = k} (omega arith))
+on-stack stack k (suc n) e =
+    ap (λ (l : List ℕ). get_or stack k 0 ∷ l) (on-stack stack (suc k) n (omega arith))
+    ∙ sym (drop-cons stack k 0 (omega arith))
 
-pub record ProductOn (w : ℕ → ℕ) (stack : List ℕ) (k : ℕ) (r : Option ℕ) : Type 0 where
-  pub within : k ≤ length stack
-  pub product : Product w (drop k stack) r
-
-module _ {w : ℕ → ℕ} {stack : List ℕ} where
-  pub on-start : {k : ℕ} → k ≡ length stack → ProductOn w stack k (Some 1)
-  on-start {k} e = record { within = omega arith; product = none (drop_of_length-le stack {i = k} (omega arith)) }
-
-  -- t is the number of the state below index k
-  pub on-next : {k t : ℕ} {r r' : Option ℕ} → ProductOn w stack k r → 0 < k → t ≡ w (get_or stack (k - 1) 0) →
-      r' ≡ total_of (t * worth r) → ProductOn w stack (k - 1) r'
-  on-next {k} x l e g =
-      let z : suc (k - 1) ≡ k = omega arith in
-      record {
-        within = omega (arith, x.within);
-        product =
-            more x.product (drop-cons stack (k - 1) 0 (omega (arith, x.within))
-            ∙ ap (λ (j : ℕ). get_or stack (k - 1) 0 ∷ drop j stack) z)
-            e g;
-      }
-
-  pub on-end : {k from : ℕ} {r : Option ℕ} → ProductOn w stack k r → k ≡ from →
-      r ≡ total_of (product_over w (drop from stack))
-  on-end x e = x.product.is ∙ ap (λ (k : ℕ). total_of (product_over w (drop k stack))) e
+-- the product over states that are read one by one is the product over what the stack has from an index on
+pub over-stack : (w : ℕ → ℕ) (stack : List ℕ) (k n : ℕ) {r : Option ℕ} →
+    r ≡ total_of (product_over w (map (λ (j : ℕ). get_or stack j 0) (up_from k n))) → k + n ≡ length stack →
+    r ≡ total_of (product_over w (drop k stack))
+over-stack w stack k n f e = f ∙ ap (λ (qs : List ℕ). total_of (product_over w qs)) (on-stack stack k n e)

@@ -12,7 +12,7 @@ ghost use Rattle.totals.specs.Limited.{total_of};
 ghost use Rattle.totals.specs.Numbers.{number_in};
 ghost use Rattle.trees.specs.Listing.{listing_refusal, read_tree};
 
-use crate::weights::{product_of_stack, trees_into};
+use crate::weights::{product_of, trees_into};
 use fields::{arg_of, arity_of, label_of};
 use format::{MAX_NODES, NODE_BYTES, TRANSITION_BYTES};
 use listing::{children_at, label_at};
@@ -109,7 +109,7 @@ pub fn rank_within(
             usize::from(q),
             numbers,
         );
-        let weight = product_of_stack(&stack, top + arity, numbers);
+        let weight = product_of(top + arity, MAX_NODES, numbers, |k| usize::from(stack[k]));
         number = plus(times(before, weight), number);
         top = top + arity - 1;
         stack[top] = q;

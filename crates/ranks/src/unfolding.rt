@@ -14,7 +14,7 @@ ghost use Rattle.ranks.specs.Steps.{ChildrenPut, Grows, Lawful, Listed};
 
 use crate::choosing::choose_transition;
 use crate::exact::divided;
-use crate::weights::product_of_args;
+use crate::weights::product_of;
 use fields::{arg_of, arity_of, label_of};
 use format::{LABEL_BYTES, MAX_LISTING, MAX_NODES, NODE_BYTES, TRANSITION_BYTES};
 use totals::Numbers;
@@ -56,7 +56,7 @@ fn put_children(
     let arity = arity_of(transitions, at);
     let mut left = number;
     for k in 0..arity {
-        let weight = product_of_args(transitions, at, k + 1, arity, numbers);
+        let weight = product_of(k + 1, arity, numbers, |j| arg_of(transitions, at, j));
         let (mine, others) = divided(left, weight);
         states[top + k] = arg_of(transitions, at, k) as u8;
         lefts[top + k] = mine;

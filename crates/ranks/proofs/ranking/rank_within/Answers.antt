@@ -1,10 +1,13 @@
+use Rattle.std.proofs.Common.{rules}
 use native.Mathlib.Omega.{arith}
 use mathlib.Core.Path.{◌∙◌, refl}
+use lib.ListN.{get_or}
 use Rattle.table.specs.Layout.{transitions_in}
 use Rattle.totals.specs.Numbers.{number_in}
 use Rattle.trees.proofs.Suffixes.{passed}
 use Rattle.ranks.proofs.NodePass.{pop-narrow, pop-room, push-room, ranking-end, ranking-next}
 use Rattle.ranks.proofs.NodePass.{ranking-start}
+use Rattle.ranks.proofs.Products.{over-stack}
 use Rattle.ranks.proofs.ranking.rank_within.Goals as goal
 
 pub loop-i-init : goal.loop-i-init
@@ -30,15 +33,11 @@ sum_before-before-requires c =
       arity_le_max_arity = omega (arith, pop-narrow ok c.loop-i.invariant (omega arith), width);
     }
 
-pub product_of_stack-weight-requires : goal.product_of_stack-weight-requires
-product_of_stack-weight-requires c =
+pub product_of-weight-requires-clause-from_le_end : goal.product_of-weight-requires-clause-from_le_end
+product_of-weight-requires-clause-from_le_end c =
     let ok = passed c.args.tree.now c.requires.tree_value in
-    let width = c.from-arity.ensures
-    ∙ c.children_at.ensures in
-    record {
-      stack_len = c.loop-i.invariant.stacked;
-      from_le_max_nodes = omega (arith, pop-room ok c.loop-i.invariant (omega arith), width);
-    }
+    let width = c.from-arity.ensures ∙ c.children_at.ensures in
+    omega (arith, pop-room ok c.loop-i.invariant (omega arith), width)
 
 pub overflow_add-top-in-loop-i : goal.overflow_add-top-in-loop-i
 overflow_add-top-in-loop-i c =
@@ -63,10 +62,14 @@ loop-i-preserved c =
     let ok = passed c.args.tree.now c.requires.tree_value in
     let width = c.from-arity.ensures ∙ c.children_at.ensures in
     let label = c.label_at-label.ensures.value in
+    let stack = c.loop-i.stack in
+    let weighed = over-stack _ stack _ _
+    (c.product_of-weight.ensures (λ k. get_or stack k 0) (λ k l q h. search rules))
+    (omega (arith, pop-room ok c.loop-i.invariant (omega arith), width, c.loop-i.invariant.stacked)) in
     rw width
     (ranking-next ok c.loop-i.invariant (omega arith) refl
     (rw (label, width, c.from.ensures) at c.sum_before-before.ensures)
-    (rw width at c.product_of_stack-weight.ensures) c.times.ensures c.plus-number.ensures)
+    (rw width at weighed) c.times.ensures c.plus-number.ensures)
 
 pub returns : goal.returns
 returns c =
