@@ -22,9 +22,8 @@ pub fn children_of(children: &[u8; CHILD_NUMBERS], i: usize, arity: usize) -> [u
     ensures { Filled (child_at children.now i) arity result }
 {
     let mut numbers = [0u8; MAX_ARITY];
-    for k in 0..arity {
-        numbers[k] = children[MAX_ARITY * i + k];
-    }
+    let at = MAX_ARITY * i;
+    numbers[..arity].copy_from_slice(&children[at..at + arity]);
     numbers
 }
 

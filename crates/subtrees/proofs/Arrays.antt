@@ -1,18 +1,16 @@
--- Loops that fill eight bytes, compare nodes, and store eight bytes in an array.
+-- Loops that fill eight bytes and compare nodes.
 use mathlib.Core.Bool.{Bool, false}
 use mathlib.Core.List.{List}
 use mathlib.Core.Path.{◌∙◌, ◌≡◌, ap, refl, subst}
-use Prim.Native.Nat.{◌*◌, ◌+◌, ◌<◌, ◌≤◌, ℕ}
+use Prim.Native.Nat.{◌+◌, ◌<◌, ◌≤◌, ℕ}
 use native.Mathlib.Omega.{arith}
-use lib.ListN.{get_or, length, length-set, replicate, set}
-use lib.Seq.{get_or-set_other, get_or-set_same}
-use borrow.Author.Count.{below_more}
+use lib.ListN.{get_or, length-set, replicate, set}
+use lib.Seq.{get_or-set_other}
 use borrow.Author.Tests.{eq-eqb, ne_eqb}
 use Rattle.format.specs.Format.{max_arity}
 use Rattle.lists.specs.Positions.{up_from}
 use Rattle.lists.specs.Tests.{every}
-use Rattle.subtrees.specs.Steps.{ChildrenStored, Filled, same_child, same_node}
-use Rattle.subtrees.specs.Store.{child_at}
+use Rattle.subtrees.specs.Steps.{Filled, same_child, same_node}
 use Rattle.lists.proofs.Intervals.{get_d-zeros}
 use Rattle.lists.proofs.Filling.{set_next}
 
@@ -52,27 +50,3 @@ module _ (l r c : List ℕ) (a n : ℕ) (ns : List ℕ) (j : ℕ) where
       b ≡ every (same_child c j ns) (up_from 0 m) → b ≡ same_node l r c a n ns j
   by-children b m e d z q =
       q ∙ rw (eq-eqb (get_or l j 0) a e, eq-eqb (get_or r j 0) n d) (ap (λ i. every (same_child c j ns) (up_from 0 i)) z)
-
--- ---- eight bytes stored after others
-
--- the first k of the child numbers of index j are stored
-pub record StoredTo (c : List ℕ) (j : ℕ) (ns c' : List ℕ) (k : ℕ) : Type 0 where
-  pub within : k ≤ max_arity
-  pub size : length c' ≡ length c
-  pub stored : (i : ℕ) → i < k → child_at c' j i ≡ get_or ns i 0
-  pub before : (i : ℕ) → i < max_arity * j → get_or c' i 0 ≡ get_or c i 0
-
-module _ {c : List ℕ} {j : ℕ} {ns c' : List ℕ} {k : ℕ} (inv : StoredTo c j ns c' k) where
-  pub stored_next : max_arity * j + k < length c → k < max_arity →
-      StoredTo c j ns (set c' (max_arity * j + k) (get_or ns k 0)) (k + 1)
-  stored_next h l = let v = get_or ns k 0 in let at = max_arity * j + k in record {
-    within = omega arith;
-    size = length-set c' at v ∙ inv.size;
-    stored = below_more (λ i. child_at (set c' at v) j i ≡ get_or ns i 0) k
-        (λ i m. get_or-set_other c' at (max_arity * j + i) v 0 (λ e. omega arith) ∙ inv.stored i m)
-        (get_or-set_same c' at v 0 (omega (arith, inv.size)));
-    before = λ i m. get_or-set_other c' at i v 0 (λ e. omega arith) ∙ inv.before i m;
-  }
-
-  pub stored-end : max_arity ≤ k → ChildrenStored c j ns c'
-  stored-end h = record { size = inv.size; stored = λ i l. inv.stored i (omega arith); before = inv.before }

@@ -37,9 +37,7 @@ fn popped(stack: &[u8; MAX_NODES], top: usize, arity: usize) -> [u8; MAX_ARITY]
     ensures { Filled (byte_from stack.now top) arity result }
 {
     let mut numbers = [0u8; MAX_ARITY];
-    for k in 0..arity {
-        numbers[k] = stack[top + k];
-    }
+    numbers[..arity].copy_from_slice(&stack[top..top + arity]);
     numbers
 }
 
@@ -98,9 +96,8 @@ fn store_children(children: &mut [u8; CHILD_NUMBERS], j: usize, numbers: [u8; MA
     requires j_lt_max_nodes { j < max_nodes }
     ensures { ChildrenStored children.old j numbers children.new }
 {
-    for k in 0..MAX_ARITY {
-        children[MAX_ARITY * j + k] = numbers[k];
-    }
+    let at = MAX_ARITY * j;
+    children[at..at + MAX_ARITY].copy_from_slice(&numbers);
 }
 
 // The number of the subtree with this label and these children. If it was not found before, it is stored with its
