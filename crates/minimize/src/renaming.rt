@@ -2,7 +2,6 @@
 ghost use Rattle.std.specs.Prelude.{◌≡◌};
 ghost use Rattle.automata.specs.Renumber.{renumber_by};
 ghost use Rattle.fields.specs.Fields.{Readable};
-ghost use Rattle.format.specs.Format.{byte_values};
 ghost use Rattle.table.specs.Layout.{transition_at};
 ghost use Rattle.minimize.specs.Renaming.{entry_of, name_in, zeros};
 
@@ -11,11 +10,12 @@ use fields::{
 };
 use format::{BYTE_VALUES, TRANSITION_BYTES};
 
-// An array for names, all 0. A function of its own, so that no other proof computes with so many bytes.
-pub fn no_names() -> [u8; BYTE_VALUES]
-    ensures { result ≡ zeros byte_values }
+// An array of N bytes, all 0: no names, or room for transitions. A function of its own, so that no other proof computes
+// with so many bytes.
+pub fn zeros<const N: usize>() -> [u8; N]
+    ensures { result ≡ zeros N }
 {
-    [0u8; BYTE_VALUES]
+    [0u8; N]
 }
 
 // The bytes of a transition whose states have other names.

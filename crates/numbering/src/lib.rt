@@ -32,7 +32,7 @@ use crate::sorting::sort;
 pub use crate::writing::write_run;
 use crate::writing::write_table;
 use format::BYTE_VALUES;
-use minimize::renaming::no_names;
+use minimize::renaming::zeros;
 
 // Gives the names in the transitions their numbers by an order, and sorts. Returns whether the result is right by the
 // rule.
@@ -52,7 +52,7 @@ fn settle(
     ensures { result ≡ true → Settled heads.old args.old count order.now states
         heads.new args.new }
 {
-    let mut numbers = no_names();
+    let mut numbers = zeros();
     if !number_names(order, states, &mut numbers) {
         return false;
     }
@@ -96,7 +96,7 @@ pub fn rebuild(
         spare,
         next,
     } = buffers;
-    let mut order = no_names();
+    let mut order = zeros();
     let transitions = Transitions { heads, args, count };
     let Some(states) = guess(&transitions, next, room, spare, &mut order, old, few) else {
         return false;
