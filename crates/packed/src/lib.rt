@@ -18,7 +18,7 @@ pub use filling::padded;
 use format::{ARGS_AT, MAX_ARITY, OUT_AT, TRANSITION_BYTES};
 pub use layout::layout_fits;
 pub use searching::{meta_of, output, pack, seek};
-pub use slots::{Slot, at_place, first_in_slot, next_in_slot, no_slot};
+pub use slots::{Slot, at_place, first_in_slot, next_in_slot};
 
 // The eight places for arguments of the transition that starts at a byte as one number, the first the highest.
 pub fn args_at(transitions: &[u8], at: usize) -> u64

@@ -19,19 +19,6 @@ pub struct Slot {
     pub out: usize,
 }
 
-// No slot: its output is 0.
-pub fn no_slot() -> Slot
-    ensures place_value { result.place ≡ 0 }
-    ensures out_value { result.out ≡ 0 }
-{
-    Slot {
-        meta: 0,
-        args: 0,
-        place: 0,
-        out: 0,
-    }
-}
-
 // The argument q at place k as a summand of packed arguments.
 pub fn at_place(q: usize, k: usize) -> u64
     requires q_lt_byte_values { q < byte_values }
