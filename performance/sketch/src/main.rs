@@ -8,8 +8,8 @@ use std::path::{Path, PathBuf};
 /// Words before a clause of a contract, which a name may follow.
 const CLAUSES: [&str; 2] = ["requires", "ensures"];
 
-/// Attributes that only the prover reads, and derives, which each type gets anew.
-const ATTRIBUTES: [&str; 4] = ["#![tactic(", "#[tactic(", "#[cycle(", "#[derive("];
+/// Attributes that only the prover reads.
+const ATTRIBUTES: [&str; 3] = ["#![tactic(", "#[tactic(", "#[cycle("];
 
 /// The kit's sums that wrap, which Rust has as methods.
 const WRAPPING: &str = "pub fn wrapping_add_u8(a: u8, b: u8) -> u8 { a.wrapping_add(b) }
@@ -36,12 +36,34 @@ fn word_at(text: &[char], at: usize) -> Option<String> {
     (starts && !after).then(|| text[at..].iter().take_while(|c| part(**c)).collect())
 }
 
-/// The text without comments, imports of ghosts, attributes for the prover and clauses of contracts.
+/// A line without the kit's `Drop`, which Rust does not derive.
+fn derived(line: &str) -> String {
+    let start = line.trim_start();
+    if !start.starts_with("#[derive(") {
+        return line.to_string();
+    }
+    let names = start.trim_start_matches("#[derive(").trim_end_matches(")]").split(", ");
+    let names: Vec<&str> = names.filter(|name| *name != "Drop").collect();
+    if names.is_empty() { String::new() } else { format!("#[derive({})]", names.join(", ")) }
+}
+
+/// The place after a ghost field, whose fact starts at a brace: after a proof that facts are equal, and the comma.
+fn field_end(text: &[char], brace: usize) -> usize {
+    let mut at = closed(text, brace + 1, '{', '}');
+    let rest: String = text[at..].iter().collect();
+    if rest.trim_start().starts_with("by {") {
+        let next = at + text[at..].iter().position(|c| *c == '{').expect("a brace after `by`");
+        at = closed(text, next + 1, '{', '}');
+    }
+    at + usize::from(text.get(at) == Some(&','))
+}
+
+/// The text without comments, imports of ghosts, attributes for the prover, ghost fields and clauses of contracts.
 fn bare(text: &str) -> String {
-    let lines = text.lines().map(|line| line.split("//").next().unwrap_or(""));
+    let lines = text.lines().map(|line| derived(line.split("//").next().unwrap_or("")));
     let left_out = |line: &str| line.starts_with("ghost use") || ATTRIBUTES.iter().any(|start| line.starts_with(start));
     let kept = lines.filter(|line| !left_out(line.trim_start()));
-    let text: Vec<char> = kept.collect::<Vec<&str>>().join("\n").chars().collect();
+    let text: Vec<char> = kept.collect::<Vec<String>>().join("\n").chars().collect();
     let mut out = String::new();
     let mut at = 0;
     while at < text.len() {
@@ -49,6 +71,11 @@ fn bare(text: &str) -> String {
             let brace = text[at..].iter().position(|c| *c == '{').map(|found| at + found);
             if let Some(brace) = brace.filter(|_| CLAUSES.contains(&word.as_str())) {
                 at = closed(&text, brace + 1, '{', '}');
+                continue;
+            }
+            if let Some(brace) = brace.filter(|_| word == "ghost") {
+                out.truncate(out.strip_suffix("pub ").unwrap_or(&out).len());
+                at = field_end(&text, brace);
                 continue;
             }
         }
@@ -100,14 +127,6 @@ fn translated(text: &str, name: &str, crates: &BTreeSet<String>, local: &BTreeSe
     for other in crates.iter().filter(|other| *other != name && !local.contains(*other)) {
         for before in ["use ", " ", "(", "\n"] {
             text = text.replace(&format!("{before}{other}::"), &format!("{before}crate::{other}::"));
-        }
-    }
-    for kind in ["struct", "enum"] {
-        for before in ["\n", "\npub "] {
-            text = text.replace(
-                &format!("{before}{kind} "),
-                &format!("\n#[derive(Clone, Copy, PartialEq, Eq)]{before}{kind} "),
-            );
         }
     }
     unchecked(&text)
