@@ -20,7 +20,7 @@ use Rattle.table.specs.Layout.{transitions_in}
 use Rattle.totals.specs.Limited.{limit, total_of, worth}
 use Rattle.totals.specs.Numbers.{NumbersOf, number_in}
 use Rattle.totals.proofs.Depths.{round-limited}
-use Rattle.totals.proofs.Limits.{total-is, total-plus-by, total-same}
+use Rattle.totals.proofs.Limits.{total-is, total-kept, total-plus-by, total-same}
 
 -- ---- one state more
 
@@ -59,8 +59,14 @@ module _ {A : Automaton} {w : ℕ → ℕ} where
           ∙ total-plus-by (sum_accepting A w (up_from 1 (q - 1))) (w q) x.so_far ∙ ap total_of (sym (longer e));
     }
 
-    pub accepted-same : accepting A q ≡ false → AcceptedTo A w (q + 1) r
-    accepted-same e = record { so_far = x.so_far ∙ ap total_of (omega (arith, longer e)) }
+    pub accepted-kept : r ≡ total_of (worth r)
+    accepted-kept = x.so_far ∙ sym (total-kept (sum_accepting A w (up_from 1 (q - 1))) x.so_far)
+
+    pub accepted-same : {r' : Option ℕ} → accepting A q ≡ false → r' ≡ total_of (worth r) → AcceptedTo A w (q + 1) r'
+    accepted-same e f = record {
+      so_far =
+          f ∙ total-kept (sum_accepting A w (up_from 1 (q - 1))) x.so_far ∙ ap total_of (omega (arith, longer e));
+    }
 
   pub accepted-end : {q n : ℕ} {r : Option ℕ} → AcceptedTo A w q r → q ≡ suc n →
       r ≡ total_of (sum_accepting A w (up_from 1 n))

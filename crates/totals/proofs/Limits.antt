@@ -1,5 +1,6 @@
 -- What is said of a number, and what it is worth: sums and products up to the limit.
 use mathlib.Core.Bool.{Bool, false, false≢true, true, true≢false}
+use mathlib.Core.Logic.{◌⊎◌, inl, inr}
 use mathlib.Core.Path.{◌∙◌, ◌≡◌, ap, ap₂, refl, sym}
 use Prim.Native.Nat.{◌*◌, ◌+◌, ◌<◌, ◌≤◌, min, ℕ}
 use native.Mathlib.Omega.{arith}
@@ -47,6 +48,16 @@ pub total-checked : (n : ℕ) (r : Option ℕ) → SomeIff r (n < limit) n → r
 total-checked n None h = total-over (omega (arith, h))
 total-checked n (Some v) (h, e) = total-is e (omega (arith, h, e))
 
+-- what is said of a number, by whether it fits. The first part gives a search the call to look for
+pub total_cases : (n : ℕ) → (total_of n ≡ total_of n) ×
+    (((n < limit) × (total_of n ≡ Some n)) ⊎ ((limit ≤ n) × (total_of n ≡ None)))
+total_cases n = (refl, go (ltb n limit) refl)
+  where
+    go : (b : Bool) → ltb n limit ≡ b →
+        ((n < limit) × (total_of n ≡ Some n)) ⊎ ((limit ≤ n) × (total_of n ≡ None))
+    go true e = let h = ltb-true n limit e in inl (h, sym (total-number h))
+    go false e = let h = ltb-false n limit e in inr (h, sym (total-over h))
+
 -- whether a number is 0
 pub none-zero : (a : Option ℕ) → option_eq nat_eq a (Some 0) ≡ true → worth a ≡ 0
 none-zero None e = absurd (false≢true e)
@@ -76,6 +87,10 @@ total-times x y {s} {t} e f =
     total-same (worth s * worth t) (x * y)
     (ap₂ (λ (u v : ℕ). min limit (u * v)) (ap worth e ∙ worth-total x) (ap worth f ∙ worth-total y)
     ∙ sym (min-product limit x y))
+
+-- what a number is worth says the same of it
+pub total-kept : (x : ℕ) {s : Option ℕ} → s ≡ total_of x → total_of (worth s) ≡ total_of x
+total-kept x {s} e = total-same (worth s) x (omega (arith, ap worth e, worth-total x))
 
 -- the same with a second number as it is
 pub total-plus-by : (x y : ℕ) {s : Option ℕ} → s ≡ total_of x → total_of (worth s + y) ≡ total_of (x + y)

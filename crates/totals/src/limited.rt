@@ -2,6 +2,7 @@
 ghost use Rattle.std.specs.Prelude.{◌≡◌, ◌*◌, ◌+◌};
 ghost use Rattle.totals.specs.Limited.{total_of, worth};
 
+#[tactic(auto, using(crate::proofs::Limits::total_cases))]
 pub fn plus(a: Option<u64>, b: Option<u64>) -> Option<u64>
     ensures { result ≡ total_of (worth a + worth b) }
 {
