@@ -1,4 +1,5 @@
-use Rattle.std.proofs.Common.{rules}
+use Rattle.std.specs.Prelude.{Err, Ok}
+use Rattle.std.proofs.Common.{◌≡◌, arith, rules}
 use Rattle.text.proofs.ChildrenReader.{children-broken, children-broken-later, children-count-fits}
 use Rattle.text.proofs.ChildrenReader.{children-end, children-none, children-other, children-whole, later-ready}
 use Rattle.text.proofs.TreeReader.{children-ready, tree-broken}
@@ -24,17 +25,22 @@ children-children-requires t c =
     c.in_ok-first.ensures t c.decreases
 
 pub children-returns-in_err-others : goal.children-returns-in_err-others
-children-returns-in_err-others t c = search (rules, children-broken-later)
+children-returns-in_err-others t c =
+    let read : c.children.result ≡ Err c.in_err-others.field-0.0 = grind arith in
+    let left = rw read at c.children.ensures in
+    search (rules, children-broken-later)
 
 pub children-overflow_add-result : goal.children-overflow_add-result
 children-overflow_add-result t c =
+    let read : c.children.result ≡ Ok c.in_ok-others.others = grind arith in
     children-count-fits _ _ _ _ c.requires c.if-place-line.false _ c.stepped-2.ensures c.if-line-place-ne-SPACE.false _ _
-    c.in_ok-first.ensures _ _ c.in_ok-others.ensures
+    c.in_ok-first.ensures _ _ (rw read at c.children.ensures)
 
 pub children-returns : goal.children-returns
 children-returns t c =
+    let read : c.children.result ≡ Ok c.in_ok-others.others = grind arith in
     children-whole _ _ _ _ c.requires c.if-place-line.false _ c.stepped-2.ensures c.if-line-place-ne-SPACE.false _ _
-    c.in_ok-first.ensures _ _ c.in_ok-others.ensures
+    c.in_ok-first.ensures _ _ (rw read at c.children.ensures)
 
 pub tree-returns-then-open-line : goal.tree-returns-then-open-line
 tree-returns-then-open-line t c = search tree-none
