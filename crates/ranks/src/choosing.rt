@@ -30,7 +30,8 @@ pub fn choose_state(classes: &[u8], n: usize, number: u64, numbers: &Numbers) ->
 {
     let mut left = number;
     for q in 1..n + 1 {
-        if classes[q] == 1 {
+        let accepting = classes[q] == 1;
+        if accepting {
             match numbers[q] {
                 Some(here) if here <= left => left -= here,
                 _ => return Choice { place: q, left },
