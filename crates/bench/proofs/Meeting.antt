@@ -1,9 +1,10 @@
 -- What one read brought is taken, and read after read.
 use mathlib.Core.List.{List, [], ◌++◌, ◌∷◌, append_assoc, append-nil}
 use mathlib.Core.Path.{◌∙◌, ◌≡◌, ap, refl, subst, sym}
-use Prim.Native.Nat.{◌*◌, ◌+◌, ◌<◌, ◌^◌, ◌≤◌, ℕ}
+use Prim.Native.Nat.{◌*◌, ◌+◌, ◌<◌, ◌^◌, ◌≤◌, min, ℕ}
 use native.Mathlib.Omega.{arith}
 use lib.ListN.{length, length-take, take}
+use Rattle.std.proofs.lemmas.List.{take_min}
 use Rattle.console.specs.Buffers.{Buffered, empty_scratch, empty_table, out_bytes, console}
 use Rattle.console.specs.Console.{Console, fed, held_bytes, start, written}
 use Rattle.console.specs.declared.Progress.{Progress}
@@ -16,27 +17,30 @@ use Rattle.std.specs.declared.ops.ControlFlow.{ControlFlow}
 use Rattle.std.specs.declared.ops.ControlFlow.TheVariants.{Break, Continue}
 use Rattle.std.specs.Prelude.{Err, Ok, Result}
 use Rattle.bench.specs.declared.output.Written.{Written}
-use Rattle.bench.proofs.Taking.{start-size}
 
 -- ---- one read
 
-pub brought-taken : (E : Type 0) (p : Progress) (x : Console) (c : List ℕ) (got : ℕ) (v : Written) (l b w o : List ℕ) →
-    Moved (length c) got → 0 < got → Took {E = E} p x (take got c) (Ok v) l b w o →
-    Turned {E = E} p x (brought got c) (Ok (Continue v)) l b w o
-unfolding Took Turned brought
-brought-taken E p x c got v l b w o h g T = record { some = omega (arith, start-size got c h); takes = T }
+-- a read cannot have brought more than the chunk holds
+pub brought-held : (got : ℕ) (c : List ℕ) {n : ℕ} → n ≡ min got (length c) → take n c ≡ brought got c
+unfolding brought
+brought-held got c e = ap (λ (j : ℕ). take j c) e ∙ take_min got c
 
-pub brought-unwritten : {E : Type 0} (p : Progress) (x : Console) (c : List ℕ) (got : ℕ) (e : E) (l b w o : List ℕ) →
-    Took p x (take got c) (Err e) l b w o → Turned p x (brought got c) (Err e) l b w o
-unfolding Took Turned brought
-brought-unwritten p x c got e l b w o T = T
+pub brought-taken : (E : Type 0) (p : Progress) (x : Console) (s t : List ℕ) (v : Written) (l b w o : List ℕ) →
+    s ≡ t → 0 < length s → Took {E = E} p x s (Ok v) l b w o → Turned {E = E} p x t (Ok (Continue v)) l b w o
+unfolding Took Turned
+brought-taken E p x s t v l b w o e some T = rw (← e) (record { some = some; takes = T })
 
-pub brought-none : (E : Type 0) (v : Written) (c : List ℕ) (got : ℕ) (l b w o : List ℕ) (k : ℕ) → got ≡ 0 →
-    Buffered v.progress l o → Idle v.progress k →
+pub brought-unwritten : {E : Type 0} (p : Progress) (x : Console) (s t : List ℕ) (e : E) (l b w o : List ℕ) →
+    s ≡ t → Took p x s (Err e) l b w o → Turned p x t (Err e) l b w o
+unfolding Took Turned
+brought-unwritten p x s t e l b w o d T = rw (← d) T
+
+pub brought-none : (E : Type 0) (v : Written) (c : List ℕ) (got : ℕ) (l b w o : List ℕ) (k : ℕ) {n : ℕ} →
+    n ≡ min got (length c) → n ≡ 0 → Buffered v.progress l o → Idle v.progress k →
     Turned {E = E} v.progress (console v.progress l b w o) (brought got c) (Ok (Break v)) l b w o
-unfolding Turned brought
-brought-none E v c got l b w o k none R I = record {
-  none = ap (λ (j : ℕ). take j c) none;
+unfolding Turned
+brought-none E v c got l b w o k held none R I = record {
+  none = sym (brought-held got c held) ∙ ap (λ (j : ℕ). take j c) none;
   rested = record { ready = R; printed = I.printed; lines = omega arith };
   equal = refl;
 }

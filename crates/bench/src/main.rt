@@ -34,8 +34,8 @@ fn read_chunk(streams: Streams, chunk: &mut [u8]) -> usize
     }
 }
 
-// Takes what a read left in the chunk: `got` is what the read returned. A read that brought nothing or failed ends the
-// input.
+// Takes what a read left in the chunk: `got` is what the read returned, and counts up to the chunk's length. A read
+// that brought nothing or failed ends the input.
 fn take_chunk(
     streams: Streams,
     w: Written,
@@ -46,13 +46,13 @@ fn take_chunk(
     scratch: &mut [u8],
     out: &mut [u8; OUT_BYTES],
 ) -> Result<ControlFlow<Written, Written>, Error>
-    requires moved { Moved (length chunk.now) got }
     requires buffered { Buffered w.progress line.old out.old }
     requires idle { Idle w.progress (length chunk.now) }
     ensures { Turned w.progress (console w.progress line.old table.old
         scratch.old out.old) (brought got chunk.now) result line.new
         table.new scratch.new out.new }
 {
+    let got = got.min(chunk.len());
     if got == 0 {
         return Ok(ControlFlow::Break(w));
     }
