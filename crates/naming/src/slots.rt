@@ -12,7 +12,7 @@ use alike::frame_slot_of;
 use fields::arg_of;
 use format::TRANSITION_BYTES;
 use packed::{Slot, first_in_slot, next_in_slot};
-use uses::use_slot;
+use uses::{Used, use_slot};
 
 // The first state in slot z that the subtree is like.
 pub fn state_in_slot(sought: &Sought<'_, '_>, z: Slot) -> Option<usize>
@@ -43,8 +43,9 @@ pub fn slot_of(sought: &Sought<'_, '_>) -> Option<Slot>
         HoldsIn A t ts sought.now.setting.now → NamesFor A t ts N sought.now →
         IfSome result (SlottedFor A t S ts N sought.now) }
 {
+    let setting = sought.setting;
     if let Some(z) = frame_slot_of(
-        sought.setting,
+        setting.subtrees,
         sought.names,
         sought.j,
         sought.from,
@@ -52,5 +53,13 @@ pub fn slot_of(sought: &Sought<'_, '_>) -> Option<Slot>
     ) {
         return Some(z);
     }
-    use_slot(sought.setting, sought.from, sought.to, sought.j as u8)
+    let used = Used {
+        transitions: setting.transitions,
+        count: setting.count,
+        n: setting.n,
+        subtrees: setting.subtrees,
+        weights: setting.weights,
+        lasts: setting.lasts,
+    };
+    use_slot(&used, sought.from, sought.to, sought.j as u8)
 }

@@ -1,4 +1,4 @@
--- The facts about a setting that the contracts of this crate and of those above it speak of.
+-- The facts about subtrees and about a setting that the contracts of this crate and of those above it speak of.
 use Rattle.std.specs.Prelude.{Bool, ◌&&◌, List, ℕ}
 use Rattle.automata.specs.Automaton.{Automaton}
 use Rattle.subtrees.specs.Parents.{ParentsWithin}
@@ -27,29 +27,23 @@ abbrev pub frames_of_one : ℕ → ℕ → ℕ → Frames
 frames_of_one j start end = record { first = j; second = 0; start = start; end = end }
 
 -- the bounds of the frames hold
-abbrev pub FramesWithin : Setting → Frames → Type 0
-FramesWithin g f =
-    BothWithin g.subtrees.now.count g.subtrees.now.arities g.subtrees.now.children f.first f.second f.start f.end
+abbrev pub FramesWithin : Subtrees → Frames → Type 0
+FramesWithin s f = BothWithin s.count s.arities s.children f.first f.second f.start f.end
 
--- the definitions of Frames, Uses and Walks for a setting and frames
-abbrev pub in_slot_in : Setting → ℕ → ℕ → ℕ → Bool
-in_slot_in g at k i =
-    in_slot g.transitions.now at k g.subtrees.now.labels g.subtrees.now.arities g.subtrees.now.children
-    g.subtrees.now.states i
+-- the definitions of Frames for transitions, subtrees and frames
+abbrev pub in_slot_in : List ℕ → Subtrees → ℕ → ℕ → ℕ → Bool
+in_slot_in b s at k i = in_slot b at k s.labels s.arities s.children s.states i
 
-abbrev pub frame_of_in : Setting → Frames → ℕ → ℕ → Bool
-frame_of_in g f k i =
-    frame_of g.subtrees.now.labels g.subtrees.now.arities g.subtrees.now.children g.subtrees.now.count f.first f.second
-    k i
+abbrev pub frame_of_in : Subtrees → Frames → ℕ → ℕ → Bool
+frame_of_in s f k i = frame_of s.labels s.arities s.children s.count f.first f.second k i
 
-abbrev pub framed_in : Setting → Frames → ℕ → ℕ → ℕ → Bool
-framed_in g f at k i = frame_of_in g f k i && in_slot_in g at k i
+abbrev pub framed_in : List ℕ → Subtrees → Frames → ℕ → ℕ → ℕ → Bool
+framed_in b s f at k i = frame_of_in s f k i && in_slot_in b s at k i
 
-abbrev pub frame_count_in : Setting → Frames → ℕ → ℕ → ℕ
-frame_count_in g f at k =
-    frame_count g.transitions.now at k g.subtrees.now.labels g.subtrees.now.arities g.subtrees.now.children
-    g.subtrees.now.states g.subtrees.now.count f.first f.second
+abbrev pub frame_count_in : List ℕ → Subtrees → Frames → ℕ → ℕ → ℕ
+frame_count_in b s f at k = frame_count b at k s.labels s.arities s.children s.states s.count f.first f.second
 
+-- the definitions of Uses and Walks for a setting and frames
 abbrev pub covered_in : Setting → Frames → ℕ → ℕ → Bool
 covered_in g f at k = covered_at (arrays_in g f) g.transitions.now at k
 

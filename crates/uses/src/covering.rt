@@ -4,13 +4,15 @@ ghost use Rattle.std.specs.Prelude.{◌≡◌, ◌*◌, ◌<◌, ◌≤◌, min}
 ghost use Rattle.fields.specs.Fields.{Readable};
 ghost use Rattle.format.specs.Format.{max_arity};
 ghost use Rattle.table.specs.Layout.{arity_of};
-ghost use Rattle.uses.specs.Uses.{factor_at, product_at, product_cap};
-ghost use Rattle.uses.specs.Settings.{covered_in, FramesWithin};
+ghost use Rattle.uses.specs.Frames.{Nodes};
+ghost use Rattle.uses.specs.Uses.{covered_at, factor_at, product_at, product_cap};
+ghost use Rattle.uses.specs.Settings.{FramesWithin, arrays_of};
 
 use crate::frames::frame_count;
-use crate::setting::{Frames, Setting};
+use crate::setting::Frames;
 use fields::{arg_of, arity_of};
 use format::{BYTE_VALUES, MAX_NODES};
+use subtrees::Subtrees;
 
 // The number of pairs of argument x; 1 if it is left out.
 fn factor(transitions: &[u8], at: usize, k: usize, weights: &[u8; BYTE_VALUES], x: usize) -> usize
@@ -50,12 +52,20 @@ fn choices(transitions: &[u8], at: usize, k: usize, weights: &[u8; BYTE_VALUES])
 }
 
 // Whether the slot of the transition with argument k left out is covered by the frames.
-pub fn is_covered(setting: &Setting<'_>, at: usize, k: usize, frames: Frames) -> bool
-    requires readable { Readable setting.now.transitions.now at }
-    requires k_bound { k < arity_of setting.now.transitions.now at }
-    requires framed { FramesWithin setting.now frames }
-    ensures { result ≡ covered_in setting.now frames at k }
+pub fn is_covered(
+    transitions: &[u8],
+    at: usize,
+    k: usize,
+    subtrees: &Subtrees,
+    weights: &[u8; BYTE_VALUES],
+    frames: Frames,
+) -> bool
+    requires readable { Readable transitions.now at }
+    requires nodes { Nodes subtrees.now.count subtrees.now.arities subtrees.now.children }
+    requires k_bound { k < arity_of transitions.now at }
+    requires framed { FramesWithin subtrees.now frames }
+    ensures { result ≡ covered_at (arrays_of subtrees.now weights.now frames.first frames.second) transitions.now at k }
 {
-    let found = frame_count(setting, at, k, frames);
-    choices(setting.transitions, at, k, setting.weights) == found
+    let found = frame_count(transitions, at, k, subtrees, frames);
+    choices(transitions, at, k, weights) == found
 }

@@ -6,10 +6,10 @@ ghost use Rattle.lists.specs.Positions.{up_from};
 ghost use Rattle.lists.specs.Tests.{any, bit, every};
 ghost use Rattle.subtrees.specs.Store.{child_at};
 ghost use Rattle.table.specs.Layout.{arity_of};
-ghost use Rattle.uses.specs.Frames.{same_child, same_sibling, twin};
+ghost use Rattle.uses.specs.Frames.{Nodes, same_child, same_sibling, twin};
 ghost use Rattle.uses.specs.Settings.{in_slot_in, frame_of_in, framed_in, frame_count_in, FramesWithin};
 
-use crate::setting::{Frames, Setting};
+use crate::setting::Frames;
 use fields::{arg_of, arity_of, label_of};
 use format::{MAX_ARITY, MAX_NODES};
 use subtrees::Subtrees;
@@ -41,21 +41,22 @@ fn same_sibling(
 }
 
 // Whether each child of node i other than child k runs to the transition's argument at its place.
-fn same_siblings(setting: &Setting<'_>, at: usize, k: usize, i: usize) -> bool
-    requires readable { Readable setting.now.transitions.now at }
-    requires i_lt_m { i < setting.now.subtrees.now.count }
-    requires i_value { get_or setting.now.subtrees.now.arities i 0 ≡ arity_of setting.now.transitions.now at }
-    ensures { result ≡ every (same_sibling setting.now.transitions.now at k setting.now.subtrees.now.children setting.now.subtrees.now.states i)
-        (up_from 0 (arity_of setting.now.transitions.now at)) }
+fn same_siblings(transitions: &[u8], at: usize, k: usize, subtrees: &Subtrees, i: usize) -> bool
+    requires readable { Readable transitions.now at }
+    requires nodes { Nodes subtrees.now.count subtrees.now.arities subtrees.now.children }
+    requires i_lt_m { i < subtrees.now.count }
+    requires i_value { get_or subtrees.now.arities i 0 ≡ arity_of transitions.now at }
+    ensures { result ≡ every (same_sibling transitions.now at k subtrees.now.children subtrees.now.states i)
+        (up_from 0 (arity_of transitions.now at)) }
 {
-    let arity = arity_of(setting.transitions, at);
+    let arity = arity_of(transitions, at);
     for x in 0..arity {
         if !same_sibling(
-            setting.transitions,
+            transitions,
             at,
             k,
-            &setting.subtrees.children,
-            &setting.subtrees.states,
+            &subtrees.children,
+            &subtrees.states,
             i,
             x,
         ) {
@@ -66,18 +67,19 @@ fn same_siblings(setting: &Setting<'_>, at: usize, k: usize, i: usize) -> bool
 }
 
 // Whether node i with child k left out runs to the slot of the transition with argument k left out.
-fn in_slot(setting: &Setting<'_>, at: usize, k: usize, i: usize) -> bool
-    requires readable { Readable setting.now.transitions.now at }
-    requires i_lt_m { i < setting.now.subtrees.now.count }
-    ensures { result ≡ in_slot_in setting.now at k i }
+fn in_slot(transitions: &[u8], at: usize, k: usize, subtrees: &Subtrees, i: usize) -> bool
+    requires readable { Readable transitions.now at }
+    requires nodes { Nodes subtrees.now.count subtrees.now.arities subtrees.now.children }
+    requires i_lt_m { i < subtrees.now.count }
+    ensures { result ≡ in_slot_in transitions.now subtrees.now at k i }
 {
-    if setting.subtrees.labels[i] != label_of(setting.transitions, at) {
+    if subtrees.labels[i] != label_of(transitions, at) {
         return false;
     }
-    if usize::from(setting.subtrees.arities[i]) != arity_of(setting.transitions, at) {
+    if usize::from(subtrees.arities[i]) != arity_of(transitions, at) {
         return false;
     }
-    same_siblings(setting, at, k, i)
+    same_siblings(transitions, at, k, subtrees, i)
 }
 
 // Whether child x is left out or is the same in nodes i and h.
@@ -154,48 +156,64 @@ fn has_twin(subtrees: &Subtrees, j: u8, k: usize, i: usize) -> bool
 
 // Whether the frame at place k of node i counts: it is one of the first subtree, or one of the second
 // and not of the first.
-fn frame_of(setting: &Setting<'_>, frames: Frames, k: usize, i: usize) -> bool
+fn frame_of(subtrees: &Subtrees, frames: Frames, k: usize, i: usize) -> bool
+    requires nodes { Nodes subtrees.now.count subtrees.now.arities subtrees.now.children }
     requires k_lt_max_arity { k < max_arity }
-    requires i_lt_m { i < setting.now.subtrees.now.count }
-    ensures { result ≡ frame_of_in setting.now frames k i }
+    requires i_lt_m { i < subtrees.now.count }
+    ensures { result ≡ frame_of_in subtrees.now frames k i }
 {
-    let child = setting.subtrees.children[MAX_ARITY * i + k];
+    let child = subtrees.children[MAX_ARITY * i + k];
     if child == frames.first {
         return true;
     }
     if child != frames.second {
         return false;
     }
-    !has_twin(setting.subtrees, frames.first, k, i)
+    !has_twin(subtrees, frames.first, k, i)
 }
 
 // 1 if the frame at place k of node i counts and runs to the transition's slot, else 0.
-fn framed_at(setting: &Setting<'_>, at: usize, k: usize, frames: Frames, i: usize) -> usize
-    requires readable { Readable setting.now.transitions.now at }
+fn framed_at(
+    transitions: &[u8],
+    at: usize,
+    k: usize,
+    subtrees: &Subtrees,
+    frames: Frames,
+    i: usize,
+) -> usize
+    requires readable { Readable transitions.now at }
+    requires nodes { Nodes subtrees.now.count subtrees.now.arities subtrees.now.children }
     requires k_lt_max_arity { k < max_arity }
-    requires i_lt_m { i < setting.now.subtrees.now.count }
-    ensures { result ≡ bit (framed_in setting.now frames at k i) }
+    requires i_lt_m { i < subtrees.now.count }
+    ensures { result ≡ bit (framed_in transitions.now subtrees.now frames at k i) }
 {
-    if !frame_of(setting, frames, k, i) {
+    if !frame_of(subtrees, frames, k, i) {
         return 0;
     }
-    if !in_slot(setting, at, k, i) {
+    if !in_slot(transitions, at, k, subtrees, i) {
         return 0;
     }
     1
 }
 
 // The number of the frames at the slot of the transition with argument k left out.
-pub fn frame_count(setting: &Setting<'_>, at: usize, k: usize, frames: Frames) -> usize
-    requires readable { Readable setting.now.transitions.now at }
-    requires k_bound { k < arity_of setting.now.transitions.now at }
-    requires framed { FramesWithin setting.now frames }
-    ensures value { result ≡ frame_count_in setting.now frames at k }
+pub fn frame_count(
+    transitions: &[u8],
+    at: usize,
+    k: usize,
+    subtrees: &Subtrees,
+    frames: Frames,
+) -> usize
+    requires readable { Readable transitions.now at }
+    requires nodes { Nodes subtrees.now.count subtrees.now.arities subtrees.now.children }
+    requires k_bound { k < arity_of transitions.now at }
+    requires framed { FramesWithin subtrees.now frames }
+    ensures value { result ≡ frame_count_in transitions.now subtrees.now frames at k }
     ensures upper_bound { result ≤ max_nodes }
 {
     let mut found = 0;
     for i in frames.start..frames.end {
-        found = found + framed_at(setting, at, k, frames, i);
+        found = found + framed_at(transitions, at, k, subtrees, frames, i);
     }
     found
 }

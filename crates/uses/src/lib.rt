@@ -2,7 +2,7 @@
 // the given subtrees cover the slot.
 #![tactic(auto)]
 
-mod setting; // what uses are compared in
+mod setting; // what uses are compared in and found in
 mod spans; // for each state, its first and last use
 mod frames; // frames over a slot, counted
 mod covering; // covered slots
@@ -21,7 +21,7 @@ ghost use Rattle.uses.specs.Uses.{FramesOf};
 ghost use Rattle.uses.specs.Settings.{FramesWithin, ParentsFrom, HoldsIn};
 
 use scanning::{hint_agrees, transitions_agree};
-pub use setting::{Frames, Setting};
+pub use setting::{Frames, Setting, Used};
 pub use spans::note_uses;
 pub use using::use_slot;
 use walking::walk_agrees;
@@ -30,7 +30,7 @@ use walking::walk_agrees;
 // is 0 for none. The last use of each is tried first, because most states that differ do so there. Then the uses are
 // walked in step. Only if the walk fails, each use is looked up.
 fn uses_agree(setting: &Setting<'_>, frames: Frames, p: u8, q: u8) -> bool
-    requires framed { FramesWithin setting.now frames }
+    requires framed { FramesWithin setting.now.subtrees.now frames }
     ensures { (A : Automaton) (t : Tree) (ts : List Tree) (F : List Frame) →
         HoldsIn A t ts setting.now → FramesOf t ts setting.now.subtrees.now.count frames.first frames.second F →
         result ≡ uses_agree A t F p q }

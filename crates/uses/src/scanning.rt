@@ -36,7 +36,7 @@ fn has_neither(transitions: &[u8], at: usize, p: u8, q: u8) -> bool
 
 // Whether exchanging p and q in any argument of transition i keeps the output, or the slot is covered.
 fn transition_agrees(setting: &Setting<'_>, frames: Frames, p: u8, q: u8, i: usize) -> bool
-    requires framed { FramesWithin setting.now frames }
+    requires framed { FramesWithin setting.now.subtrees.now frames }
     requires i_lt_count { i < setting.now.count }
     ensures { result ≡ transition_agrees_in setting.now frames p q i }
 {
@@ -55,7 +55,7 @@ fn transition_agrees(setting: &Setting<'_>, frames: Frames, p: u8, q: u8, i: usi
 // The same with a test first whether transition i has p or q at all. A small function of its own, because most
 // transitions of a scan end here.
 fn unused_or_agrees(setting: &Setting<'_>, frames: Frames, p: u8, q: u8, i: usize) -> bool
-    requires framed { FramesWithin setting.now frames }
+    requires framed { FramesWithin setting.now.subtrees.now frames }
     requires i_lt_count { i < setting.now.count }
     ensures { result ≡ transition_agrees_in setting.now frames p q i }
 {
@@ -67,7 +67,7 @@ fn unused_or_agrees(setting: &Setting<'_>, frames: Frames, p: u8, q: u8, i: usiz
 
 // Whether every transition agrees. Only those from the first use of p or q to the last are looked at.
 pub fn transitions_agree(setting: &Setting<'_>, frames: Frames, p: u8, q: u8) -> bool
-    requires framed { FramesWithin setting.now frames }
+    requires framed { FramesWithin setting.now.subtrees.now frames }
     ensures { result ≡ transitions_agree_in setting.now frames p q }
 {
     let from = entry(setting.lows, p).min(entry(setting.lows, q));
@@ -82,7 +82,7 @@ pub fn transitions_agree(setting: &Setting<'_>, frames: Frames, p: u8, q: u8) ->
 
 // Whether the last transition that uses state x agrees; true if there is none.
 pub fn hint_agrees(setting: &Setting<'_>, frames: Frames, p: u8, q: u8, x: u8) -> bool
-    requires framed { FramesWithin setting.now frames }
+    requires framed { FramesWithin setting.now.subtrees.now frames }
     ensures { Hinted (arrays_in setting.now frames) setting.now.transitions.now setting.now.count p q result }
 {
     let number = entry(setting.lasts, x);

@@ -61,7 +61,7 @@ fn swap_agrees(
     x: u8,
     y: u8,
 ) -> bool
-    requires framed { FramesWithin setting.now frames }
+    requires framed { FramesWithin setting.now.subtrees.now frames }
     requires i_lt_count { i < setting.now.count }
     requires k_bound { k < arity_of setting.now.transitions.now (transition_bytes * i) }
     requires meta_value { meta ≡ meta_at setting.now.transitions.now (transition_bytes * i) }
@@ -74,7 +74,14 @@ fn swap_agrees(
     if out == out_of(setting.transitions, at) {
         return true;
     }
-    is_covered(setting, at, k, frames)
+    is_covered(
+        setting.transitions,
+        at,
+        k,
+        setting.subtrees,
+        setting.weights,
+        frames,
+    )
 }
 
 // Whether an argument is neither of two states.
@@ -106,7 +113,7 @@ pub fn place_agrees(
     i: usize,
     k: usize,
 ) -> bool
-    requires framed { FramesWithin setting.now frames }
+    requires framed { FramesWithin setting.now.subtrees.now frames }
     requires i_lt_count { i < setting.now.count }
     requires k_bound { k < arity_of setting.now.transitions.now (transition_bytes * i) }
     requires meta_value { meta ≡ meta_at setting.now.transitions.now (transition_bytes * i) }

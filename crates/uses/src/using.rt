@@ -9,11 +9,11 @@ ghost use Rattle.packed.specs.Slots.{SlotTakes};
 ghost use Rattle.subtrees.specs.Store.{tree_numbered};
 ghost use Rattle.table.specs.Layout.{arg_of, arity_of, out_of};
 ghost use Rattle.trees.specs.Tree.{Tree};
-ghost use Rattle.uses.specs.Uses.{SlotUsed};
-ghost use Rattle.uses.specs.Settings.{FramesWithin, ParentsFrom, HoldsIn, arrays_of, frames_of_one};
+ghost use Rattle.uses.specs.Uses.{Holds, SlotUsed};
+ghost use Rattle.uses.specs.Settings.{FramesWithin, ParentsFrom, arrays_of, frames_of_one};
 
 use crate::covering::is_covered;
-use crate::setting::{Frames, Setting};
+use crate::setting::{Frames, Used};
 use crate::spans::entry;
 use fields::{arg_of, arity_of, out_of};
 use format::TRANSITION_BYTES;
@@ -44,7 +44,7 @@ fn slot_at(transitions: &[u8], count: usize, i: usize, k: usize, p: u8) -> Slot
 
 // The same, but None if argument k is not p or the frames of subtree j cover the slot.
 fn place_slot(
-    setting: &Setting<'_>,
+    used: &Used<'_>,
     start: usize,
     end: usize,
     j: u8,
@@ -52,20 +52,22 @@ fn place_slot(
     i: usize,
     k: usize,
 ) -> Option<Slot>
-    requires framed { FramesWithin setting.now (frames_of_one j start end) }
-    requires i_lt_count { i < setting.now.count }
-    requires k_bound { k < arity_of setting.now.transitions.now (transition_bytes * i) }
-    ensures { IfSome result (SlotUsed (arrays_of setting.now.subtrees.now setting.now.weights.now j 0)
-        setting.now.transitions.now setting.now.count p) }
+    requires framed { FramesWithin used.now.subtrees.now (frames_of_one j start end) }
+    requires i_lt_count { i < used.now.count }
+    requires k_bound { k < arity_of used.now.transitions.now (transition_bytes * i) }
+    ensures { IfSome result (SlotUsed (arrays_of used.now.subtrees.now used.now.weights.now j 0)
+        used.now.transitions.now used.now.count p) }
 {
     let at = TRANSITION_BYTES * i;
-    if arg_of(setting.transitions, at, k) != usize::from(p) {
+    if arg_of(used.transitions, at, k) != usize::from(p) {
         return None;
     }
     if is_covered(
-        setting,
+        used.transitions,
         at,
         k,
+        used.subtrees,
+        used.weights,
         Frames {
             first: j,
             second: 0,
@@ -75,26 +77,26 @@ fn place_slot(
     ) {
         return None;
     }
-    Some(slot_at(setting.transitions, setting.count, i, k, p))
+    Some(slot_at(used.transitions, used.count, i, k, p))
 }
 
 // The slot of the first place of transition i that gives one.
 fn transition_slot(
-    setting: &Setting<'_>,
+    used: &Used<'_>,
     start: usize,
     end: usize,
     j: u8,
     p: u8,
     i: usize,
 ) -> Option<Slot>
-    requires framed { FramesWithin setting.now (frames_of_one j start end) }
-    requires i_lt_count { i < setting.now.count }
-    ensures { IfSome result (SlotUsed (arrays_of setting.now.subtrees.now setting.now.weights.now j 0)
-        setting.now.transitions.now setting.now.count p) }
+    requires framed { FramesWithin used.now.subtrees.now (frames_of_one j start end) }
+    requires i_lt_count { i < used.now.count }
+    ensures { IfSome result (SlotUsed (arrays_of used.now.subtrees.now used.now.weights.now j 0)
+        used.now.transitions.now used.now.count p) }
 {
-    let arity = arity_of(setting.transitions, TRANSITION_BYTES * i);
+    let arity = arity_of(used.transitions, TRANSITION_BYTES * i);
     for k in 0..arity {
-        if let Some(z) = place_slot(setting, start, end, j, p, i, k) {
+        if let Some(z) = place_slot(used, start, end, j, p, i, k) {
             return Some(z);
         }
     }
@@ -103,23 +105,25 @@ fn transition_slot(
 
 // A slot in which the state of subtree j is used and which the frames of j do not cover. Only the last transition
 // that uses the state is tried.
-pub fn use_slot(setting: &Setting<'_>, start: usize, end: usize, j: u8) -> Option<Slot>
+pub fn use_slot(used: &Used<'_>, start: usize, end: usize, j: u8) -> Option<Slot>
     requires le_j { 1 ≤ j }
-    requires j_le_m { j ≤ setting.now.subtrees.now.count }
-    requires parents_within { ParentsFrom setting.now.subtrees.now j start end }
+    requires j_le_m { j ≤ used.now.subtrees.now.count }
+    requires parents_within { ParentsFrom used.now.subtrees.now j start end }
     ensures place_lt_max_arity { IfSome result (λ z. z.place < max_arity) }
     ensures slot_takes { (A : Automaton) (t : Tree) (ts : List Tree) →
-        HoldsIn A t ts setting.now → IfSome result (λ z. (q : ℕ) →
+        Holds A t ts used.now.transitions.now used.now.count used.now.n used.now.subtrees.now.labels
+        used.now.subtrees.now.arities used.now.subtrees.now.children used.now.subtrees.now.states used.now.weights.now
+        used.now.subtrees.now.count → IfSome result (λ z. (q : ℕ) →
         uses_agree A t (frames_of t (tree_numbered ts j)) (run A (tree_numbered ts j)) q ≡ true →
-        SlotTakes setting.now.transitions.now setting.now.count z q) }
+        SlotTakes used.now.transitions.now used.now.count z q) }
 {
-    let p = setting.subtrees.states[usize::from(j) - 1];
-    let number = entry(setting.lasts, p);
+    let p = used.subtrees.states[usize::from(j) - 1];
+    let number = entry(used.lasts, p);
     if number == 0 {
         return None;
     }
-    if number > setting.count {
+    if number > used.count {
         return None;
     }
-    transition_slot(setting, start, end, j, p, number - 1)
+    transition_slot(used, start, end, j, p, number - 1)
 }

@@ -67,7 +67,7 @@ fn pair_agrees(setting: &Setting<'_>, k: usize, p: u8, q: u8, to: usize, i: usiz
 
 // Whether the walk is not at its end, and the slot of transition i without argument k is covered.
 fn use_covered(setting: &Setting<'_>, frames: Frames, k: usize, to: usize, i: usize) -> bool
-    requires framed { FramesWithin setting.now frames }
+    requires framed { FramesWithin setting.now.subtrees.now frames }
     requires to_le_count { to ≤ setting.now.count }
     requires k_bound { i < to → k < arity_of setting.now.transitions.now (transition_bytes * i) }
     ensures i_lt_to { result ≡ true → i < to }
@@ -77,7 +77,14 @@ fn use_covered(setting: &Setting<'_>, frames: Frames, k: usize, to: usize, i: us
     if i >= to {
         return false;
     }
-    is_covered(setting, TRANSITION_BYTES * i, k, frames)
+    is_covered(
+        setting.transitions,
+        TRANSITION_BYTES * i,
+        k,
+        setting.subtrees,
+        setting.weights,
+        frames,
+    )
 }
 
 // One step of the walk: past two uses that are a pair, else past one whose slot is covered. None if it can pass
@@ -92,7 +99,7 @@ fn step(
     i: usize,
     x: usize,
 ) -> Option<(usize, usize)>
-    requires framed { FramesWithin setting.now frames }
+    requires framed { FramesWithin setting.now.subtrees.now frames }
     requires walkable { Walkable setting.now.transitions.now setting.now.count setting.now.n k p q to }
     requires at_use { AtUse setting.now.transitions.now k p to i }
     requires at_use_2 { AtUse setting.now.transitions.now k q to x }
@@ -121,7 +128,7 @@ fn place_agrees_in_step(
     from: usize,
     to: usize,
 ) -> bool
-    requires framed { FramesWithin setting.now frames }
+    requires framed { FramesWithin setting.now.subtrees.now frames }
     requires walkable { Walkable setting.now.transitions.now setting.now.count setting.now.n k p q to }
     requires from_le_to { from ≤ to }
     requires walked { WalkedIn setting.now frames k p q from from }
@@ -155,7 +162,7 @@ fn width(setting: &Setting<'_>, to: usize) -> usize
 // Whether the walk reaches its end at each place. Then p and q are used alike; if not, they may still be. False if p
 // or q is 0, because 0 stands at each place beyond the arguments.
 pub fn walk_agrees(setting: &Setting<'_>, frames: Frames, p: u8, q: u8) -> bool
-    requires framed { FramesWithin setting.now frames }
+    requires framed { FramesWithin setting.now.subtrees.now frames }
     ensures { result ≡ true → transitions_agree_in setting.now frames p q ≡ true }
 {
     if p == 0 {

@@ -4,4 +4,4 @@ use lib.ListN.{get_or}
 use Rattle.alike.proofs.slots.parent_slot.Given as goal
 
 abbrev pub invariant-loop-k : goal.invariant-loop-k
-invariant-loop-k l = l.arity ≡ get_or l.setting.subtrees.now.arities l.i 0
+invariant-loop-k l = l.arity ≡ get_or l.subtrees.arities l.i 0

@@ -5,4 +5,4 @@ use Rattle.uses.proofs.covering.is_covered.Goals as goal
 
 pub returns : goal.returns
 returns c =
-    covered-is (arrays c.args.setting.now.subtrees.now.labels c.args.setting.now.subtrees.now.arities c.args.setting.now.subtrees.now.children c.args.setting.now.subtrees.now.states c.args.setting.now.weights.now c.args.setting.now.subtrees.now.count c.args.frames.first c.args.frames.second) c.args.setting.now.transitions.now c.args.at c.args.k c.choices.ensures c.frame_count-found.ensures.value c.frame_count-found.ensures.upper_bound
+    covered-is (arrays c.args.subtrees.now.labels c.args.subtrees.now.arities c.args.subtrees.now.children c.args.subtrees.now.states c.args.weights.now c.args.subtrees.now.count c.args.frames.first c.args.frames.second) c.args.transitions.now c.args.at c.args.k c.choices.ensures c.frame_count-found.ensures.value c.frame_count-found.ensures.upper_bound

@@ -5,12 +5,13 @@ use Rattle.uses.proofs.frames.frame_count.Goals as goal
 
 pub loop-i-init : goal.loop-i-init
 loop-i-init c =
-    frames-start c.args.setting.now.transitions.now c.args.at c.args.k c.args.setting.now.subtrees.now.labels c.args.setting.now.subtrees.now.arities c.args.setting.now.subtrees.now.children
-    c.args.setting.now.subtrees.now.states c.args.setting.now.subtrees.now.count c.args.frames.first c.args.frames.second c.requires.k_bound c.requires.framed.first c.requires.framed.second
+    frames-start c.args.transitions.now c.args.at c.args.k c.args.subtrees.now.labels c.args.subtrees.now.arities c.args.subtrees.now.children
+    c.args.subtrees.now.states c.args.subtrees.now.count c.args.frames.first c.args.frames.second c.requires.k_bound c.requires.framed.first c.requires.framed.second
 
 pub framed_at-found-requires : goal.framed_at-found-requires
 framed_at-found-requires c = record {
   readable = c.requires.readable;
+  nodes = c.requires.nodes;
   k_lt_max_arity = omega (arith, c.requires.readable.narrow, c.requires.k_bound);
   i_lt_m = omega (
     arith,
@@ -24,7 +25,7 @@ overflow_add-found c =
     let h = count_small c.loop-i.invariant c.framed_at-found.ensures in omega (
       arith,
       h,
-      c.args.setting.now.shaped.few,
+      c.requires.nodes.few,
       c.requires.framed.first.known,
       c.loop-i-test.true,
     )
@@ -39,7 +40,7 @@ loop-i-preserved c =
 
 pub returns : goal.returns
 returns c = record {
-  value = frames-end c.args.setting.now.transitions.now c.args.at c.args.k c.args.setting.now.subtrees.now.labels c.args.setting.now.subtrees.now.arities c.args.setting.now.subtrees.now.children
-      c.args.setting.now.subtrees.now.states c.args.setting.now.subtrees.now.count c.args.frames.first c.args.frames.second c.requires.k_bound c.requires.framed.first c.requires.framed.second c.loop-i.invariant c.loop-i-test.false;
-  upper_bound = omega (arith, c.loop-i.invariant.within, c.args.setting.now.shaped.few);
+  value = frames-end c.args.transitions.now c.args.at c.args.k c.args.subtrees.now.labels c.args.subtrees.now.arities c.args.subtrees.now.children
+      c.args.subtrees.now.states c.args.subtrees.now.count c.args.frames.first c.args.frames.second c.requires.k_bound c.requires.framed.first c.requires.framed.second c.loop-i.invariant c.loop-i-test.false;
+  upper_bound = omega (arith, c.loop-i.invariant.within, c.requires.nodes.few);
 }

@@ -4,5 +4,5 @@ use Rattle.uses.proofs.Counting.{CountFrom}
 use Rattle.uses.proofs.frames.frame_count.Given as goal
 
 abbrev pub invariant-loop-i : goal.invariant-loop-i
-invariant-loop-i l = CountFrom (frame_count l.setting.transitions.now l.at l.k l.setting.subtrees.now.labels l.setting.subtrees.now.arities l.setting.subtrees.now.children l.setting.subtrees.now.states l.setting.subtrees.now.count l.frames.first l.frames.second)
-    (framed l.setting.transitions.now l.at l.k l.setting.subtrees.now.labels l.setting.subtrees.now.arities l.setting.subtrees.now.children l.setting.subtrees.now.states l.setting.subtrees.now.count l.frames.first l.frames.second) l.setting.subtrees.now.count l.found l.i
+invariant-loop-i l = CountFrom (frame_count l.transitions l.at l.k l.subtrees.labels l.subtrees.arities l.subtrees.children l.subtrees.states l.subtrees.count l.frames.first l.frames.second)
+    (framed l.transitions l.at l.k l.subtrees.labels l.subtrees.arities l.subtrees.children l.subtrees.states l.subtrees.count l.frames.first l.frames.second) l.subtrees.count l.found l.i

@@ -4,12 +4,12 @@ use Rattle.uses.proofs.frames.framed_at.Goals as goal
 
 pub returns-then-not-frame_of : goal.returns-then-not-frame_of
 returns-then-not-frame_of c =
-    framed-not c.args.setting.now.transitions.now c.args.at c.args.k c.args.setting.now.subtrees.now.labels c.args.setting.now.subtrees.now.arities c.args.setting.now.subtrees.now.children c.args.setting.now.subtrees.now.states c.args.setting.now.subtrees.now.count c.args.frames.first c.args.frames.second c.args.i c.frame_of.ensures c.if-not-frame_of.true
+    framed-not c.args.transitions.now c.args.at c.args.k c.args.subtrees.now.labels c.args.subtrees.now.arities c.args.subtrees.now.children c.args.subtrees.now.states c.args.subtrees.now.count c.args.frames.first c.args.frames.second c.args.i c.frame_of.ensures c.if-not-frame_of.true
 
 pub returns-then-not-in_slot : goal.returns-then-not-in_slot
 returns-then-not-in_slot c =
-    framed-out c.args.setting.now.transitions.now c.args.at c.args.k c.args.setting.now.subtrees.now.labels c.args.setting.now.subtrees.now.arities c.args.setting.now.subtrees.now.children c.args.setting.now.subtrees.now.states c.args.setting.now.subtrees.now.count c.args.frames.first c.args.frames.second c.args.i c.in_slot.ensures c.if-not-in_slot.true
+    framed-out c.args.transitions.now c.args.at c.args.k c.args.subtrees.now.labels c.args.subtrees.now.arities c.args.subtrees.now.children c.args.subtrees.now.states c.args.subtrees.now.count c.args.frames.first c.args.frames.second c.args.i c.in_slot.ensures c.if-not-in_slot.true
 
 pub returns : goal.returns
 returns c =
-    framed-both c.args.setting.now.transitions.now c.args.at c.args.k c.args.setting.now.subtrees.now.labels c.args.setting.now.subtrees.now.arities c.args.setting.now.subtrees.now.children c.args.setting.now.subtrees.now.states c.args.setting.now.subtrees.now.count c.args.frames.first c.args.frames.second c.args.i c.frame_of.ensures c.if-not-frame_of.false c.in_slot.ensures c.if-not-in_slot.false
+    framed-both c.args.transitions.now c.args.at c.args.k c.args.subtrees.now.labels c.args.subtrees.now.arities c.args.subtrees.now.children c.args.subtrees.now.states c.args.subtrees.now.count c.args.frames.first c.args.frames.second c.args.i c.frame_of.ensures c.if-not-frame_of.false c.in_slot.ensures c.if-not-in_slot.false

@@ -8,4 +8,4 @@ use mathlib.Core.Path.{◌≡◌}
 use Rattle.uses.proofs.frames.same_siblings.Given as goal
 
 abbrev pub invariant-loop-x : goal.invariant-loop-x
-invariant-loop-x l = (l.arity ≡ arity_of l.setting.transitions.now l.at) × EveryFrom (every (same_sibling l.setting.transitions.now l.at l.k l.setting.subtrees.now.children l.setting.subtrees.now.states l.i) (up_from 0 (arity_of l.setting.transitions.now l.at))) (same_sibling l.setting.transitions.now l.at l.k l.setting.subtrees.now.children l.setting.subtrees.now.states l.i) (arity_of l.setting.transitions.now l.at) l.x
+invariant-loop-x l = (l.arity ≡ arity_of l.transitions l.at) × EveryFrom (every (same_sibling l.transitions l.at l.k l.subtrees.children l.subtrees.states l.i) (up_from 0 (arity_of l.transitions l.at))) (same_sibling l.transitions l.at l.k l.subtrees.children l.subtrees.states l.i) (arity_of l.transitions l.at) l.x

@@ -3,6 +3,7 @@ use Prim.Native.Nat.{◌*◌}
 use Rattle.format.specs.Format.{transition_bytes}
 use Rattle.fields.proofs.Transitions.{readable}
 use Rattle.uses.specs.Settings.{arrays_in}
+use Rattle.uses.proofs.Both.{shaped-nodes}
 use Rattle.uses.proofs.Scanned.{swap-covered, swap-same}
 use Rattle.uses.proofs.swapping.swap_agrees.Goals as goal
 
@@ -23,6 +24,7 @@ returns-then-out-out_of c =
 pub is_covered-requires : goal.is_covered-requires
 is_covered-requires c = record {
   readable = readable c.args.setting.now.over.runs c.args.i c.requires.i_lt_count;
+  nodes = shaped-nodes c.args.setting.now.shaped;
   k_bound = c.requires.k_bound;
   framed = c.requires.framed;
 }

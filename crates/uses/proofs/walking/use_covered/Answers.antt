@@ -3,6 +3,7 @@ use mathlib.Core.Bool.{false≢true}
 use mathlib.Core.Path.{◌∙◌, sym}
 use native.Mathlib.Omega.{arith}
 use Rattle.fields.proofs.Transitions.{readable}
+use Rattle.uses.proofs.Both.{shaped-nodes}
 use Rattle.uses.proofs.walking.use_covered.Goals as goal
 
 pub returns-then-i-to : goal.returns-then-i-to
@@ -13,6 +14,7 @@ is_covered-requires c =
     let h = c.if-i-to.false in
     record {
       readable = readable c.args.setting.now.over.runs c.args.i (omega (arith, c.requires.to_le_count));
+      nodes = shaped-nodes c.args.setting.now.shaped;
       k_bound = c.requires.k_bound (omega arith);
       framed = c.requires.framed;
     }
