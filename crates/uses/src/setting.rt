@@ -22,8 +22,6 @@ pub struct Setting<'a> {
     pub weights: &'a [u8; BYTE_VALUES],
     pub lows: &'a [u16; BYTE_VALUES],
     pub lasts: &'a [u16; BYTE_VALUES],
-    // a slice of bytes has only bytes, which a proof knows of a parameter and not of a field
-    pub ghost bytes: { AllBytes transitions.now },
     pub ghost searchable: { Searchable transitions.now count },
     pub ghost over: { HoldsTransitionsOver transitions.now count n },
     pub ghost states: { n ≤ max_states },
@@ -54,3 +52,8 @@ pub struct Frames {
     pub start: usize,
     pub end: usize,
 }
+
+// Says of a field's slice what a proof knows of a parameter's: a slice of bytes has only bytes.
+pub fn recall_bytes(transitions: &[u8])
+    ensures { AllBytes transitions.now }
+{}

@@ -7,7 +7,7 @@ ghost use Rattle.table.specs.Layout.{arg_of, arity_of};
 ghost use Rattle.uses.specs.Settings.{swap_agrees_in, place_agrees_in, FramesWithin};
 
 use crate::covering::is_covered;
-use crate::setting::{Frames, Setting};
+use crate::setting::{Frames, Setting, recall_bytes};
 use fields::{arg_of, out_of};
 use format::TRANSITION_BYTES;
 use packed::{at_place, seek};
@@ -43,6 +43,7 @@ fn swapped_out(
     if y == 0 {
         return 0;
     }
+    recall_bytes(setting.transitions);
     let sought = exchanged(args, k, x, y);
     let Some(found) = seek(setting.transitions, setting.count, meta, sought) else {
         return 0;

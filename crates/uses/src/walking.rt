@@ -9,7 +9,7 @@ ghost use Rattle.uses.specs.Walks.{AtUse, NextUse, Paired, Stepped, Walkable};
 ghost use Rattle.uses.specs.Settings.{covered_in, transitions_agree_in, WalkedIn, FramesWithin, arrays_in};
 
 use crate::covering::is_covered;
-use crate::setting::{Frames, Setting};
+use crate::setting::{Frames, Setting, recall_bytes};
 use crate::spans::entry;
 use fields::{arity_of, out_of};
 use format::{ARGS_AT, TRANSITION_BYTES};
@@ -53,6 +53,7 @@ fn pair_agrees(setting: &Setting<'_>, k: usize, p: u8, q: u8, to: usize, i: usiz
     if x >= to {
         return false;
     }
+    recall_bytes(setting.transitions);
     let first = TRANSITION_BYTES * i;
     let second = TRANSITION_BYTES * x;
     if meta_at(setting.transitions, first) != meta_at(setting.transitions, second) {
@@ -156,6 +157,7 @@ fn width(setting: &Setting<'_>, to: usize) -> usize
     if to == 0 {
         return 0;
     }
+    recall_bytes(setting.transitions);
     arity_of(setting.transitions, TRANSITION_BYTES * (to - 1))
 }
 

@@ -7,7 +7,7 @@ use Rattle.format.specs.Format.{max_nodes}
 use Rattle.subtrees.specs.Store.{bottom_up}
 use Rattle.table.specs.Layout.{decode}
 use Rattle.change.proofs.Inputs.{given-few, given-over, given-size}
-use Rattle.change.proofs.Knowing.{given-bytes, given-classes, given-held, given-known, given-rooted}
+use Rattle.change.proofs.Knowing.{given-classes, given-held, given-known, given-rooted}
 use Rattle.change.proofs.Knowing.{given-searchable, given-shaped}
 use Rattle.change.proofs.Knowing.{set-changed}
 use Rattle.change.proofs.name.Goals as goal
@@ -38,7 +38,6 @@ pub invariant_of-setting : goal.invariant_of-setting
 invariant_of-setting c =
     let g = c.requires.1 in
     record {
-      bytes = given-bytes g;
       searchable = given-searchable g;
       over = given-over g;
       states = given-few g;

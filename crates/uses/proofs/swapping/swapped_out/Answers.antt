@@ -15,7 +15,7 @@ returns-then-y-eq0 c =
 
 pub exchanged-sought-requires : goal.exchanged-sought-requires
 exchanged-sought-requires c =
-    let bytes = c.args.setting.now.bytes in
+    let bytes = c.recall_bytes.ensures in
     record {
       k_lt_max_arity = omega (arith, c.args.setting.now.searchable.padded.runs.narrow c.args.i c.requires.i_lt_count, c.requires.k_bound);
       k_bound = exchange-inside bytes c.args.setting.now.searchable c.args.setting.now.over c.args.i c.args.k c.requires.i_lt_count
@@ -26,14 +26,14 @@ exchanged-sought-requires c =
 
 pub returns-in_default : goal.returns-in_default
 returns-in_default c =
-    step-nothing c.args.setting.now.bytes c.args.setting.now.searchable c.args.setting.now.over c.args.i
+    step-nothing c.recall_bytes.ensures c.args.setting.now.searchable c.args.setting.now.over c.args.i
     c.args.k c.requires.i_lt_count c.requires.k_bound c.requires.args_value c.requires.x_value
     (omega (arith, c.ranges.y)) c.if-y-eq0.false c.requires.meta_value
     c.exchanged-sought.ensures c.seek.ensures.by_index c.in_default.is
 
 pub returns : goal.returns
 returns c =
-    c.out_of.ensures.value ∙ step-found c.args.setting.now.bytes c.args.setting.now.searchable c.args.setting.now.over
+    c.out_of.ensures.value ∙ step-found c.recall_bytes.ensures c.args.setting.now.searchable c.args.setting.now.over
     c.args.i c.args.k c.requires.i_lt_count c.requires.k_bound c.requires.args_value c.requires.x_value
     (omega (arith, c.ranges.y)) c.if-y-eq0.false c.requires.meta_value
     c.exchanged-sought.ensures c.seek.ensures.by_index c.in-Some.is

@@ -84,7 +84,7 @@ args_without-requires c =
     record {
       transition_bytes_in_bounds = omega (arith, c.requires.walkable.searchable.padded.runs.inside, c.requires.walkable.inside);
       k_lt_max_arity = c.requires.walkable.place;
-      k_bound = first-adds c.args.setting.now.bytes c.requires.walkable c.requires.at_use c.requires.at_use_2 (omega arith)
+      k_bound = first-adds c.recall_bytes.ensures c.requires.walkable c.requires.at_use c.requires.at_use_2 (omega arith)
           (omega arith);
     }
 
@@ -95,7 +95,7 @@ args_without-requires-2 c =
     record {
       transition_bytes_in_bounds = omega (arith, c.requires.walkable.searchable.padded.runs.inside, c.requires.walkable.inside);
       k_lt_max_arity = c.requires.walkable.place;
-      k_bound = second-adds c.args.setting.now.bytes c.requires.walkable c.requires.at_use c.requires.at_use_2 (omega arith)
+      k_bound = second-adds c.recall_bytes.ensures c.requires.walkable c.requires.at_use c.requires.at_use_2 (omega arith)
           (omega arith);
     }
 
@@ -103,7 +103,7 @@ pub returns : goal.returns
 returns c =
     let h = c.if-i-to.false in
     let l = c.if-x-to.false in
-    λ e. paired c.args.setting.now.bytes c.requires.walkable c.requires.at_use c.requires.at_use_2 (omega arith)
+    λ e. paired c.recall_bytes.ensures c.requires.walkable c.requires.at_use c.requires.at_use_2 (omega arith)
     (omega arith) (omega (arith, c.ranges.p)) (omega (arith, c.ranges.q))
     (sym c.meta_at.ensures ∙ c.if-meta_at.false ∙ c.meta_at-2.ensures)
     (sym c.out_of.ensures.value ∙ c.if-out_of.false ∙ c.out_of-2.ensures.value)

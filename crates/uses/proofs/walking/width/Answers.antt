@@ -33,7 +33,7 @@ pub returns : goal.returns
 returns c =
     let last = c.args.to - 1 in
     let some = c.if-to-eq0.false in
-    let bytes = c.args.setting.now.bytes in
+    let bytes = c.recall_bytes.ensures in
     record {
       upper_bound = omega (arith, c.arity_of.ensures, c.args.setting.now.searchable.padded.runs.narrow last (omega (arith, c.requires.to_le_count)));
       by_index = λ i h. omega (
