@@ -1,5 +1,5 @@
 // States compared with a subtree one by one. A subtree can stand for 0 and for open states only.
-ghost use Rattle.std.specs.Prelude.{Bool, IfSome, List, ◌≡◌, ◌+◌, ◌-◌, ◌<◌, ◌≤◌, ℕ, ◌||◌, eqb};
+ghost use Rattle.std.specs.Prelude.{Bool, IfSome, List, ◌≡◌, ◌+◌, ◌-◌, ◌<◌, ◌≤◌, ℕ, ◌||◌, eqb, get_or};
 ghost use Rattle.automata.specs.Automaton.{Automaton};
 ghost use Rattle.trees.specs.Tree.{Tree};
 ghost use Rattle.format.specs.Format.{byte_values};
@@ -64,6 +64,7 @@ pub fn first_state(sought: &Sought<'_, '_>) -> Option<usize>
 // The state that the subtree has, if it is open and the subtree is still like it.
 pub fn own_state(sought: &Sought<'_, '_>) -> Option<usize>
     ensures upper_bound { IfSome result (λ q. q ≤ sought.now.setting.now.n) }
+    ensures own { IfSome result (λ q. q ≡ get_or sought.now.setting.now.subtrees.now.states (sought.now.j - 1) 0) }
     ensures chosen { (A : Automaton) (t : Tree) (ts : List Tree) (S : Tree → Bool) (N : Tree → ℕ) →
         KnownFor A t ts S sought.now → OpenFor A t sought.now → NamesFor A t ts N sought.now →
         IfSome result (ChosenFor A t S ts N sought.now) }

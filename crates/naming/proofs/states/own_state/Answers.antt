@@ -10,5 +10,6 @@ fits_state-requires c = record {
 pub returns : goal.returns
 returns c = record {
   upper_bound = omega (arith, c.if-q-sought.false);
+  own = c.from-q.ensures;
   chosen = λ A t ts S N K O X. (c.fits_state.ensures A t ts S N K O X).yes c.if-not-fits_state.false;
 }
