@@ -38,10 +38,13 @@ fn numbers_of(transitions: &[u8], count: usize, n: usize) -> Numbers
     ensures { (cl : List ℕ) → acyclic (viewed cl transitions.now n count) ≡ true →
         NumbersOf (viewed cl transitions.now n count) result }
 {
+    let mut numbers = [None; BYTE_VALUES];
+    if n == 0 {
+        return numbers;
+    }
     let mut links = [0u16; LINKS];
     link(transitions, count, &mut links);
-    let mut numbers = [Some(0); BYTE_VALUES];
-    let mut next = numbers;
+    let mut next = [None; BYTE_VALUES];
     for _ in 0..n {
         settle_all(transitions, count, n, &links, &mut numbers);
         round(transitions, count, &numbers, &mut next);

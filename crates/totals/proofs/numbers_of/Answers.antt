@@ -1,6 +1,16 @@
+use native.Mathlib.Omega.{arith}
 use mathlib.Core.Path.{◌∙◌, sym}
+use Rattle.fields.proofs.Views.{viewed-states}
 use Rattle.totals.proofs.Depths.{lawful-numbers}
 use Rattle.totals.proofs.numbers_of.Goals as goal
+
+-- no states, no numbers
+pub returns-then-n-eq0 : goal.returns-then-n-eq0
+returns-then-n-eq0 c =
+    λ cl _. record {
+      each = λ q least most.
+          absurd (omega (arith, least, most, viewed-states cl c.args.transitions.now c.args.n c.args.count, c.if-n-eq0.true));
+    }
 
 pub settle_all-requires : goal.settle_all-requires
 settle_all-requires c = record {
