@@ -12,8 +12,8 @@
  * unrank and read) shares no byte with anything else that the call gets, and nobody else writes to what a call is given
  * while it runs. Two things that a call only reads may overlap.
  *
- * Threads. The library has no state of its own and takes no memory but stack; SCALEBENCH_CHANGE_STACK_BYTES and the
- * like below say how much. Calls on different tables may run at the same time; so may ask, intake, total, rank and
+ * Threads. The library has no state of its own, calls nothing of its host but memcpy and memset, and takes no memory
+ * but stack; SCALEBENCH_CHANGE_STACK_BYTES and the like below say how much. Calls on different tables may run at the same time; so may ask, intake, total, rank and
  * unrank on one table while nobody changes it.
  *
  * A whole program. It prints "approved, 2 states, 2 transitions".
@@ -67,7 +67,7 @@ extern "C" {
 
 /*
  * The stack that a call takes at most: add and remove; ask and intake; total, rank and unrank; read. Measured on x86-64
- * (55, 13, 35 and 38 KiB) and rounded up. tests/stack.c makes the calls on stacks of these sizes.
+ * (59, 11, 24 and 33 KiB) and rounded up. tests/stack.c makes the calls on stacks of these sizes.
  */
 #define SCALEBENCH_CHANGE_STACK_BYTES 81920
 #define SCALEBENCH_ASK_STACK_BYTES 16384
