@@ -20,9 +20,9 @@ def functions():
                 continue
             indent = found.group(1)
             end = i
-            while lines[end] != indent + '}':
+            while lines[end] not in (indent + '}', indent + '{}'):
                 end += 1
-            text = '\n'.join(lines[i:end + 1])
+            text = re.sub(r'\{\}$', '{\\n' + indent + '}', '\n'.join(lines[i:end + 1]))  # an empty body
             depth, at = 0, text.index('(')
             for stop in range(at, len(text)):
                 depth += (text[stop] in '([') - (text[stop] in ')]')
