@@ -88,6 +88,7 @@ fn place_given(
     requires end_in_bounds { end ≤ length transitions.now.heads.now }
     requires next_len { length next.old ≡ length transitions.now.heads.now }
     requires q_lt_byte_values { q < byte_values }
+    ensures { placing.exit.now.numbers ≡ placing.entry.now.numbers }
 {
     for i in start..end {
         let head = transitions.heads[i];
@@ -119,6 +120,7 @@ fn place_others(
     given: &[bool; BYTE_VALUES],
 )
     requires { length next.old ≡ length transitions.now.heads.now }
+    ensures { placing.exit.now.numbers ≡ placing.entry.now.numbers }
 {
     for i in 0..transitions.count {
         if !stands_alone(transitions.heads[i], n, given) & (i < made) {
@@ -136,6 +138,7 @@ fn place_few(
     old: &OldTable<'_>,
 )
     requires { length next.old ≡ length transitions.now.heads.now }
+    ensures { placing.exit.now.numbers ≡ placing.entry.now.numbers }
 {
     let made = old.made(transitions.count);
     let mut given = [false; BYTE_VALUES];
@@ -157,6 +160,7 @@ pub fn place_first(
     few: bool,
 )
     requires { length next.old ≡ length transitions.now.heads.now }
+    ensures { placing.exit.now.numbers ≡ placing.entry.now.numbers }
 {
     if few {
         place_few(placing, transitions, next, old);

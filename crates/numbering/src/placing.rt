@@ -89,6 +89,7 @@ impl Placing {
     fn offer(&mut self, transitions: &Transitions<'_>, i: usize, o: usize)
         requires i_in_bounds { i < length transitions.now.heads.now }
         requires o_lt_byte_values { o < byte_values }
+        ensures { self.exit.now.numbers ≡ self.entry.now.numbers }
     {
         if !self.improves(transitions, i, o) {
             return;
@@ -110,6 +111,7 @@ impl Placing {
     pub fn place(&mut self, transitions: &Transitions<'_>, i: usize, next: &mut [u16])
         requires i_in_bounds { i < length transitions.now.heads.now }
         requires next_len { length next.old ≡ length transitions.now.heads.now }
+        ensures { self.exit.now.numbers ≡ self.entry.now.numbers }
     {
         let o = out_of(transitions.heads[i]);
         if self.numbers[o] != 0 {
@@ -126,6 +128,7 @@ impl Placing {
     // Places all transitions.
     pub fn place_all(&mut self, transitions: &Transitions<'_>, next: &mut [u16])
         requires { length next.old ≡ length transitions.now.heads.now }
+        ensures { self.exit.now.numbers ≡ self.entry.now.numbers }
     {
         for i in 0..transitions.count {
             self.place(transitions, i, next);
@@ -136,6 +139,7 @@ impl Placing {
     pub fn place_list(&mut self, transitions: &Transitions<'_>, q: usize, next: &mut [u16])
         requires q_lt_byte_values { q < byte_values }
         requires next_len { length next.old ≡ length transitions.now.heads.now }
+        ensures { self.exit.now.numbers ≡ self.entry.now.numbers }
     {
         let mut at = self.lists[q] as usize;
         self.lists[q] = 0;

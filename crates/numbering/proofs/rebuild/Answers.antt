@@ -1,6 +1,5 @@
 -- `numbering::rebuild` meets its contract: a table is written only if the order is right, and it is then that of the
 -- automaton.
-use native.Mathlib.Omega.{arith}
 use Rattle.std.proofs.Common.{rules}
 use Rattle.numbering.proofs.Rebuilt.{rebuilt}
 use Rattle.numbering.proofs.rebuild.Goals as goal
