@@ -17,6 +17,7 @@ use Rattle.std.specs.declared.ops.ControlFlow.{ControlFlow}
 use Rattle.std.specs.declared.ops.ControlFlow.TheVariants.{Break, Continue}
 use Rattle.std.specs.Prelude.{Err, Ok, Result}
 use Rattle.bench.specs.declared.output.Written.{Written}
+use Rattle.bench.proofs.Taking.{start-size}
 
 -- ---- one read
 
@@ -25,25 +26,44 @@ pub brought-held : (got : ℕ) (c : List ℕ) {n : ℕ} → n ≡ min got (lengt
 unfolding brought
 brought-held got c e = ap (λ (j : ℕ). take j c) e ∙ take_min got c
 
-pub brought-taken : (E : Type 0) (p : Progress) (x : Console) (s t : List ℕ) (v : Written) (l b w o : List ℕ) →
+pub turned-taken : (E : Type 0) (p : Progress) (x : Console) (s t : List ℕ) (v : Written) (l b w o : List ℕ) →
     s ≡ t → 0 < length s → Took {E = E} p x s (Ok v) l b w o → Turned {E = E} p x t (Ok (Continue v)) l b w o
 unfolding Took Turned
-brought-taken E p x s t v l b w o e some T = rw (← e) (record { some = some; takes = T })
+turned-taken E p x s t v l b w o e some T = rw (← e) (record { some = some; takes = T })
 
-pub brought-unwritten : {E : Type 0} (p : Progress) (x : Console) (s t : List ℕ) (e : E) (l b w o : List ℕ) →
+pub turned-unwritten : {E : Type 0} (p : Progress) (x : Console) (s t : List ℕ) (e : E) (l b w o : List ℕ) →
     s ≡ t → Took p x s (Err e) l b w o → Turned p x t (Err e) l b w o
 unfolding Took Turned
-brought-unwritten p x s t e l b w o d T = rw (← d) T
+turned-unwritten p x s t e l b w o d T = rw (← d) T
 
-pub brought-none : (E : Type 0) (v : Written) (c : List ℕ) (got : ℕ) (l b w o : List ℕ) (k : ℕ) {n : ℕ} →
+pub turned-none : (E : Type 0) (v : Written) (c : List ℕ) (got : ℕ) (l b w o : List ℕ) (k : ℕ) {n : ℕ} →
     n ≡ min got (length c) → n ≡ 0 → Buffered v.progress l o → Idle v.progress k →
     Turned {E = E} v.progress (console v.progress l b w o) (brought got c) (Ok (Break v)) l b w o
 unfolding Turned
-brought-none E v c got l b w o k held none R I = record {
+turned-none E v c got l b w o k held none R I = record {
   none = sym (brought-held got c held) ∙ ap (λ (j : ℕ). take j c) none;
   rested = record { ready = R; printed = I.printed; lines = omega arith };
   equal = refl;
 }
+
+-- the same of a read that brought no more than the chunk holds
+
+pub brought-taken : (E : Type 0) (p : Progress) (x : Console) (c : List ℕ) (got : ℕ) (v : Written) (l b w o : List ℕ) →
+    Moved (length c) got → 0 < got → Took {E = E} p x (take got c) (Ok v) l b w o →
+    Turned {E = E} p x (brought got c) (Ok (Continue v)) l b w o
+unfolding brought
+brought-taken E p x c got v l b w o h g T =
+    turned-taken E p x (take got c) (take got c) v l b w o refl (omega (arith, start-size got c h)) T
+
+pub brought-unwritten : {E : Type 0} (p : Progress) (x : Console) (c : List ℕ) (got : ℕ) (e : E) (l b w o : List ℕ) →
+    Took p x (take got c) (Err e) l b w o → Turned p x (brought got c) (Err e) l b w o
+unfolding brought
+brought-unwritten p x c got e l b w o T = turned-unwritten p x (take got c) (take got c) e l b w o refl T
+
+pub brought-none : (E : Type 0) (v : Written) (c : List ℕ) (got : ℕ) (l b w o : List ℕ) (k : ℕ) → got ≡ 0 →
+    Buffered v.progress l o → Idle v.progress k →
+    Turned {E = E} v.progress (console v.progress l b w o) (brought got c) (Ok (Break v)) l b w o
+brought-none E v c got l b w o k none R I = turned-none E v c got l b w o k {n = 0} (omega arith) refl R I
 
 pub read-turn : {E : Type 0} {p : Progress} {x : Console} {c : List ℕ} {t : Result (ControlFlow Written Written) E}
     {l b w o : List ℕ} (got n : ℕ) → length c ≡ n → Moved n got → Turned p x (brought got c) t l b w o →

@@ -2,7 +2,7 @@
 use mathlib.Core.Bool.{Bool, cond, true}
 use mathlib.Core.List.{List}
 use mathlib.Core.Path.{◌∙◌, ◌≡◌, ap, subst, sym}
-use Prim.Native.Nat.{◌*◌, ◌<◌, ℕ}
+use Prim.Native.Nat.{◌*◌, ◌+◌, ◌<◌, ℕ}
 use native.Mathlib.Omega.{arith}
 use Rattle.alike.specs.Known.{Holds}
 use Rattle.uses.specs.Frames.{Shaped}
@@ -10,7 +10,7 @@ use Rattle.automata.specs.Automaton.{Automaton, Transition, accepts}
 use Rattle.automata.specs.NamedChange.{changed_set}
 use Rattle.automata.specs.Order.{rising}
 use Rattle.change.specs.Given.{Given}
-use Rattle.format.specs.Format.{head_bytes, transition_bytes}
+use Rattle.format.specs.Format.{AllBytes, head_bytes, transition_bytes}
 use Rattle.naming.specs.Classes.{Changed, Classed, ClassesIn, Rooted}
 use Rattle.naming.specs.Known.{Known}
 use Rattle.packed.specs.Packed.{Padded, Searchable}
@@ -24,7 +24,8 @@ use Rattle.change.proofs.Inputs.{given-states}
 use Rattle.change.proofs.NameClasses.{chosen}
 use Rattle.automata.proofs.NamedChange.{changed-agree}
 use Rattle.fields.proofs.Transitions.{part_body}
-use Rattle.lists.proofs.Parts.{part}
+use Rattle.lists.proofs.Parts.{part, part-drop}
+use lib.Seq.{get_or-drop}
 use Rattle.table.proofs.Decoded.{decoded-class, decoded-states}
 use Rattle.table.proofs.Laid.{layout-laid}
 use Rattle.trees.proofs.Trees.{eq_tree-same}
@@ -41,6 +42,10 @@ module _ {t : Tree} {b : List ℕ} {k n : ℕ} {r : Subtrees} (g : Given t b k n
     padded = record { runs = (given-over g).runs; each = given-padded };
     rises = subst (λ (τs : List Transition). rising τs ≡ true) (given-setting g).transitions (given-setting g).rises;
   }
+
+  -- the transitions are bytes of the table
+  pub given-bytes : AllBytes (part b head_bytes)
+  given-bytes i = rw (part-drop b head_bytes, get_or-drop head_bytes b i 0) (g.bytes (head_bytes + i))
 
   pub given-shaped : Shaped r.count r.arities r.children
   given-shaped = record {

@@ -62,11 +62,15 @@ module _ {A : Automaton} {w : ℕ → ℕ} where
     pub accepted-kept : r ≡ total_of (worth r)
     accepted-kept = x.so_far ∙ sym (total-kept (sum_accepting A w (up_from 1 (q - 1))) x.so_far)
 
-    pub accepted-same : {r' : Option ℕ} → accepting A q ≡ false → r' ≡ total_of (worth r) → AcceptedTo A w (q + 1) r'
-    accepted-same e f = record {
+    -- a state that does not accept leaves the sum; r' is a number that says the same
+    pub accepted-worth : {r' : Option ℕ} → accepting A q ≡ false → r' ≡ total_of (worth r) → AcceptedTo A w (q + 1) r'
+    accepted-worth e f = record {
       so_far =
           f ∙ total-kept (sum_accepting A w (up_from 1 (q - 1))) x.so_far ∙ ap total_of (omega (arith, longer e));
     }
+
+    pub accepted-same : accepting A q ≡ false → AcceptedTo A w (q + 1) r
+    accepted-same e = accepted-worth e accepted-kept
 
   pub accepted-end : {q n : ℕ} {r : Option ℕ} → AcceptedTo A w q r → q ≡ suc n →
       r ≡ total_of (sum_accepting A w (up_from 1 n))

@@ -21,7 +21,7 @@ ghost use Rattle.uses.specs.Uses.{FramesOf};
 ghost use Rattle.uses.specs.Settings.{FramesWithin, ParentsFrom, HoldsIn};
 
 use scanning::{hint_agrees, transitions_agree};
-pub use setting::{Frames, Setting, Used};
+pub use setting::{Frames, Setting, Used, recall_bytes};
 pub use spans::note_uses;
 pub use using::use_slot;
 use walking::walk_agrees;

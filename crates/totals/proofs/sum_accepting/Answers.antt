@@ -5,7 +5,7 @@ use borrow.Author.Tests.{eq-eqb, ne_eqb}
 use Rattle.automata.specs.Automaton.{accepting}
 use Rattle.fields.specs.View.{viewed}
 use Rattle.fields.proofs.Views.{viewed-class}
-use Rattle.totals.proofs.Accepting.{accepted-end, accepted-kept, accepted-next, accepted-same, accepted-start}
+use Rattle.totals.proofs.Accepting.{accepted-end, accepted-kept, accepted-next, accepted-start, accepted-worth}
 use Rattle.table.specs.Layout.{class_at}
 use Rattle.totals.proofs.Tables.{number-at}
 use Rattle.totals.proofs.sum_accepting.Goals.{In-loop-q, else-accepting, then-accepting}
@@ -26,7 +26,7 @@ loop-q-preserved c = elim c.if-accepting.branch [
       (class (goal.at.loop-q-preserved c).In-loop-q ∙ eq-eqb _ 1 (grind arith))
       (number-at c.args.numbers.now c.loop-q.q) w.plus-sum.ensures)
   | else-accepting w ↦
-      rw w.sum-is (accepted-same c.loop-q.invariant (omega arith)
+      rw w.sum-is (accepted-worth c.loop-q.invariant (omega arith)
       (class (goal.at.loop-q-preserved c).In-loop-q ∙ ne_eqb _ 1 (λ e. grind arith))
       (grind (arith, accepted-kept c.loop-q.invariant (omega arith))))
 ]
